@@ -1,0 +1,9 @@
+pub mod Joined
+pub mod Every
+pub mod Order
+pub mod Coordinates
+pub mod Sums
+pub mod Growth
+pub mod Held
+pub mod Around
+pub mod Padding

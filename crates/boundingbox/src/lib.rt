@@ -1,0 +1,192 @@
+// The boxes of a random cut tree: their ends, growing, the sum of their sides, and what lies inside. After boundingbox.rs, and `check_strictly_contains` of nodestore.rs.
+ghost use mathlib.Core.Path.{_≡_};
+ghost use mathlib.Core.Bool.{_&&_};
+ghost use Prim.Native.Nat.{min};
+ghost use Rattle.boundingbox.specs.Ends.{least, greatest, joined};
+ghost use Rattle.boundingbox.specs.Sides.{gapOf, rangeSum};
+ghost use Rattle.boundingbox.specs.Contained.{stays, contains, inside, strictlyContains};
+
+// A box: its lower and its upper end in each channel. Channels from the tree's number on hold +0.0.
+pub struct BoundingBox {
+    pub min_values: [f32; 8],
+    pub max_values: [f32; 8],
+}
+
+// A box that was grown, and whether it held before what it was grown by: whether no end moved.
+pub struct Grown {
+    pub bounding_box: BoundingBox,
+    pub contained: bool,
+}
+
+impl BoundingBox {
+    pub const CHANNELS: usize = 8;
+
+    // The smallest box around two points; that of one point is `new(p, p)`.
+    // Rules out ends kept from the first point alone, and the two lists of ends swapped.
+    pub fn new(first_values: &[f32; 8], second_values: &[f32; 8]) -> Self
+        ensures lower { λ r. ⌜ r .«min_values» ≡ joined least (now («first_values» .entry)) (now («second_values» .entry)) ⌝ }
+        ensures upper { λ r. ⌜ r .«max_values» ≡ joined greatest (now («second_values» .entry)) (now («first_values» .entry)) ⌝ }
+    {
+        let min_values = lowered(*first_values, second_values);
+        let max_values = raised(*second_values, first_values);
+        BoundingBox {
+            min_values,
+            max_values,
+        }
+    }
+
+    // The box grown by a point.
+    // Rules out an answer of false for a point on a face, and a box left as it was by a point outside.
+    pub fn check_contains_and_add_point(self, values: &[f32; 8]) -> Grown
+        ensures lower { λ r. ⌜ r .«bounding_box» .«min_values» ≡ joined least (self .«min_values») (now (values .entry)) ⌝ }
+        ensures upper { λ r. ⌜ r .«bounding_box» .«max_values» ≡ joined greatest (self .«max_values») (now (values .entry)) ⌝ }
+        ensures held { λ r. ⌜ r .contained ≡ contains (self .«min_values») (self .«max_values») (now (values .entry)) (now (values .entry)) 8 ⌝ }
+    {
+        self.add_two_arrays(values, values)
+    }
+
+    // The box grown by another box.
+    // Rules out growing both ends by x's lower ends, and an answer about the grown box in place of this one.
+    pub fn add_box(self, x: BoundingBox) -> Grown
+        ensures lower { λ r. ⌜ r .«bounding_box» .«min_values» ≡ joined least (self .«min_values») (x .«min_values») ⌝ }
+        ensures upper { λ r. ⌜ r .«bounding_box» .«max_values» ≡ joined greatest (self .«max_values») (x .«max_values») ⌝ }
+        ensures held { λ r. ⌜ r .contained ≡ contains (self .«min_values») (self .«max_values») (x .«min_values») (x .«max_values») 8 ⌝ }
+    {
+        let minvalues = x.min_values;
+        let maxvalues = x.max_values;
+        self.add_two_arrays(&minvalues, &maxvalues)
+    }
+
+    // The box grown by lower and upper ends.
+    // Rules out an end that moves inward, and an answer from rounded range sums, which a small side beside a large one leaves as they were.
+    pub fn add_two_arrays(self, minvalues: &[f32; 8], maxvalues: &[f32; 8]) -> Grown
+        ensures lower { λ r. ⌜ r .«bounding_box» .«min_values» ≡ joined least (self .«min_values») (now (minvalues .entry)) ⌝ }
+        ensures upper { λ r. ⌜ r .«bounding_box» .«max_values» ≡ joined greatest (self .«max_values») (now (maxvalues .entry)) ⌝ }
+        ensures held { λ r. ⌜ r .contained ≡ contains (self .«min_values») (self .«max_values») (now (minvalues .entry)) (now (maxvalues .entry)) 8 ⌝ }
+    {
+        let contained = self.unmoved(minvalues, maxvalues);
+        let lower = self.min_values;
+        let upper = self.max_values;
+        let min_values = lowered(lower, minvalues);
+        let max_values = raised(upper, maxvalues);
+        let bounding_box = BoundingBox {
+            min_values,
+            max_values,
+        };
+        Grown {
+            bounding_box,
+            contained,
+        }
+    }
+
+    // Whether growing by `minvalues` and `maxvalues` moves no end. No turn leaves the loop, so that the channels are tested side by side.
+    fn unmoved(self, minvalues: &[f32; 8], maxvalues: &[f32; 8]) -> bool
+        ensures { λ r. ⌜ r ≡ contains (self .«min_values») (self .«max_values») (now (minvalues .entry)) (now (maxvalues .entry)) 8 ⌝ }
+    {
+        let lower = self.min_values;
+        let upper = self.max_values;
+        let mut held = true;
+        let mut i: usize = 0;
+        while i < Self::CHANNELS {
+            held = and_stays(held, lower[i], upper[i], minvalues[i], maxvalues[i]);
+            i += 1;
+        }
+        held
+    }
+
+    // The sum of the sides, in channel order.
+    // Rules out a sum over one channel fewer, and one added up in another order, which rounds otherwise.
+    pub fn get_range_sum(self) -> f64
+        ensures { λ r. ⌜ r ≡ rangeSum (self .«min_values») (self .«max_values») 8 ⌝ }
+    {
+        let lower = self.min_values;
+        let upper = self.max_values;
+        let mut sum: f64 = 0.0;
+        let mut channel: usize = 0;
+        while channel < Self::CHANNELS {
+            sum = sum + gap(lower[channel], upper[channel]);
+            channel += 1;
+        }
+        sum
+    }
+
+    // Whether the point lies strictly inside in each of the first `dimensions` channels: in padding nothing does.
+    // Rules out a point on a face taken for inside, and padding counted as a channel.
+    pub fn strictly_contains(self, point: &[f32; 8], dimensions: usize) -> bool
+        ensures { λ r. ⌜ r ≡ strictlyContains (self .«min_values») (self .«max_values») (now (point .entry)) (min dimensions 8) ⌝ }
+    {
+        let lower = self.min_values;
+        let upper = self.max_values;
+        let mut i: usize = 0;
+        while i < Self::CHANNELS {
+            if dimensions <= i {
+                return true;
+            }
+            if !between(lower[i], upper[i], point[i]) {
+                return false;
+            }
+            i += 1;
+        }
+        true
+    }
+}
+
+// How far b lies above a, and 0 where it does not.
+// Rules out the difference the other way round, and a negative one where b lies below a.
+pub fn gap(a: f32, b: f32) -> f64
+    ensures { λ r. ⌜ r ≡ gapOf a b ⌝ }
+{
+    if a < b { (b - a) as f64 } else { 0.0 }
+}
+
+pub fn least_of(x: f32, y: f32) -> f32
+    ensures { λ r. ⌜ r ≡ least x y ⌝ }
+{
+    if x < y { x } else { y }
+}
+
+pub fn greatest_of(x: f32, y: f32) -> f32
+    ensures { λ r. ⌜ r ≡ greatest x y ⌝ }
+{
+    if x < y { y } else { x }
+}
+
+// Lower ends moved down to `values`.
+fn lowered(ends: [f32; 8], values: &[f32; 8]) -> [f32; 8]
+    ensures { λ r. ⌜ r ≡ joined least ends (now (values .entry)) ⌝ }
+{
+    let mut moved = ends;
+    let mut i: usize = 0;
+    while i < BoundingBox::CHANNELS {
+        moved[i] = least_of(moved[i], values[i]);
+        i += 1;
+    }
+    moved
+}
+
+// Upper ends moved up to `values`.
+fn raised(ends: [f32; 8], values: &[f32; 8]) -> [f32; 8]
+    ensures { λ r. ⌜ r ≡ joined greatest ends (now (values .entry)) ⌝ }
+{
+    let mut moved = ends;
+    let mut i: usize = 0;
+    while i < BoundingBox::CHANNELS {
+        moved[i] = greatest_of(moved[i], values[i]);
+        i += 1;
+    }
+    moved
+}
+
+// `held`, and whether growing a side from lo to hi by one from newlo to newhi moves neither end. `&` and not `&&`, so that there is no branch.
+fn and_stays(held: bool, lo: f32, hi: f32, newlo: f32, newhi: f32) -> bool
+    ensures { λ r. ⌜ r ≡ (held && stays lo hi newlo newhi) ⌝ }
+{
+    held & (!(newlo < lo) & !(hi < newhi))
+}
+
+// Whether p lies above lo and below hi.
+fn between(lo: f32, hi: f32, p: f32) -> bool
+    ensures { λ r. ⌜ r ≡ inside lo hi p ⌝ }
+{
+    (lo < p) & (p < hi)
+}

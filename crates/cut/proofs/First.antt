@@ -1,0 +1,73 @@
+-- The first channel to which a number falls: there is one, and it is the one whose stretch of the running sum has the number in it. Assumes nothing.
+use mathlib.Core.Path.{_≡_, refl, sym, ap, _∙_, subst}
+use mathlib.Core.Logic.{_⊎_, inl, inr}
+use Prim.Native.Nat.{ℕ, zero, suc, _+_, _*_, _≤_, _<_}
+use native.Mathlib.Nat.{eq-zero-or-pos, lt-irrefl}
+use native.Mathlib.Omega.{arith}
+use mathlib.Core.Bool.{Bool, true, false, _&&_, cond}
+use lib.Dec.{leb, ltb, nleb→lt}
+use Rattle.readings.proofs.Tests.{leb-yes, no}
+use Rattle.boundingbox.specs.Wholes.{sumTo}
+use Rattle.boundingbox.proofs.Sums.{sumTo-next}
+use Rattle.cut.specs.Paper.{falls, first}
+
+pub by-test : {A : Type 0} (b : Bool) → (b ≡ true → A) → (b ≡ false → A) → A
+by-test true f g = f refl
+by-test false f g = g refl
+
+module _ (g : ℕ → ℕ) (q c : ℕ) where
+  -- the sides before channel i don't reach the number
+  abbrev pub Short : ℕ → Type 0
+  Short i = (sumTo g i ≡ 0) ⊎ (sumTo g i * c < q)
+
+  pub falls-wide : (i : ℕ) → 0 < g i → falls g q c i ≡ leb q (sumTo g (i + 1) * c)
+  unfolding falls
+  falls-wide i h = ap (λ (b : Bool). b && leb q (sumTo g (i + 1) * c)) (leb-yes h)
+
+  pub falls-thin : (i : ℕ) → g i ≡ 0 → falls g q c i ≡ false
+  unfolding falls
+  falls-thin i z = ap (λ (x : ℕ). ltb 0 x && leb q (sumTo g (i + 1) * c)) z
+
+  pub short-next : (i : ℕ) → Short i → falls g q c i ≡ false → Short (i + 1)
+  short-next i s f = go (eq-zero-or-pos (g i))
+    where
+      plus0 : (a b : ℕ) → b ≡ 0 → a + b ≡ a
+      plus0 a b e = omega arith
+
+      go : (g i ≡ 0) ⊎ (0 < g i) → Short (i + 1)
+      go (inl z) = subst (λ (x : ℕ). (x ≡ 0) ⊎ (x * c < q)) (sym (sumTo-next g i ∙ plus0 (sumTo g i) (g i) z)) s
+      go (inr w) = inr (nleb→lt q (sumTo g (i + 1) * c) (no (sym (falls-wide i w) ∙ f)))
+
+  pub never : (n : ℕ) → Short n → q ≤ sumTo g n * c → 0 < sumTo g n → ⊥
+  never n (inl z) h p = lt-irrefl 0 (subst (λ (x : ℕ). 0 < x) z p)
+  never n (inr l) h p = go (sumTo g n * c) h l
+    where
+      go : (x : ℕ) → q ≤ x → x < q → ⊥
+      go x a b = omega arith
+
+  pub record Found (n i k : ℕ) : Type 0 where
+    pub within : k < i + n
+    pub falls-there : falls g q c k ≡ true
+
+  pub first-found : (n i : ℕ) → Short i → q ≤ sumTo g (i + n) * c → 0 < sumTo g (i + n) → Found n i (first g q c n i)
+  unfolding first
+  first-found zero i s h p = absurd (never i s (subst (λ (x : ℕ). q ≤ sumTo g x * c) (plus0 i) h) (subst (λ (x : ℕ). 0 < sumTo g x) (plus0 i) p))
+    where
+      plus0 : (i : ℕ) → i + 0 ≡ i
+      plus0 i = omega arith
+  first-found (suc n) i s h p = by-test (falls g q c i) here (λ f. later f (first-found n (i + 1) (short-next i s f) (subst (λ (x : ℕ). q ≤ sumTo g x * c) (move i n) h) (subst (λ (x : ℕ). 0 < sumTo g x) (move i n) p)))
+    where
+      move : (i n : ℕ) → i + suc n ≡ i + 1 + n
+      move i n = omega arith
+
+      less : (i n : ℕ) → i < i + suc n
+      less i n = omega arith
+
+      less′ : (i n k : ℕ) → k < i + 1 + n → k < i + suc n
+      less′ i n k h = omega arith
+
+      here : falls g q c i ≡ true → Found (suc n) i (cond (falls g q c i) i (first g q c n (i + 1)))
+      here f = rw f (record { within = less i n; falls-there = f })
+
+      later : falls g q c i ≡ false → Found n (i + 1) (first g q c n (i + 1)) → Found (suc n) i (cond (falls g q c i) i (first g q c n (i + 1)))
+      later f w = rw f (record { within = less′ i n (first g q c n (i + 1)) (w .within); falls-there = w .falls-there })

@@ -1,0 +1,10 @@
+pub mod First
+pub mod Range
+pub mod Going
+pub mod Stretched
+pub mod Number
+pub mod AsDocument
+pub mod Within
+pub mod AsPaper
+pub mod Padding
+pub mod Turns

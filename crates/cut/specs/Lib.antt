@@ -1,0 +1,4 @@
+pub mod Draw
+pub mod Document
+pub mod Paper
+pub mod Laws

@@ -1,0 +1,25 @@
+-- The paper's cut, in whole sides and fractions of whole numbers: nothing is rounded.
+use Prim.Native.Nat.{ℕ, zero, suc, _+_, _-_, _*_}
+use mathlib.Core.Bool.{Bool, _&&_, cond}
+use lib.Dec.{leb, ltb}
+use Rattle.boundingbox.specs.Wholes.{sumTo}
+
+-- The paper: 'draw r between 0 and the sum of its sides; it falls to the first channel j at which the running sum of sides reaches r, and to a place along that side'.
+-- g gives the sides, n is how many there are, and the number drawn is q / c. A side of zero is never cut.
+unfoldable pub falls : (ℕ → ℕ) → ℕ → ℕ → ℕ → Bool
+falls g q c i = ltb 0 (g i) && leb q (sumTo g (i + 1) * c)
+
+-- the first channel from i on, of n, to which it falls
+unfoldable pub first : (ℕ → ℕ) → ℕ → ℕ → ℕ → ℕ → ℕ
+unfolding falls
+first g q c zero i = i
+first g q c (suc n) i = cond (falls g q c i) i (first g q c n (i + 1))
+
+unfoldable pub channelAt : (ℕ → ℕ) → ℕ → ℕ → ℕ → ℕ
+unfolding first
+channelAt g n q c = first g q c n 0
+
+-- and the place along that side: the fraction restAt / c above its lower end
+unfoldable pub restAt : (ℕ → ℕ) → ℕ → ℕ → ℕ → ℕ
+unfolding channelAt
+restAt g n q c = q - sumTo g (channelAt g n q c) * c

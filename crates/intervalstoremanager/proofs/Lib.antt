@@ -1,0 +1,4 @@
+pub mod Tests
+pub mod Layouts
+pub mod Counts
+pub mod Sizes

@@ -1,0 +1,5 @@
+pub mod Coordinate
+pub mod Weight
+pub mod Share
+pub mod Word
+pub mod Narrow

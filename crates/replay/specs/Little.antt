@@ -1,0 +1,17 @@
+-- The number of two, four or eight bytes of a list, the lowest byte first, from the index `at` on. Definitions.
+use mathlib.Core.Path.{_≡_, refl}
+use mathlib.Core.List.{List, [], _∷_}
+use Prim.Native.Nat.{ℕ, _+_, _*_}
+use lib.ListN.{getD}
+
+abbrev pub little16 : List ℕ → ℕ → ℕ
+little16 bytes at = getD bytes at 0 + 256 * getD bytes (at + 1) 0
+
+abbrev pub little32 : List ℕ → ℕ → ℕ
+little32 bytes at = little16 bytes at + 65536 * little16 bytes (at + 2)
+
+abbrev pub little64 : List ℕ → ℕ → ℕ
+little64 bytes at = little32 bytes at + 4294967296 * little32 bytes (at + 4)
+
+lowest-first : little64 (9 ∷ 239 ∷ 205 ∷ 171 ∷ 137 ∷ 103 ∷ 69 ∷ 35 ∷ 1 ∷ []) 1 ≡ 0x0123_4567_89ab_cdef
+lowest-first = refl

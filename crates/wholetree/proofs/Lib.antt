@@ -1,0 +1,7 @@
+pub mod Numbers
+pub mod Readings
+pub mod Zeros
+pub mod Draws
+pub mod Laws
+pub mod Boxes
+pub mod Demand3

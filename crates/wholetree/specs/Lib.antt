@@ -1,0 +1,6 @@
+pub mod Number
+pub mod Reading
+pub mod Whole
+pub mod Box
+pub mod Claim
+pub mod Listed

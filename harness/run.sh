@@ -1,0 +1,29 @@
+#!/bin/bash
+# Holds the recorded answers against the Rust, and the oracle against document 01.
+#   harness/run.sh [--digests]
+# KRCF_SRC names the folder that holds crates/rcflib/src, seen from the project's root; the default
+# is ../shared/docs/src. Where the Rust or cargo is not at hand, one line says so and all is well.
+# --digests prints the digest of each given file. Needs no network.
+set -euo pipefail
+
+root=$(cd "$(dirname "$0")/.." && pwd)
+source=${KRCF_SRC:-../shared/docs/src}
+cd "$root"
+
+if [ ! -d "$source/crates/rcflib/src" ]; then
+  echo "harness: the Rust is not at hand (no crates/rcflib/src under $source), skipped"
+  exit 0
+fi
+if ! command -v cargo >/dev/null; then
+  echo "harness: cargo is not at hand, skipped"
+  exit 0
+fi
+
+harness/copy_given.sh "$source" "$@"
+
+built() {
+  cargo "$1" --quiet --offline --locked --manifest-path harness/Cargo.toml "${@:2}"
+}
+built build --workspace
+built run --package selftest
+built run --package record -- check crates

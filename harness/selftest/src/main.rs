@@ -1,0 +1,25 @@
+//! Holds the oracle against document 01: its examples, the differences that docs/DIFFERENCES.md
+//! lists, and random runs of whole trees. Stops at the first thing that does not hold.
+#![forbid(unsafe_code)]
+
+mod bare;
+mod differences;
+mod examples;
+mod model;
+mod sampled;
+
+fn main() {
+    let shown = examples::run();
+    println!("examples of document 01: {shown} hold");
+    let listed = differences::run();
+    println!("listed differences: {listed} seen in the Rust");
+    let draws = oracle::feed::seed17_draws();
+    let steps = bare::run(400);
+    println!("bare trees: 400 runs, {steps} calls, every tree as document 01 says");
+    let steps = sampled::run(200);
+    println!(
+        "sampled trees: 200 runs, {steps} arrivals, every tree and sample as document 01 says"
+    );
+    let reached = oracle::feed::seed17_draws() > draws;
+    assert!(!reached, "the branch seeded with 17 was reached");
+}
