@@ -75,7 +75,7 @@ fn side_reaches(rest: f64, side: f64) -> bool
 fn left_of(rest: f64, side: f64) -> f64
     ensures { λ r. ⌜ r ≡ leftOf rest side ⌝ }
 {
-    if side > 0.0 { rest - side } else { rest }
+    if 0.0 < side { rest - side } else { rest }
 }
 
 // The first side, of the box with the point in it, that leaves nothing of the range above zero.

@@ -144,7 +144,11 @@ module _ {lo hi : ℕ → Number} (B : CoordinateBox lo hi) (p : Reading) where
     unfolding documentCut
     by-hold = sym (as-document 8 (ends lo) (ends hi) (p .row) w are-readings W)
 
-    -- no cut is drawn: no cut at all would part the point from the box
+    -- no cut is drawn: the box holds the point
+    pub no-cut-holds : drawn ≡ NoCut → (i : ℕ) → (le (lo i .value) (coordinate p i .value) ≡ true) × (le (coordinate p i .value) (hi i .value) ≡ true)
+    no-cut-holds e = by-test (contains (ends lo) (ends hi) (p .row) (p .row) 8) (λ t. held t) (λ t. nonsense (let f = rw t at by-hold in cc))
+
+    -- so no cut at all would part the point from the box
     pub no-cut : drawn ≡ NoCut → (k : CutOf ℕ Number) → parts (whole d) k lo hi p ≡ false
     no-cut e = by-test (contains (ends lo) (ends hi) (p .row) (p .row) 8) (λ t. held-whole d t) (λ t. nonsense (let f = rw t at by-hold in cc))
 
