@@ -1,16 +1,18 @@
 -- One turn of the loop over the sides: it ends in the side that is reached, or goes on with what is left. Assumes nothing.
-use mathlib.Core.Path.{_≡_, refl}
+use mathlib.Core.Path.{_≡_, refl, subst}
 use mathlib.Core.List.{List}
 use Prim.Native.Nat.{ℕ, zero, suc, _+_, _-_, _≤_, _<_}
+use native.Mathlib.Nat.{zero-add}
 use native.Mathlib.Omega.{arith}
 use mathlib.Core.Bool.{Bool, true, false}
 use lib.Ieee.{Float, binary64, add, mul, eq}
 use Rattle.readings.specs.Word.{factorOf}
 use Rattle.boundingbox.specs.Sides.{nought, rangeSum}
-use Rattle.cut.specs.declared.Separation.the-variants.{NoCut}
+use Rattle.cut.specs.declared.Cut.{Cut}
+use Rattle.cut.specs.declared.Separation.the-variants.{NoCut, Drawn}
 use Rattle.cut.specs.declared.Side.{Side}
 use Rattle.cut.specs.declared.Side.the-variants.{At, Nowhere}
-use Rattle.cut.specs.Draw.{outsideSum, sideOf, rangeOf, reaches, leftOf, sideFrom, drawnAt, separation}
+use Rattle.cut.specs.Draw.{outsideSum, sideOf, rangeOf, reaches, leftOf, sideFrom, cutAt, drawnAt, separation}
 use Rattle.cut.proofs.First.{by-test}
 
 module _ (g : ℕ → Float) (n i : ℕ) (rest : Float) where
@@ -59,3 +61,15 @@ module _ (n : ℕ) (lo hi p : List Float) (w : ℕ) (out : Float) (O : out ≡ o
       (s : Side) → s ≡ sideFrom (sideOf lo hi p) n 0 (mul binary64 (add binary64 out sum) f) → separation n lo hi p w ≡ drawnAt lo hi p s
   unfolding separation rangeOf
   draws t sum f S F s e = rw (← O, t, e, S, F) refl
+
+-- the channel of a drawn cut is one of the n
+pub drawn-below : (n : ℕ) (lo hi p : List Float) (w : ℕ) (k : Cut) (b : Bool) → separation n lo hi p w ≡ Drawn k b → k .dimension < n
+unfolding separation drawnAt
+drawn-below n lo hi p w k b e = by-test (eq (outsideSum lo hi p n) nought) (λ t. absurd (none (rw t at e))) (λ t. go (sideFrom (sideOf lo hi p) n 0 (rangeOf lo hi p n w)) refl (rw t at e))
+  where
+    none : NoCut ≡ Drawn k b → ⊥
+    none f = let z : _≡_ {A = ℕ} 0 1 = cc in omega arith
+
+    go : (s : Side) → sideFrom (sideOf lo hi p) n 0 (rangeOf lo hi p n w) ≡ s → drawnAt lo hi p s ≡ Drawn k b → k .dimension < n
+    go Nowhere f g = absurd (none g)
+    go (At i rest) f g = let z : cutAt lo hi p i rest ≡ k = cc in subst (λ (x : Cut). x .dimension < n) z (subst (λ (m : ℕ). i < m) (zero-add n) (reached-below (sideOf lo hi p) n 0 (rangeOf lo hi p n w) i rest f))

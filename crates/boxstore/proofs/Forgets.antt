@@ -1,0 +1,145 @@
+-- The cached boxes through a delete of a last copy: the parent's row is cleared, and each box above, worked out again, is that of the tree after. Assumes nothing.
+use mathlib.Core.Path.{_≡_, refl, sym, ap, _∙_, subst}
+use mathlib.Core.Bool.{Bool, true, false, cond}
+use mathlib.Core.Option.{some}
+use mathlib.Core.List.{List, []}
+use Prim.Native.Nat.{ℕ, suc, _+_, _-_, _≤_, _<_}
+use native.Mathlib.Omega.{arith}
+use lib.Dec.{eqb, ltb}
+use lib.ListN.{length, getD}
+use lib.Ieee.{Float}
+use borrow.Author.Tests.{eqb-true, eqb-false, ne-eqb, ltb-true, ltb-false}
+use Rattle.cuttree.specs.Setting.{below}
+use Rattle.cuttree.specs.Tree.{Tree, id, is, height, ending, found, end}
+use Rattle.cuttree.specs.Walk.{sub, sibling, replace}
+use Rattle.cuttree.proofs.Tests.{by-test, cond-false}
+use Rattle.cuttree.proofs.Intervals.{is-same}
+use Rattle.cuttree.proofs.Orders.{End, end-comm, end-swap, end-before-it}
+use Rattle.cuttree.proofs.Heights.{height-sub, sub-sub, sub-leaf, end-up}
+use Rattle.wholetree.specs.Number.{Number}
+use Rattle.wholetree.specs.Reading.{Reading, coordinate}
+use Rattle.wholetree.specs.Whole.{whole, tab, ends}
+use Rattle.wholetree.proofs.Readings.{tab-length, tab-at, same-is}
+use Rattle.layout.specs.Slots.{uses, slot}
+use Rattle.layout.specs.Layout.{boxIn, noEnds}
+use Rattle.layout.specs.Stands.{Once}
+use Rattle.boxstore.specs.Written.{written}
+use Rattle.boxstore.proofs.Ends.{tab-same}
+use Rattle.boxstore.proofs.Written.{written-other, written-length, written-here, written-there}
+use Rattle.boxstore.proofs.Slots.{slot-none, slot-leaf-left, slot-leaf-right, Sides, sub-sides, sub-apart, uses-replace, slot-replace}
+use Rattle.boxstore.proofs.Rows.{at, Partly, partly-rest}
+use Rattle.boxstore.proofs.Changes.{replace-same, replace-replace, old-at, new-at, end-replaced}
+
+-- the tree before, and p's walk in it, which ends below a branch
+module _ (d c : ℕ) (t : Tree (whole d)) (p : Reading) (o : Once d c t) (e : 1 ≤ height (whole d) t p) where
+  abbrev rest : Tree (whole d)
+  rest = sibling (whole d) t 0 p
+
+  abbrev after : Tree (whole d)
+  after = replace (whole d) t 1 p rest
+
+  -- ---- the parent is a branch above the leaf and its sibling
+  parent-uses : (j : ℕ) → uses d c (sub (whole d) t 1 p) j ≡ is (at d c t p 1) j + uses d c rest j
+  parent-uses j = go (sub-sides d c p 0 t e)
+    where
+      go : Sides d c p 0 t → uses d c (sub (whole d) t 1 p) j ≡ is (at d c t p 1) j + uses d c rest j
+      go w =
+          let none : uses d c (sub (whole d) t 0 p) j ≡ 0 = ap (λ x. uses d c x j) (sub-leaf (whole d) p t) in
+          rw (w .is-branch) (by-test (below (whole d) (w .cut) p)
+          (λ x. let a = ap (λ y. uses d c y j) (rw x at (w .near)) in let f = ap (λ y. uses d c y j) (rw x at (w .far)) in omega (arith, a, f, none))
+          (λ x. let a = ap (λ y. uses d c y j) (rw x at (w .near)) in let f = ap (λ y. uses d c y j) (rw x at (w .far)) in omega (arith, a, f, none)))
+
+  parent-slot : {A : Type 0} (f : Tree (whole d) → A) (z : A) (j : ℕ) → (at d c t p 1 ≡ j → ⊥) → slot d c f z rest j ≡ slot d c f z (sub (whole d) t 1 p) j
+  parent-slot f z j n = go (sub-sides d c p 0 t e)
+    where
+      go : Sides d c p 0 t → slot d c f z rest j ≡ slot d c f z (sub (whole d) t 1 p) j
+      go w =
+          let n′ : w .number ≡ j → ⊥ = λ q. n (ap (id (whole d) c) (w .is-branch) ∙ q) in
+          rw (w .is-branch) (by-test (below (whole d) (w .cut) p)
+          (λ x. rw (rw x at (w .near) ∙ sub-leaf (whole d) p t) (ap (λ y. slot d c f z y j) (sym (rw x at (w .far))) ∙ sym (slot-leaf-left d c f z j (w .number) (w .cut) (w .lag) _ _ _ (w .r) n′)))
+          (λ x. rw (rw x at (w .near) ∙ sub-leaf (whole d) p t) (ap (λ y. slot d c f z y j) (sym (rw x at (w .far))) ∙ sym (slot-leaf-right d c f z j (w .number) (w .cut) (w .lag) _ _ _ (w .l) n′))))
+
+  after-uses : (j : ℕ) → uses d c after j + is (at d c t p 1) j ≡ uses d c t j
+  after-uses j = omega (arith, uses-replace d c p 1 rest j t e, parent-uses j)
+
+  pub forget-once : Once d c after
+  forget-once j = omega (arith, after-uses j, o j)
+
+  module _ (k : ℕ) (few : k ≤ 255) (f : Tree (whole d) → List Float) where
+    -- before the first turn: the tree's boxes, without the parent's
+    pub forget-start : Partly d c k f t after p (written k (at d c t p 1) noEnds (tab 255 (boxIn d c k f (some t)))) 1
+    forget-start = record {
+      size = written-length k i noEnds rows ∙ long;
+      todo = λ n a l s. written-there k i noEnds rows (at d c t p n) (sub-apart d c p 1 n t (omega arith) a l o) ∙ tab-at 255 (boxIn d c k f (some t)) (at d c t p n) [] s;
+      done = λ j s none. by-test (eqb i j)
+          (λ x. subst (λ n. n < 255 → getD (written k i noEnds rows) n [] ≡ boxIn d c k f (some after) n) (eqb-true i j x) here s)
+          (λ x. let n = eqb-false i j x in written-there k i noEnds rows j n ∙ tab-at 255 (boxIn d c k f (some t)) j [] s
+          ∙ ap (λ x. cond (ltb j k) x noEnds) (sym (slot-replace d c p 1 rest f noEnds j t e (parent-slot f noEnds j n) (other j n) none)));
+    }
+      where
+        i : ℕ
+        i = at d c t p 1
+
+        rows : List (List Float)
+        rows = tab 255 (boxIn d c k f (some t))
+
+        long : length rows ≡ 255
+        long = tab-length 255 (boxIn d c k f (some t))
+
+        other : (j : ℕ) → (i ≡ j → ⊥) → uses d c rest j ≡ uses d c (sub (whole d) t 1 p) j
+        other j n = let z : is i j ≡ 0 = rw (ne-eqb i j n) in omega (arith, parent-uses j)
+
+        gone : boxIn d c k f (some after) i ≡ noEnds
+        gone = by-test (ltb i k) (λ x. rw x (slot-none d c f noEnds after i (omega (arith, after-uses i, o i, is-same i)))) (λ x. rw x)
+
+        here : i < 255 → getD (written k i noEnds rows) i [] ≡ boxIn d c k f (some after) i
+        here s = by-test (ltb i k)
+            (λ x. written-here k i noEnds rows (ltb-true i k x) (omega (arith, long)) ∙ sym gone)
+            (λ x. ap (λ l. getD l i []) (written-other k i noEnds rows (ltb-false i k x)) ∙ tab-at 255 (boxIn d c k f (some t)) i [] s ∙ cond-false _ _ _ x ∙ sym gone)
+
+  module _ {m : Number → Number → Number} {to : Number → Number → Bool} (E : End (whole d) m to) where
+    -- a box above and the same without the point
+    abbrev without : ℕ → Tree (whole d)
+    without n = replace (whole d) (sub (whole d) t n p) 1 p rest
+
+    -- the old end is the new one with the point's coordinate
+    with-point : found (whole d) t p ≡ true → (n i : ℕ) → 1 ≤ n → n ≤ height (whole d) t p → end (whole d) m (sub (whole d) t n p) i ≡ m (end (whole d) m (without n) i) (coordinate p i)
+    with-point y n i a l =
+        let u = sub (whole d) t n p in
+        let g : 1 ≤ height (whole d) u p = omega (arith, height-sub (whole d) n p t l) in
+        let same : replace (whole d) u 1 p (sub (whole d) t 1 p) ≡ u = ap (replace (whole d) u 1 p) (sym (sub-sub (whole d) 1 n p a t l)) ∙ replace-same d c p 1 u g in
+        let v : ending (whole d) t p .value ≡ p = same-is (ending (whole d) t p .value) p y in
+        let leaf-end : end (whole d) m (sub (whole d) t 0 p) i ≡ coordinate p i = ap (λ x. end (whole d) m x i) (sub-leaf (whole d) p t) ∙ ap (λ (q : Reading). coordinate q i) v in
+        let base : end (whole d) m (sub (whole d) t 1 p) i ≡ m (end (whole d) m rest i) (coordinate p i) =
+        end-up (whole d) E i 0 p t e ∙ ap (λ x. m x (end (whole d) m rest i)) leaf-end ∙ end-comm (whole d) E (coordinate p i) (end (whole d) m rest i) in
+        sym (ap (λ x. end (whole d) m x i) same) ∙ end-replaced d c p E 1 i (λ x. m x (coordinate p i)) (λ x y. end-swap (whole d) E x (coordinate p i) y) (sub (whole d) t 1 p) rest base u g
+
+    -- an end that the point does not reach is the same without it
+    pub end-stays : found (whole d) t p ≡ true → (n i : ℕ) → 1 ≤ n → n ≤ height (whole d) t p → to (coordinate p i) (end (whole d) m (sub (whole d) t n p) i) ≡ false → end (whole d) m (without n) i ≡ end (whole d) m (sub (whole d) t n p) i
+    end-stays y n i a l h =
+        let z = with-point y n i a l in
+        sym (end-before-it (whole d) E (end (whole d) m (without n) i) (coordinate p i) (rw z at h)) ∙ sym z
+
+    abbrev pub Same : ℕ → Type 0
+    Same n = (i : ℕ) → i < 8 → end (whole d) m (without n) i ≡ end (whole d) m (sub (whole d) t n p) i
+
+    -- so are those above
+    same-up : (n g : ℕ) → 1 ≤ n → n ≤ g → g ≤ height (whole d) t p → Same n → Same g
+    same-up n g a b l S i q =
+        let u = sub (whole d) t g p in
+        let hu : n ≤ height (whole d) u p = omega (arith, height-sub (whole d) g p t l) in
+        let v : sub (whole d) u n p ≡ sub (whole d) t n p = sub-sub (whole d) n g p b t l in
+        let low : replace (whole d) u n p (without n) ≡ without g = ap (λ x. replace (whole d) u n p (replace (whole d) x 1 p rest)) (sym v) ∙ replace-replace d c p 1 n rest a u hu in
+        let same : replace (whole d) u n p (sub (whole d) t n p) ≡ u = ap (replace (whole d) u n p) (sym v) ∙ replace-same d c p n u hu in
+        sym (ap (λ x. end (whole d) m x i) low) ∙ end-replaced d c p E n i (λ x. x) (λ x y. refl) (without n) (sub (whole d) t n p) (S i q) u hu ∙ ap (λ x. end (whole d) m x i) same
+
+    -- the end: where a box is the same without the point, so are those above it
+    module _ (k : ℕ) where
+      abbrev f : Tree (whole d) → List Float
+      f u = ends (λ (i : ℕ). end (whole d) m u i)
+
+      pub forget-stop : (rows : List (List Float)) (n : ℕ) → 1 ≤ n → suc n ≤ height (whole d) t p → Partly d c k f t after p rows n → Same (suc n) → Partly d c k f t after p rows (height (whole d) t p)
+      forget-stop rows n a l P S = partly-rest d c k f t after p o rows (height (whole d) t p - n) n (omega arith) P
+          (λ g b q. old-at d c p k f t o g (omega arith) q
+          ∙ ap (λ x. cond (ltb (at d c t p g) k) x noEnds) (tab-same 8 _ _ (λ i r. ap (λ (x : Number). x .value) (sym (same-up (suc n) g (omega arith) b q S i r))))
+          ∙ sym (new-at d c p k f t 1 rest forget-once g (omega arith) q))

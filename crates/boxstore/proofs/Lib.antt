@@ -1,0 +1,13 @@
+pub mod Ends
+pub mod Depths
+pub mod Parts
+pub mod Written
+pub mod Slots
+pub mod Standing
+pub mod Rows
+pub mod Changes
+pub mod Grafts
+pub mod Climbs
+pub mod Forgets
+pub mod Repairs
+pub mod Copies

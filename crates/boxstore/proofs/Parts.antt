@@ -1,0 +1,134 @@
+-- A node whose box stands in arrays, by its kind: a leaf, a cached branch, or a branch with its two sides. Assumes nothing.
+use mathlib.Core.Path.{_≡_, sym, ap, _∙_}
+use mathlib.Core.Bool.{Bool}
+use mathlib.Core.List.{List, []}
+use Prim.Native.Nat.{ℕ, _+_, _-_, _≤_, _<_}
+use native.Mathlib.Omega.{arith}
+use lib.ListN.{getD}
+use lib.Ieee.{Float}
+use Rattle.boundingbox.specs.declared.BoundingBox.{BoundingBox}
+use Rattle.boundingbox.specs.Ends.{joined, least as leastFloat, greatest as greatestFloat}
+use Rattle.cuttree.specs.Setting.{Cut}
+use Rattle.cuttree.specs.Tree.{Tree, leaf, branch, id, least, most, lo, hi}
+use Rattle.cuttree.proofs.Orders.{end-assoc}
+use Rattle.wholetree.specs.Number.{Number}
+use Rattle.wholetree.specs.Whole.{whole}
+use Rattle.layout.specs.Slots.{lowOf, highOf}
+use Rattle.layout.specs.Stands.{Once}
+use Rattle.boxstore.specs.Boxed.{sideIn, Boxed, SomeBoxed}
+use Rattle.boxstore.specs.Grown.{lowWith, highWith, GrownBy, SidesBox, BoxOf}
+use Rattle.boxstore.proofs.Ends.{tab-same, least-end, most-end, least-ends, most-ends, row-ends}
+use Rattle.boxstore.proofs.Depths.{deep, depth, depth-few, deep-is}
+
+-- the sides of a branch
+module _ (d c k : ℕ) (nodes : List (List ℕ)) (points lows highs : List (List Float)) {b : ℕ} {x : Cut (whole d)} {g : Bool} {l r : Tree (whole d)} (B : Boxed d c k nodes points lows highs (branch b x g l r)) where
+  pub left-boxed : Boxed d c k nodes points lows highs l
+  left-boxed = record { links = B .links .2; leaves = B .leaves .0; in-range = B .in-range .2; cached = record { low = B .cached .low .1; high = B .cached .high .1 } }
+
+  pub right-boxed : Boxed d c k nodes points lows highs r
+  right-boxed = record { links = B .links .3; leaves = B .leaves .1; in-range = B .in-range .3; cached = record { low = B .cached .low .2; high = B .cached .high .2 } }
+
+-- growing by one side's box and then by the other's is growing by the branch's
+module _ (d : ℕ) (f : ℕ → Number) (l r : Tree (whole d)) (b : ℕ) (x : Cut (whole d)) (g : Bool) where
+  low-sides : lowWith d (λ (i : ℕ). least (whole d) (f i) (lo (whole d) l i)) r ≡ lowWith d f (branch b x g l r)
+  low-sides = tab-same 8 _ _ (λ i _. ap (λ (n : Number). n .value) (end-assoc (whole d) (least-end d) (f i) (lo (whole d) l i) (lo (whole d) r i)))
+
+  high-sides : highWith d (λ (i : ℕ). most (whole d) (f i) (hi (whole d) l i)) r ≡ highWith d f (branch b x g l r)
+  high-sides = tab-same 8 _ _ (λ i _. ap (λ (n : Number). n .value) (end-assoc (whole d) (most-end d) (f i) (hi (whole d) l i) (hi (whole d) r i)))
+
+module _ (c k node : ℕ) (nodes : List (List ℕ)) (points lows highs : List (List Float)) where
+  -- X and Y are the ends of the node's box
+  abbrev Ends : List Float → List Float → Type 0
+  Ends X Y = (d : ℕ) (t : Tree (whole d)) → id (whole d) c t ≡ node → Boxed d c k nodes points lows highs t → (lowOf d c t ≡ X) × (highOf d c t ≡ Y)
+
+  leaf-ends : c ≤ node → Ends (getD points (node - c) []) (getD points (node - c) [])
+  leaf-ends h d (leaf i q n) e B =
+      let z : node - c ≡ i = omega arith in
+      rw z (sym (B .leaves ∙ row-ends q), sym (B .leaves ∙ row-ends q))
+  leaf-ends h d (branch b x g l r) e B = absurd (omega (arith, B .in-range))
+
+  cached-ends : node < c → node < k → Ends (getD lows node []) (getD highs node [])
+  cached-ends h m d (leaf i q n) e B = absurd (omega arith)
+  cached-ends h m d (branch b x g l r) e B = rw (← e) (sym (B .cached .low .0 (omega arith)), sym (B .cached .high .0 (omega arith)))
+
+  pub record Row (X Y : List Float) : Type 0 where
+    pub grown : (b r : BoundingBox) → r .«min_values» ≡ joined leastFloat (b .«min_values») X → r .«max_values» ≡ joined greatestFloat (b .«max_values») Y → GrownBy c k node nodes points lows highs b r
+    pub whole-box : (r : BoundingBox) → r .«min_values» ≡ X → r .«max_values» ≡ Y → BoxOf c k node nodes points lows highs r
+
+  row : (X Y : List Float) → Ends X Y → Row X Y
+  row X Y E = record {
+    grown = λ b r p q d t f g e B m n. let w = E d t e B in (rw (p, m, ← (w .0)) (least-ends d f (lo (whole d) t)), rw (q, n, ← (w .1)) (most-ends d g (hi (whole d) t)));
+    whole-box = λ r p q d t e B. let w = E d t e B in (p ∙ sym (w .0), q ∙ sym (w .1));
+  }
+
+  pub at-leaf : c ≤ node → Row (getD points (node - c) []) (getD points (node - c) [])
+  at-leaf h = row _ _ (leaf-ends h)
+
+  pub at-cached : node < c → node < k → Row (getD lows node []) (getD highs node [])
+  at-cached h m = row _ _ (cached-ends h m)
+
+  -- a leaf's point is in the table, and a branch's number below the capacity
+  pub in-table : c ≤ node → SomeBoxed c k node nodes points lows highs → node - c < 1024
+  in-table h w = go (w .tree) (w .at-node) (w .boxed)
+    where
+      go : (t : Tree (whole (w .channels))) → id (whole (w .channels)) c t ≡ node → Boxed (w .channels) c k nodes points lows highs t → node - c < 1024
+      go (leaf i q n) e B = omega (arith, B .in-range)
+      go (branch b x g l r) e B = absurd (omega (arith, B .in-range))
+
+  -- a branch by its sides
+  abbrev left : ℕ
+  left = sideIn nodes node 0
+
+  abbrev right : ℕ
+  right = sideIn nodes node 1
+
+  pub record Parts : Type 0 where
+    pub small : node + 1 < c
+    pub left-some : SomeBoxed c k left nodes points lows highs
+    pub right-some : SomeBoxed c k right nodes points lows highs
+    pub left-less : deep nodes c 256 left < deep nodes c 256 node
+    pub right-less : deep nodes c 256 right < deep nodes c 256 node
+
+  pub parts : c ≤ 256 → node < c → SomeBoxed c k node nodes points lows highs → Parts
+  parts few h w = go (w .tree) (w .at-node) (w .once) (w .boxed)
+    where
+      go : (t : Tree (whole (w .channels))) → id (whole (w .channels)) c t ≡ node → Once (w .channels) c t → Boxed (w .channels) c k nodes points lows highs t → Parts
+      go (leaf i q n) e o B = absurd (omega arith)
+      go (branch b x g u v) e o B =
+          let d = w .channels in
+          let t = branch b x g u v in
+          let bl = left-boxed d c k nodes points lows highs B in
+          let br = right-boxed d c k nodes points lows highs B in
+          let ol : Once d c u = λ j. omega (arith, o j) in
+          let or : Once d c v = λ j. omega (arith, o j) in
+          let el : id (whole d) c u ≡ left = rw (← e) (sym (B .links .0)) in
+          let er : id (whole d) c v ≡ right = rw (← e) (sym (B .links .1)) in
+          let n : depth d c t ≤ 256 = omega (arith, depth-few d c t o (B .in-range)) in
+          let here : deep nodes c 256 node ≡ depth d c t = rw (← e) (deep-is d c nodes 256 t n (B .links) (B .in-range)) in
+          let there : deep nodes c 256 left ≡ depth d c u = rw (← el) (deep-is d c nodes 256 u (omega arith) (bl .links) (bl .in-range)) in
+          let other : deep nodes c 256 right ≡ depth d c v = rw (← er) (deep-is d c nodes 256 v (omega arith) (br .links) (br .in-range)) in
+          record {
+            small = omega (arith, B .in-range .0);
+            left-some = record { channels = d; tree = u; at-node = el; once = ol; boxed = bl };
+            right-some = record { channels = d; tree = v; at-node = er; once = or; boxed = br };
+            left-less = omega arith;
+            right-less = omega arith;
+          }
+
+  -- what two calls give, one for each side
+  pub sides-grown : node < c → (b m r : BoundingBox) → GrownBy c k left nodes points lows highs b m → GrownBy c k right nodes points lows highs m r → GrownBy c k node nodes points lows highs b r
+  sides-grown h b m r F G d (leaf i q n) f g e B p s = absurd (omega arith)
+  sides-grown h b m r F G d (branch a x y u v) f g e B p s =
+      let bl = left-boxed d c k nodes points lows highs B in
+      let br = right-boxed d c k nodes points lows highs B in
+      let one = F d u f g (rw (← e) (sym (B .links .0))) bl p s in
+      let two = G d v _ _ (rw (← e) (sym (B .links .1))) br (one .0) (one .1) in
+      (two .0 ∙ low-sides d f u v a x y, two .1 ∙ high-sides d g u v a x y)
+
+  pub sides-given : (m r : BoundingBox) → BoxOf c k left nodes points lows highs m → GrownBy c k right nodes points lows highs m r → SidesBox c k node nodes points lows highs r
+  sides-given m r F G d l u p q bl bu = let one = F d l p bl in G d u (lo (whole d) l) (hi (whole d) l) q bu (one .0) (one .1)
+
+  pub sides-box : node < c → (r : BoundingBox) → SidesBox c k node nodes points lows highs r → BoxOf c k node nodes points lows highs r
+  sides-box h r F d (leaf i q n) e B = absurd (omega arith)
+  sides-box h r F d (branch a x y u v) e B =
+      F d u v (rw (← e) (sym (B .links .0))) (rw (← e) (sym (B .links .1))) (left-boxed d c k nodes points lows highs B) (right-boxed d c k nodes points lows highs B)

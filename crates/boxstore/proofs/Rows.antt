@@ -1,0 +1,62 @@
+-- Rows of cached boxes on the way from one tree's to another's: the branches of a walk are done from below, and one more row is done at a time. Assumes nothing.
+use mathlib.Core.Path.{_≡_, refl, sym, ap, _∙_, subst}
+use mathlib.Core.Option.{some}
+use mathlib.Core.List.{List, []}
+use Prim.Native.Nat.{ℕ, zero, suc, _+_, _≤_, _<_}
+use native.Mathlib.Omega.{arith}
+use lib.Dec.{eqb}
+use lib.ListN.{length, getD}
+use lib.Seq.{ext-getD}
+use lib.Ieee.{Float}
+use borrow.Author.Tests.{eqb-true, eqb-false}
+use Rattle.cuttree.specs.Tree.{Tree, id, height}
+use Rattle.cuttree.specs.Walk.{sub}
+use Rattle.cuttree.proofs.Tests.{by-test}
+use Rattle.wholetree.specs.Reading.{Reading}
+use Rattle.wholetree.specs.Whole.{whole, tab}
+use Rattle.wholetree.proofs.Readings.{tab-length, tab-at}
+use Rattle.layout.specs.Layout.{boxIn}
+use Rattle.layout.specs.Stands.{Once}
+use Rattle.boxstore.proofs.Slots.{sub-apart}
+
+-- the number of the walk's node of height m
+abbrev pub at : (d c : ℕ) → Tree (whole d) → Reading → ℕ → ℕ
+at d c t p m = id (whole d) c (sub (whole d) t m p)
+
+-- The rows of f of t' in place of t's, but that the branches on p's walk in t of a height above m still have t's.
+pub record Partly (d c k : ℕ) (f : Tree (whole d) → List Float) (t t′ : Tree (whole d)) (p : Reading) (rows : List (List Float)) (m : ℕ) : Type 0 where
+  pub size : length rows ≡ 255
+  pub todo : (n : ℕ) → m < n → n ≤ height (whole d) t p → at d c t p n < 255 → getD rows (at d c t p n) [] ≡ boxIn d c k f (some t) (at d c t p n)
+  pub done : (j : ℕ) → j < 255 → ((n : ℕ) → m < n → n ≤ height (whole d) t p → at d c t p n ≡ j → ⊥) → getD rows j [] ≡ boxIn d c k f (some t′) j
+
+module _ (d c k : ℕ) (f : Tree (whole d) → List Float) (t t′ : Tree (whole d)) (p : Reading) (o : Once d c t) where
+  -- the row of height m + 1 done
+  pub partly-next : (rows rows′ : List (List Float)) (m : ℕ) → suc m ≤ height (whole d) t p → Partly d c k f t t′ p rows m → length rows′ ≡ 255
+      → (at d c t p (suc m) < 255 → getD rows′ (at d c t p (suc m)) [] ≡ boxIn d c k f (some t′) (at d c t p (suc m)))
+      → ((j : ℕ) → (at d c t p (suc m) ≡ j → ⊥) → getD rows′ j [] ≡ getD rows j []) → Partly d c k f t t′ p rows′ (suc m)
+  partly-next rows rows′ m e P l new old = record {
+    size = l;
+    todo = λ n a b s. old (at d c t p n) (sub-apart d c p (suc m) n t (omega arith) a b o) ∙ P .todo n (omega arith) b s;
+    done = λ j s none. by-test (eqb (at d c t p (suc m)) j)
+        (λ x. let z : at d c t p (suc m) ≡ j = eqb-true (at d c t p (suc m)) j x in subst (λ i. getD rows′ i [] ≡ boxIn d c k f (some t′) i) z (new (omega arith)))
+        (λ x. let z = eqb-false (at d c t p (suc m)) j x in old j z ∙ P .done j s (λ n a b. other j z none n a b));
+  }
+    where
+      other : (j : ℕ) → (at d c t p (suc m) ≡ j → ⊥) → ((n : ℕ) → suc m < n → n ≤ height (whole d) t p → at d c t p n ≡ j → ⊥) → (n : ℕ) → m < n → n ≤ height (whole d) t p → at d c t p n ≡ j → ⊥
+      other j z none n a b = by-test (eqb n (suc m))
+          (λ x q. z (ap (at d c t p) (sym (eqb-true n (suc m) x)) ∙ q))
+          (λ x. let y = eqb-false n (suc m) x in none n (omega arith) b)
+
+  -- where what is left does not change it is done
+  pub partly-rest : (rows : List (List Float)) (e m : ℕ) → e + m ≡ height (whole d) t p → Partly d c k f t t′ p rows m
+      → ((n : ℕ) → m < n → n ≤ height (whole d) t p → boxIn d c k f (some t) (at d c t p n) ≡ boxIn d c k f (some t′) (at d c t p n)) → Partly d c k f t t′ p rows (height (whole d) t p)
+  partly-rest rows zero m h P same = let z : m ≡ height (whole d) t p = omega arith in subst (λ n. Partly d c k f t t′ p rows n) z P
+  partly-rest rows (suc e) m h P same =
+      partly-rest rows e (suc m) (omega arith)
+      (partly-next rows rows m (omega arith) P (P .size) (λ s. P .todo (suc m) (omega arith) (omega arith) s ∙ same (suc m) (omega arith) (omega arith)) (λ j _. refl))
+      (λ n a b. same n (omega arith) b)
+
+  pub partly-all : (rows : List (List Float)) (m : ℕ) → height (whole d) t p ≤ m → Partly d c k f t t′ p rows m → rows ≡ tab 255 (boxIn d c k f (some t′))
+  partly-all rows m h P =
+      ext-getD [] rows (tab 255 (boxIn d c k f (some t′))) (P .size ∙ sym (tab-length 255 (boxIn d c k f (some t′))))
+      (λ i l. let s : i < 255 = subst (λ n. i < n) (P .size) l in P .done i s (λ n a b _. omega arith) ∙ sym (tab-at 255 (boxIn d c k f (some t′)) i [] s))

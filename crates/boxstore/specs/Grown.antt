@@ -1,0 +1,53 @@
+-- A box grown by the box of a tree, and the box of a tree, as functions over arrays give them. Definitions.
+use mathlib.Core.Path.{_≡_}
+use mathlib.Core.Bool.{Bool, true, false, _&&_}
+use mathlib.Core.List.{List, []}
+use Prim.Native.Nat.{ℕ, _<_, min}
+use lib.Dec.{ltb}
+use lib.ListN.{getD}
+use lib.Ieee.{Float}
+use Rattle.boundingbox.specs.Contained.{strictlyContains}
+use Rattle.boundingbox.specs.declared.BoundingBox.{BoundingBox}
+use Rattle.cuttree.specs.Tree.{Tree, id, least, most, lo, hi}
+use Rattle.wholetree.specs.Number.{Number}
+use Rattle.wholetree.specs.Whole.{whole, ends}
+use Rattle.layout.specs.Slots.{lowOf, highOf}
+use Rattle.boxstore.specs.Boxed.{sideIn, Boxed, SomeBoxed}
+use Rattle.boxstore.specs.Written.{written}
+
+-- the ends f of a box, moved out to hold the tree's box
+abbrev pub lowWith : (d : ℕ) → (ℕ → Number) → Tree (whole d) → List Float
+lowWith d f t = ends (λ (i : ℕ). least (whole d) (f i) (lo (whole d) t i))
+
+abbrev pub highWith : (d : ℕ) → (ℕ → Number) → Tree (whole d) → List Float
+highWith d f t = ends (λ (i : ℕ). most (whole d) (f i) (hi (whole d) t i))
+
+-- capacity c, k cached branches, and a node's id
+module _ (c k node : ℕ) (nodes : List (List ℕ)) (points lows highs : List (List Float)) where
+  -- r is b grown by the box of the tree below the node, whichever tree stands there, if the ends of b are numbers
+  abbrev pub GrownBy : BoundingBox → BoundingBox → Type 0
+  GrownBy b r = (d : ℕ) (t : Tree (whole d)) (f g : ℕ → Number) → id (whole d) c t ≡ node → Boxed d c k nodes points lows highs t
+      → b .«min_values» ≡ ends f → b .«max_values» ≡ ends g → (r .«min_values» ≡ lowWith d f t) × (r .«max_values» ≡ highWith d g t)
+
+  -- r is the box around the two sides of a branch, whichever trees stand there: no matter what is cached for the branch itself
+  abbrev pub SidesBox : BoundingBox → Type 0
+  SidesBox r = (d : ℕ) (l u : Tree (whole d)) → id (whole d) c l ≡ sideIn nodes node 0 → id (whole d) c u ≡ sideIn nodes node 1 → Boxed d c k nodes points lows highs l → Boxed d c k nodes points lows highs u
+      → (r .«min_values» ≡ lowWith d (lo (whole d) l) u) × (r .«max_values» ≡ highWith d (hi (whole d) l) u)
+
+  -- r is the box of the tree below the node, whichever tree stands there
+  abbrev pub BoxOf : BoundingBox → Type 0
+  BoxOf r = (d : ℕ) (t : Tree (whole d)) → id (whole d) c t ≡ node → Boxed d c k nodes points lows highs t
+      → (r .«min_values» ≡ lowOf d c t) × (r .«max_values» ≡ highOf d c t)
+
+-- the two sides of a branch stand
+pub record SomeSides (c k node : ℕ) (nodes : List (List ℕ)) (points lows highs : List (List Float)) : Type 0 where
+  pub small : node < 255
+  pub left-some : SomeBoxed c k (sideIn nodes node 0) nodes points lows highs
+  pub right-some : SomeBoxed c k (sideIn nodes node 1) nodes points lows highs
+
+-- A branch's cached box is worked out again from its sides, unless it holds the point strictly inside. r: it is cached and did hold it.
+pub record Rebuilt (c k node dimensions : ℕ) (point : List Float) (nodes : List (List ℕ)) (points lows highs lows′ highs′ : List (List Float)) (r : Bool) : Type 0 where
+  pub answer : r ≡ (ltb node k && strictlyContains (getD lows node []) (getD highs node []) point (min dimensions 8))
+  pub kept : r ≡ true → (lows′ ≡ lows) × (highs′ ≡ highs)
+  pub moved : r ≡ false → (d : ℕ) (l u : Tree (whole d)) → id (whole d) c l ≡ sideIn nodes node 0 → id (whole d) c u ≡ sideIn nodes node 1 → Boxed d c k nodes points lows highs l → Boxed d c k nodes points lows highs u
+      → (lows′ ≡ written k node (lowWith d (lo (whole d) l) u) lows) × (highs′ ≡ written k node (highWith d (hi (whole d) l) u) highs)

@@ -1,0 +1,4 @@
+pub mod Boxed
+pub mod Written
+pub mod Grown
+pub mod Edited

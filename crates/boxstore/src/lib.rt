@@ -1,0 +1,317 @@
+// The boxes of a tree's branches: a cached box is a row of `lows` and one of `highs`, any other is worked out from the branch's sides. After the boxes of nodestore.rs.
+use boundingbox::BoundingBox;
+ghost use mathlib.Core.Path.{_≡_};
+ghost use mathlib.Core.Bool.{_&&_};
+ghost use mathlib.Core.List.{[]};
+ghost use Prim.Native.Nat.{_≤_, _<_};
+ghost use lib.Dec.{ltb};
+ghost use lib.ListN.{getD};
+ghost use Rattle.boundingbox.specs.Ends.{least, greatest, joined};
+ghost use Rattle.layout.specs.Layout.{noEnds};
+ghost use Rattle.boxstore.specs.Boxed.{sideIn, SomeBoxed};
+ghost use Rattle.boundingbox.specs.Contained.{contains};
+ghost use Rattle.boxstore.specs.Written.{written};
+ghost use Rattle.boxstore.specs.Grown.{GrownBy, BoxOf, SomeSides, SidesBox, Rebuilt};
+ghost use Rattle.boxstore.specs.Edited.{GrownAbove, SomeForgotten, RepairedAbove};
+
+fn wide(x: u16) -> usize
+    ensures { λ r. ⌜ r ≡ x ⌝ }
+{
+    x as usize
+}
+
+// The id of a branch's side: 0 is the left one, 1 the right one.
+fn side_of(nodes: &[[u16; 4]; 255], node: usize, side: usize) -> usize
+    requires { ⌜ (node < 255) × (side < 2) ⌝ }
+    ensures { λ r. ⌜ r ≡ sideIn (now (nodes .entry)) node side ⌝ }
+{
+    wide(nodes[node][side])
+}
+
+// A leaf's box: its point.
+fn leaf_box(points: &[[f32; 8]; 1024], index: usize) -> BoundingBox
+    requires { ⌜ index < 1024 ⌝ }
+    ensures lower { λ r. ⌜ r .«min_values» ≡ getD (now (points .entry)) index [] ⌝ }
+    ensures upper { λ r. ⌜ r .«max_values» ≡ getD (now (points .entry)) index [] ⌝ }
+{
+    BoundingBox::new(&points[index], &points[index])
+}
+
+// A cached branch's box.
+fn box_from_data(lows: &[[f32; 8]; 255], highs: &[[f32; 8]; 255], index: usize) -> BoundingBox
+    requires { ⌜ index < 255 ⌝ }
+    ensures lower { λ r. ⌜ r .«min_values» ≡ getD (now (lows .entry)) index [] ⌝ }
+    ensures upper { λ r. ⌜ r .«max_values» ≡ getD (now (highs .entry)) index [] ⌝ }
+{
+    let min_values = lows[index];
+    let max_values = highs[index];
+    BoundingBox {
+        min_values,
+        max_values,
+    }
+}
+
+fn grown(b: BoundingBox, x: BoundingBox) -> BoundingBox
+    ensures lower { λ r. ⌜ r .«min_values» ≡ joined least (b .«min_values») (x .«min_values») ⌝ }
+    ensures upper { λ r. ⌜ r .«max_values» ≡ joined greatest (b .«max_values») (x .«max_values») ⌝ }
+{
+    let grown = b.add_box(x);
+    grown.bounding_box
+}
+
+// The box grown by that of a node. A branch that is not cached grows it by its left side, then its right.
+// Rules out one side grown by twice, and a branch that is not cached left out.
+pub fn grow_node_box(
+    b: BoundingBox,
+    node: usize,
+    nodes: &[[u16; 4]; 255],
+    points: &[[f32; 8]; 1024],
+    lows: &[[f32; 8]; 255],
+    highs: &[[f32; 8]; 255],
+    capacity: usize,
+    cached: usize,
+) -> BoundingBox
+    requires few { ⌜ capacity ≤ 256 ⌝ }
+    requires stands { ⌜ SomeBoxed capacity cached node (now nodes) (now points) (now lows) (now highs) ⌝ }
+    ensures { λ r. ⌜ GrownBy capacity cached node (now (nodes .entry)) (now (points .entry)) (now (lows .entry)) (now (highs .entry)) b r ⌝ }
+{
+    if capacity <= node {
+        return grown(b, leaf_box(points, node - capacity));
+    }
+    if node < cached {
+        return grown(b, box_from_data(lows, highs, node));
+    }
+    let left = side_of(nodes, node, 0);
+    let right = side_of(nodes, node, 1);
+    let half = grow_node_box(b, left, nodes, points, lows, highs, capacity, cached);
+    grow_node_box(half, right, nodes, points, lows, highs, capacity, cached)
+}
+
+// The box of a node. That of a branch that is not cached is its left side's, grown by its right side.
+// Rules out a box of the left side alone, and a cached row taken for a branch that has none.
+pub fn bounding_box(
+    node: usize,
+    nodes: &[[u16; 4]; 255],
+    points: &[[f32; 8]; 1024],
+    lows: &[[f32; 8]; 255],
+    highs: &[[f32; 8]; 255],
+    capacity: usize,
+    cached: usize,
+) -> BoundingBox
+    requires few { ⌜ capacity ≤ 256 ⌝ }
+    requires stands { ⌜ SomeBoxed capacity cached node (now nodes) (now points) (now lows) (now highs) ⌝ }
+    ensures { λ r. ⌜ BoxOf capacity cached node (now (nodes .entry)) (now (points .entry)) (now (lows .entry)) (now (highs .entry)) r ⌝ }
+{
+    if capacity <= node {
+        return leaf_box(points, node - capacity);
+    }
+    if node < cached {
+        return box_from_data(lows, highs, node);
+    }
+    let left = side_of(nodes, node, 0);
+    let right = side_of(nodes, node, 1);
+    let half = bounding_box(left, nodes, points, lows, highs, capacity, cached);
+    grow_node_box(half, right, nodes, points, lows, highs, capacity, cached)
+}
+
+// The box of a branch from its two sides, whatever is cached for the branch itself.
+// Rules out the stale row of a branch that is cached, and a box of one side alone.
+fn reconstruct_box(
+    node: usize,
+    nodes: &[[u16; 4]; 255],
+    points: &[[f32; 8]; 1024],
+    lows: &[[f32; 8]; 255],
+    highs: &[[f32; 8]; 255],
+    capacity: usize,
+    cached: usize,
+) -> BoundingBox
+    requires few { ⌜ capacity ≤ 256 ⌝ }
+    requires stands { ⌜ SomeSides capacity cached node (now nodes) (now points) (now lows) (now highs) ⌝ }
+    ensures { λ r. ⌜ SidesBox capacity cached node (now (nodes .entry)) (now (points .entry)) (now (lows .entry)) (now (highs .entry)) r ⌝ }
+{
+    let left = side_of(nodes, node, 0);
+    let right = side_of(nodes, node, 1);
+    let half = bounding_box(left, nodes, points, lows, highs, capacity, cached);
+    grow_node_box(half, right, nodes, points, lows, highs, capacity, cached)
+}
+
+// The branch's box kept, if the branch is cached.
+// Rules out a box kept under another number, and one kept for a branch that is not cached.
+pub fn copy_box_to_data(
+    lows: &mut [[f32; 8]; 255],
+    highs: &mut [[f32; 8]; 255],
+    index: usize,
+    b: BoundingBox,
+    cached: usize,
+)
+    requires { ⌜ cached ≤ 255 ⌝ }
+    ensures lower { λ _. ⌜ now (lows .exit) ≡ written cached index (b .«min_values») (now (lows .entry)) ⌝ }
+    ensures upper { λ _. ⌜ now (highs .exit) ≡ written cached index (b .«max_values») (now (highs .entry)) ⌝ }
+{
+    if index < cached {
+        let low = b.min_values;
+        let high = b.max_values;
+        lows[index] = low;
+        highs[index] = high;
+    }
+}
+
+// A new branch's box kept, if the branch is cached: the box of the node below it, grown by the new leaf's point.
+// Rules out the box kept without the point.
+pub fn copy_box_above(
+    lows: &mut [[f32; 8]; 255],
+    highs: &mut [[f32; 8]; 255],
+    index: usize,
+    below: BoundingBox,
+    point: &[f32; 8],
+    cached: usize,
+)
+    requires { ⌜ cached ≤ 255 ⌝ }
+    ensures lower { λ _. ⌜ now (lows .exit) ≡ written cached index (joined least (below .«min_values») (now (point .entry))) (now (lows .entry)) ⌝ }
+    ensures upper { λ _. ⌜ now (highs .exit) ≡ written cached index (joined greatest (below .«max_values») (now (point .entry))) (now (highs .entry)) ⌝ }
+{
+    let grown = below.check_contains_and_add_point(point);
+    copy_box_to_data(lows, highs, index, grown.bounding_box, cached);
+}
+
+// The box of a branch that is gone cleared, if the branch was cached.
+// Rules out a row left behind where no branch is.
+pub fn clear_box(
+    lows: &mut [[f32; 8]; 255],
+    highs: &mut [[f32; 8]; 255],
+    index: usize,
+    cached: usize,
+)
+    requires { ⌜ cached ≤ 255 ⌝ }
+    ensures lower { λ _. ⌜ now (lows .exit) ≡ written cached index noEnds (now (lows .entry)) ⌝ }
+    ensures upper { λ _. ⌜ now (highs .exit) ≡ written cached index noEnds (now (highs .entry)) ⌝ }
+{
+    let low = [0.0; 8];
+    let high = [0.0; 8];
+    let nothing = BoundingBox {
+        min_values: low,
+        max_values: high,
+    };
+    copy_box_to_data(lows, highs, index, nothing, cached);
+}
+
+// The branch's box grown by a point, if the branch is cached, and whether it is and held the point before.
+// Rules out an answer of true for a branch that is not cached, at which growing would end too early.
+fn check_contains_and_add_point(
+    lows: &mut [[f32; 8]; 255],
+    highs: &mut [[f32; 8]; 255],
+    index: usize,
+    point: &[f32; 8],
+    cached: usize,
+) -> bool
+    requires { ⌜ cached ≤ 255 ⌝ }
+    ensures held { λ r. ⌜ r ≡ (ltb index cached && contains (getD (now (lows .entry)) index []) (getD (now (highs .entry)) index []) (now (point .entry)) (now (point .entry)) 8) ⌝ }
+    ensures lower { λ _. ⌜ now (lows .exit) ≡ written cached index (joined least (getD (now (lows .entry)) index []) (now (point .entry))) (now (lows .entry)) ⌝ }
+    ensures upper { λ _. ⌜ now (highs .exit) ≡ written cached index (joined greatest (getD (now (highs .entry)) index []) (now (point .entry))) (now (highs .entry)) ⌝ }
+{
+    if index < cached {
+        let b = box_from_data(lows, highs, index);
+        let grown = b.check_contains_and_add_point(point);
+        copy_box_to_data(lows, highs, index, grown.bounding_box, cached);
+        return grown.contained;
+    }
+    false
+}
+
+// The id of the node in a row of a path.
+fn node_of(path: &[[u16; 2]; 256], row: usize) -> usize
+    requires { ⌜ row < 256 ⌝ }
+    ensures { λ r. ⌜ r ≡ getD (getD (now (path .entry)) row []) 0 0 ⌝ }
+{
+    wide(path[row][0])
+}
+
+// The boxes of the first `n` nodes of a path grown by a point, from the lowest up. Ends at a cached box that held the point, as then do all above it.
+// Rules out an end at a branch that is not cached, and a box above left as it was though the point lies outside.
+pub fn grow_ancestors(
+    lows: &mut [[f32; 8]; 255],
+    highs: &mut [[f32; 8]; 255],
+    path: &[[u16; 2]; 256],
+    n: usize,
+    point: &[f32; 8],
+    cached: usize,
+)
+    requires { ⌜ (n ≤ 256) × (cached ≤ 255) ⌝ }
+    ensures { λ _. ⌜ GrownAbove cached n (now (path .entry)) (now (point .entry)) (now (lows .entry)) (now (highs .entry)) (now (lows .exit)) (now (highs .exit)) ⌝ }
+{
+    let mut row = n;
+    while 0 < row {
+        row -= 1;
+        let index = node_of(path, row);
+        if check_contains_and_add_point(lows, highs, index, point, cached) {
+            return;
+        }
+    }
+}
+
+// The branch's box worked out again from its sides, if the branch is cached and its box does not hold the point strictly inside; whether it is cached and does.
+// Rules out a box kept though the point lies on a face, where it may have been the end.
+fn check_contains_and_rebuild_box(
+    lows: &mut [[f32; 8]; 255],
+    highs: &mut [[f32; 8]; 255],
+    nodes: &[[u16; 4]; 255],
+    points: &[[f32; 8]; 1024],
+    index: usize,
+    point: &[f32; 8],
+    dimensions: usize,
+    capacity: usize,
+    cached: usize,
+) -> bool
+    requires few { ⌜ (cached ≤ 255) × (capacity ≤ 256) ⌝ }
+    requires stands { ⌜ (index < cached → SomeSides capacity cached index (now nodes) (now points) (now lows) (now highs)) ⌝ }
+    ensures { λ r. ⌜ Rebuilt capacity cached index dimensions (now (point .entry)) (now (nodes .entry)) (now (points .entry)) (now (lows .entry)) (now (highs .entry)) (now (lows .exit)) (now (highs .exit)) r ⌝ }
+{
+    if cached <= index {
+        return false;
+    }
+    let b = box_from_data(lows, highs, index);
+    if b.strictly_contains(point, dimensions) {
+        return true;
+    }
+    let rebuilt = reconstruct_box(index, nodes, points, lows, highs, capacity, cached);
+    copy_box_to_data(lows, highs, index, rebuilt, cached);
+    false
+}
+
+// The boxes of the first `n` nodes of a path worked out again, from the lowest up, after a point's last copy is gone. Ends at a cached box that held the point strictly inside: that box and all above it are the same without it.
+// Rules out an end where the point lies on a face, and one at a branch that is not cached.
+pub fn repair_ancestors(
+    lows: &mut [[f32; 8]; 255],
+    highs: &mut [[f32; 8]; 255],
+    nodes: &[[u16; 4]; 255],
+    points: &[[f32; 8]; 1024],
+    path: &[[u16; 2]; 256],
+    n: usize,
+    point: &[f32; 8],
+    dimensions: usize,
+    capacity: usize,
+    cached: usize,
+)
+    requires few { ⌜ (n ≤ 256) × (cached ≤ 255) × (capacity ≤ 256) ⌝ }
+    requires stands { ⌜ SomeForgotten capacity cached n dimensions (now path) (now point) (now nodes) (now points) (now lows) (now highs) ⌝ }
+    ensures { λ _. ⌜ RepairedAbove capacity cached n dimensions (now (path .entry)) (now (point .entry)) (now (nodes .entry)) (now (points .entry)) (now (lows .entry)) (now (highs .entry)) (now (lows .exit)) (now (highs .exit)) ⌝ }
+{
+    let mut row = n;
+    while 0 < row {
+        row -= 1;
+        let index = node_of(path, row);
+        if check_contains_and_rebuild_box(
+            lows,
+            highs,
+            nodes,
+            points,
+            index,
+            point,
+            dimensions,
+            capacity,
+            cached,
+        ) {
+            return;
+        }
+    }
+}

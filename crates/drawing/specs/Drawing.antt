@@ -1,0 +1,62 @@
+-- The loop from the leaf to the root: what one node's draw keeps, and what all of them keep. Definitions.
+use mathlib.Core.Path.{_≡_}
+use mathlib.Core.Bool.{true, false, cond}
+use mathlib.Core.List.{List, []}
+use Prim.Native.Nat.{ℕ, _≤_, _<_}
+use lib.ListN.{length, getD, take}
+use lib.Ieee.{Float}
+use Rattle.boundingbox.specs.declared.BoundingBox.{BoundingBox}
+use Rattle.cut.specs.declared.Separation.{Separation}
+use Rattle.cut.specs.declared.Separation.the-variants.{NoCut, Drawn}
+use Rattle.cuttree.specs.Setting.{Cut}
+use Rattle.cuttree.specs.Tree.{Tree, walk, ending}
+use Rattle.cuttree.specs.Walk.{sub, kept}
+use Rattle.wholetree.specs.Number.{zero}
+use Rattle.wholetree.specs.Reading.{Reading}
+use Rattle.wholetree.specs.Whole.{whole}
+use Rattle.layout.specs.Slots.{lowOf, highOf}
+use Rattle.layout.specs.Stands.{Once, trail}
+use Rattle.boxstore.specs.Boxed.{Boxed}
+use Rattle.drawing.specs.declared.Highest.{Highest}
+use Rattle.drawing.specs.declared.Draw.{Draw}
+
+-- one node's draw: no cut where the box holds the point, else the cut kept if it parts
+abbrev pub drawnBy : Separation → Highest → BoundingBox → ℕ → Draw
+drawnBy NoCut h b n = record { held = true; kept = h }
+drawnBy (Drawn k p) h b n = record { held = false; kept = cond p (record { height = n; cut = k; «bounding_box» = b }) h }
+
+-- stands for the cut before any is kept
+abbrev pub noCut : (d : ℕ) → ℕ × Cut (whole d)
+noCut d = (0, record { channel = 0; value = zero })
+
+-- the words by their number, and 0 beyond them
+abbrev pub wordAt : List ℕ → ℕ → ℕ
+wordAt ws n = getD ws n 0
+
+module _ (d c : ℕ) (t : Tree (whole d)) (p : Reading) where
+  -- the tree whose boxes stand in the arrays, the walk of p in the path, and a word for each of its nodes
+  pub record Drawing (k : ℕ) (nodes : List (List ℕ)) (points lows highs : List (List Float)) (path : List (List ℕ)) (len leaf : ℕ) (words : List ℕ) (point : List Float) : Type 0 where
+    pub boxed : Boxed d c k nodes points lows highs t
+    pub once : Once d c t
+    pub count : len ≡ walk (whole d) t p
+    pub most : len ≤ 256
+    pub is-trail : take len path ≡ trail d c t p
+    pub enough : len ≤ length words
+    pub row : point ≡ p .row
+    pub leaf-small : leaf < 1024
+    pub leaf-row : getD points leaf [] ≡ ending (whole d) t p .value .row
+
+  -- what is kept after m nodes, and the box of its node
+  pub record Kept (words : List ℕ) (m : ℕ) (r : Highest) : Type 0 where
+    pub height-is : r .height ≡ kept (whole d) t p (wordAt words) (noCut d) m .0
+    pub channel-is : r .cut .dimension ≡ kept (whole d) t p (wordAt words) (noCut d) m .1 .channel
+    pub value-is : r .cut .value ≡ kept (whole d) t p (wordAt words) (noCut d) m .1 .value .value
+    pub low : r .«bounding_box» .«min_values» ≡ lowOf d c (sub (whole d) t (r .height) p)
+    pub high : r .«bounding_box» .«max_values» ≡ highOf d c (sub (whole d) t (r .height) p)
+
+-- some tree is there to draw in
+pub record SomeDrawing (c k : ℕ) (nodes : List (List ℕ)) (points lows highs : List (List Float)) (path : List (List ℕ)) (len leaf : ℕ) (words : List ℕ) (point : List Float) : Type 0 where
+  pub channels : ℕ
+  pub tree : Tree (whole channels)
+  pub reading : Reading
+  pub drawing : Drawing channels c tree reading k nodes points lows highs path len leaf words point

@@ -1,0 +1,119 @@
+// The leaf-to-root loop of `RCFTree::add`: a word for each node of the walk, and the highest cut that parts the new point from a node's box.
+use boundingbox::BoundingBox;
+use cut::Cut;
+use cut::Separation;
+ghost use mathlib.Core.Path.{_≡_};
+ghost use mathlib.Core.List.{List, []};
+ghost use Prim.Native.Nat.{ℕ, _+_, _-_, _≤_, _<_};
+ghost use lib.ListN.{length, getD, take};
+ghost use Rattle.cut.specs.Draw.{separation};
+ghost use Rattle.cuttree.specs.Tree.{Tree};
+ghost use Rattle.wholetree.specs.Reading.{Reading};
+ghost use Rattle.wholetree.specs.Whole.{whole};
+ghost use Rattle.drawing.specs.Drawing.{drawnBy, Drawing, SomeDrawing, Kept};
+
+// The cut that is kept: the height of its node on the walk, the leaf's being 0; the cut; and the box of the node, without the new point.
+pub struct Highest {
+    pub height: usize,
+    pub cut: Cut,
+    pub bounding_box: BoundingBox,
+}
+
+// A node's draw: whether its box holds the point, and the cut that is kept then.
+pub struct Draw {
+    pub held: bool,
+    pub kept: Highest,
+}
+
+// The draw of a node of that height. A cut that parts is kept, since it is higher than any before.
+fn draw_at(kept: Highest, current: BoundingBox, word: u64, point: &[f32; 8], height: usize) -> Draw
+    ensures { λ r. ⌜ r ≡ drawnBy (separation 8 (current .«min_values») (current .«max_values») (now (point .entry)) word) kept current height ⌝ }
+{
+    let s = Cut::random_cut_and_separation(current, word, point);
+    match s {
+        Separation::NoCut => Draw { held: true, kept },
+        Separation::Drawn(cut, parts) => {
+            if parts {
+                let next = Highest {
+                    height,
+                    cut,
+                    bounding_box: current,
+                };
+                return Draw {
+                    held: false,
+                    kept: next,
+                };
+            }
+            Draw { held: false, kept }
+        }
+    }
+}
+
+// The sibling of the node of height m on a walk of len nodes.
+fn sibling_at(path: &[[u16; 2]; 256], len: usize, m: usize) -> usize
+    requires { ⌜ (m < len) × (len ≤ 256) ⌝ }
+    ensures { λ r. ⌜ r ≡ getD (getD (now (path .entry)) (len - 1 - m) []) 1 0 ⌝ }
+{
+    let row = len - 1 - m;
+    wide(path[row][1])
+}
+
+fn wide(x: u16) -> usize
+    ensures { λ r. ⌜ r ≡ x ⌝ }
+{
+    x as usize
+}
+
+// The highest cut that parts the point from a node's box, of one drawn at each node of the walk, from the leaf to the root. Once a box
+// holds the point, every box above does, and the words there change nothing.
+// Rules out the lowest cut that parts, and a box of the walk's node grown by the wrong side.
+pub fn highest_cut(
+    nodes: &[[u16; 4]; 255],
+    points: &[[f32; 8]; 1024],
+    lows: &[[f32; 8]; 255],
+    highs: &[[f32; 8]; 255],
+    path: &[[u16; 2]; 256],
+    len: usize,
+    leaf: usize,
+    words: &[u64],
+    point: &[f32; 8],
+    capacity: usize,
+    cached: usize,
+) -> Highest
+    requires few { ⌜ capacity ≤ 256 ⌝ }
+    requires walked { ⌜ SomeDrawing capacity cached (now nodes) (now points) (now lows) (now highs) (now path) len leaf (now words) (now point) ⌝ }
+    ensures { λ r. ⌜ ((d : ℕ) (t : Tree (whole d)) (p : Reading) → Drawing d capacity t p cached (now (nodes .entry)) (now (points .entry)) (now (lows .entry)) (now (highs .entry)) (now (path .entry)) len leaf (now (words .entry)) (now (point .entry)) → Kept d capacity t p (now (words .entry)) len r) ⌝ }
+{
+    let first = BoundingBox::new(&points[leaf], &points[leaf]);
+    let mut current = first;
+    let mut kept = Highest {
+        height: 0,
+        cut: Cut {
+            dimension: 0,
+            value: 0.0,
+        },
+        bounding_box: first,
+    };
+    let mut m: usize = 0;
+    while m + 1 < len {
+        let drawn = draw_at(kept, current, words[m], point, m);
+        kept = drawn.kept;
+        if drawn.held {
+            return kept;
+        }
+        let sibling = sibling_at(path, len, m);
+        current = boxstore::grow_node_box(
+            current,
+            sibling,
+            nodes,
+            points,
+            lows,
+            highs,
+            capacity,
+            cached,
+        );
+        m += 1;
+    }
+    let last = draw_at(kept, current, words[m], point, m);
+    last.kept
+}

@@ -1,0 +1,10 @@
+pub mod Paths
+pub mod Masses
+pub mod Facts
+pub mod Climbs
+pub mod Links
+pub mod Recounts
+pub mod Removals
+pub mod Ends
+pub mod Grafts
+pub mod Places

@@ -1,0 +1,17 @@
+-- `leaf_mass` meets its contract. Assumes nothing.
+use borrow.Author.Tests.{eq-eqb, ne-eqb}
+use borrow.Author.Needs.{needs}
+use Rattle.nodestore.proofs.leaf_mass.Statement.{statement}
+use Rattle.nodestore.proofs.leaf_mass.Tie as tie
+
+returns : tie.Need-returns
+returns c = rw (eq-eqb _ _ (c .if1 .taken))
+
+sub-result : tie.Need-sub-result
+sub-result c = search needs
+
+returns-2 : tie.Need-returns-2
+returns-2 c = rw (ne-eqb _ _ (c .if1 .left))
+
+pub leaf-mass-spec : {M : Type 1} → statement M
+leaf-mass-spec = tie.close (tie.spec returns sub-result returns-2)

@@ -1,0 +1,34 @@
+-- `lift` meets its contract: cell, pointer and masses are written one after the other. Assumes nothing.
+use lib.Ieee.{ofBits}
+use borrow.Author.Needs.{needs}
+use Rattle.nodestore.proofs.lift.Statement.{statement}
+use Rattle.nodestore.proofs.lift.Tie as tie
+
+wide16-requires : tie.Need-wide16-requires
+wide16-requires c κs = search needs
+
+put-cell-requires : tie.Need-put-cell-requires
+put-cell-requires c κs = search needs
+
+relink-at-requires : tie.Need-relink-at-requires
+relink-at-requires c κs = search needs
+
+manage-ancestors-delete-requires : tie.Need-manage-ancestors-delete-requires
+manage-ancestors-delete-requires c κs =
+    let s = c .before .before .before .before .before .before .before in
+    (s .pre .1 .0, (s .pre .1 .1 .0, rw (c .before .relink-at .ensures, c .before .before .before .put-cell .ensures .0, c .before .before .before .before .wide16 .ensures) (s .pre .1 .1 .1 .1)))
+
+returns : tie.Need-returns
+unfolding ofBits
+returns c =
+    (cc (c .manage-ancestors-delete .ensures, c .before .before .relink-at .ensures, c .before .before .before .before .put-cell .ensures .0, c .before .before .before .before .before .wide16 .ensures), rw (← c .before .before .before .before .before .wide16 .ensures) (c .before .before .before .before .put-cell .ensures .1))
+
+pub lift-spec : {M : Type 1} → statement M
+lift-spec =
+    tie.close
+    (tie.spec
+    wide16-requires
+    put-cell-requires
+    relink-at-requires
+    manage-ancestors-delete-requires
+    returns)

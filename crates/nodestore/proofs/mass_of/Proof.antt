@@ -1,0 +1,59 @@
+-- `mass_of` meets its contract: a branch and a leaf are the two cases of `massAt`. Assumes nothing.
+use native.Mathlib.Omega.{arith}
+use borrow.Author.Tests.{lt-ltb, le-ltb}
+use borrow.Author.Needs.{needs}
+use Rattle.nodestore.proofs.mass_of.Statement.{statement}
+use Rattle.nodestore.proofs.mass_of.Tie as tie
+
+wide16-requires : tie.Need-wide16-requires
+wide16-requires c κs = search needs
+
+mul-result : tie.Need-mul-result
+mul-result c = search needs
+
+index-1-result : tie.Need-index-1-result
+index-1-result c = omega (arith, c .wide16 .ensures, c .before .before .pre .0 (c .before .if1 .taken))
+
+index-2-result : tie.Need-index-2-result
+index-2-result c = search needs
+
+returns : tie.Need-returns
+returns c = rw (lt-ltb _ _ (c .before .before .if1 .taken), ← c .before .wide16 .ensures)
+
+wide16-requires-2 : tie.Need-wide16-requires-2
+wide16-requires-2 c κs = search needs
+
+wide16-requires-3 : tie.Need-wide16-requires-3
+wide16-requires-3 c κs = search needs
+
+sub-leaf-mass : tie.Need-sub-leaf-mass
+sub-leaf-mass c = search needs
+
+mul-leaf-mass : tie.Need-mul-leaf-mass
+mul-leaf-mass c = search needs
+
+element-copy-out-leaf-mass : tie.Need-element-copy-out-leaf-mass
+element-copy-out-leaf-mass c = search needs
+
+leaf-mass-requires : tie.Need-leaf-mass-requires
+leaf-mass-requires c κs = rw (c .before .wide163 .ensures, c .before .before .wide162 .ensures) (c .before .before .before .before .pre .1 .1 (c .before .before .before .if1 .left))
+
+returns-2 : tie.Need-returns-2
+returns-2 c = rw (le-ltb _ _ (c .before .before .before .before .if1 .left), ← c .before .before .before .wide162 .ensures, ← c .before .before .wide163 .ensures) (c .leaf-mass .ensures)
+
+pub mass-of-spec : {M : Type 1} → statement M
+mass-of-spec =
+    tie.close
+    (tie.spec
+    wide16-requires
+    mul-result
+    index-1-result
+    index-2-result
+    returns
+    wide16-requires-2
+    wide16-requires-3
+    sub-leaf-mass
+    mul-leaf-mass
+    element-copy-out-leaf-mass
+    leaf-mass-requires
+    returns-2)

@@ -1,0 +1,101 @@
+-- A tree in the rows, cuts and copies of a node store, and the walk of a point in its path: what the functions are told and what they give.
+-- Definitions.
+use mathlib.Core.Path.{_≡_}
+use mathlib.Core.Bool.{Bool}
+use mathlib.Core.Option.{Option, some}
+use mathlib.Core.List.{List, []}
+use Prim.Native.Nat.{ℕ, _+_, _≤_, _<_}
+use lib.ListN.{length, getD, take}
+use lib.Ieee.{Float, nan}
+use Rattle.boundingbox.specs.Sides.{nought}
+use Rattle.cut.specs.declared.Cut.{Cut}
+use Rattle.cuttree.specs.Setting.{Cut as CutOf, below}
+use Rattle.cuttree.specs.Tree.{Tree, is, id, ending, height, walk, leaves, total, sum, All}
+use Rattle.wholetree.specs.Reading.{Reading}
+use Rattle.wholetree.specs.Whole.{whole, tab}
+use Rattle.layout.specs.Slots.{uses, rowOf, cutOf, countAt}
+use Rattle.layout.specs.Layout.{noRow, slotIn, countIn}
+use Rattle.layout.specs.Stands.{Laid, InRange, trail}
+
+-- THE WALK: the rows and cuts from the root are those of t, and the point is p's
+pub record Walks (d c : ℕ) (nodes : List (List ℕ)) (cuts point : List Float) (root : ℕ) (t : Tree (whole d)) (p : Reading) : Type 0 where
+  pub rows : Laid d c (rowOf d c) (λ (j : ℕ). getD nodes j []) t
+  pub values : Laid d c (cutOf d c) (λ (j : ℕ). getD cuts j nan) t
+  pub in-range : InRange d c t
+  pub few : leaves (whole d) t ≤ c
+  pub root-is : root ≡ id (whole d) c t
+  pub point-is : point ≡ p .row
+
+pub record SomeWalks (c : ℕ) (nodes : List (List ℕ)) (cuts point : List Float) (root : ℕ) : Type 0 where
+  pub channels : ℕ
+  pub tree : Tree (whole channels)
+  pub reading : Reading
+  pub walks : Walks channels c nodes cuts point root tree reading
+
+-- the first n rows of the path are p's walk
+pub record Walked (d c : ℕ) (path : List (List ℕ)) (n : ℕ) (t : Tree (whole d)) (p : Reading) : Type 0 where
+  pub long : length path ≡ 256
+  pub most : n ≤ 256
+  pub count : n ≡ walk (whole d) t p
+  pub is-trail : take n path ≡ trail d c t p
+
+pub record SomeWalked (c : ℕ) (path : List (List ℕ)) (n : ℕ) : Type 0 where
+  pub channels : ℕ
+  pub tree : Tree (whole channels)
+  pub reading : Reading
+  pub walked : Walked channels c path n tree reading
+
+-- THE ARRAYS of a tree or of none: every slot of a branch's row, of a branch's cut and of a leaf's copies
+pub record Arrays (d c : ℕ) (nodes : List (List ℕ)) (cuts : List Float) (copies : List ℕ) (o : Option (Tree (whole d))) : Type 0 where
+  pub rows : nodes ≡ tab 255 (slotIn d c 0 (rowOf d c) noRow o)
+  pub values : cuts ≡ tab 255 (slotIn d c 0 (cutOf d c) nought o)
+  pub counts : copies ≡ tab 1024 (countIn d c 0 o)
+
+-- the arrays are those of t, whose ids are each one node's, and whose numbers are in range
+pub record Stored (d c : ℕ) (nodes : List (List ℕ)) (cuts : List Float) (copies : List ℕ) (t : Tree (whole d)) : Type 0 where
+  pub small : c ≤ 256
+  pub arrays : Arrays d c nodes cuts copies (some t)
+  pub apart : (x : ℕ) → sum (whole d) (λ i q n. is (i + c) x) (λ b. is b x) t ≤ 1
+  pub in-range : InRange d c t
+  pub filled : All (whole d) (λ i q n. 0 < n) t
+  pub light : total (whole d) t ≤ 65535
+
+-- and the path is p's walk, which ends in the leaf of that index
+pub record Reached (d c : ℕ) (nodes : List (List ℕ)) (cuts : List Float) (copies : List ℕ) (path : List (List ℕ)) (n index : ℕ) (t : Tree (whole d)) (p : Reading) : Type 0 where
+  pub stored : Stored d c nodes cuts copies t
+  pub walked : Walked d c path n t p
+  pub index-is : index ≡ ending (whole d) t p .index
+
+pub record SomeReached (nodes : List (List ℕ)) (copies : List ℕ) (path : List (List ℕ)) (n index most : ℕ) : Type 0 where
+  pub channels : ℕ
+  pub capacity : ℕ
+  pub cuts : List Float
+  pub tree : Tree (whole channels)
+  pub reading : Reading
+  pub reached : Reached channels capacity nodes cuts copies path n index tree reading
+  pub room : total (whole channels) tree ≤ most
+
+-- A NEW VALUE: below the first k nodes of the path, above the node of height h, with the cut x, the new branch b and the new leaf of that
+-- index may come
+pub record Graft (d c : ℕ) (nodes : List (List ℕ)) (cuts : List Float) (copies : List ℕ) (path : List (List ℕ)) (k b index : ℕ) (cut : Cut) (left : Bool) (n : ℕ) (t : Tree (whole d)) (p : Reading) (h : ℕ) (x : CutOf (whole d)) : Type 0 where
+  pub stored : Stored d c nodes cuts copies t
+  pub walked : Walked d c path n t p
+  pub room : total (whole d) t ≤ 65534
+  pub place : k + h ≡ height (whole d) t p
+  pub fresh : uses d c t b ≡ 0
+  pub small : b < 255
+  pub new : countAt d c t index ≡ 0
+  pub index-small : index < 1024
+  pub channel-small : x .channel < 8
+  pub channel-is : cut .dimension ≡ x .channel
+  pub value-is : cut .value ≡ x .value .value
+  pub left-is : left ≡ below (whole d) x p
+
+pub record SomeGraft (c : ℕ) (nodes : List (List ℕ)) (cuts : List Float) (copies : List ℕ) (path : List (List ℕ)) (k b index : ℕ) (cut : Cut) (left : Bool) : Type 0 where
+  pub channels : ℕ
+  pub rows : ℕ
+  pub tree : Tree (whole channels)
+  pub reading : Reading
+  pub high : ℕ
+  pub drawn : CutOf (whole channels)
+  pub graft : Graft channels c nodes cuts copies path k b index cut left rows tree reading high drawn

@@ -1,0 +1,431 @@
+// The rows, cuts and copies of a cut tree's nodes: the walk of a point, and the edits of a tree written into the arrays that hold it. After nodestore.rs,
+// its boxes left to another crate. A path is lent, as the Rust's vector of node and sibling is.
+ghost use mathlib.Core.Path.{_≡_};
+ghost use mathlib.Core.Bool.{Bool, cond};
+ghost use mathlib.Core.Option.{none, some};
+ghost use mathlib.Core.List.{List};
+ghost use Prim.Native.Nat.{ℕ, _+_, _-_, _<_, _≤_};
+ghost use lib.Dec.{eqb};
+ghost use lib.ListN.{length, getD, set, take, drop};
+ghost use lib.Ieee.{Float};
+ghost use Rattle.boundingbox.specs.Sides.{nought};
+ghost use Rattle.cuttree.specs.Tree.{Tree, leaf, id, ending, addCopy, forget, freed};
+ghost use Rattle.cuttree.specs.Setting.{Cut as CutOf};
+ghost use Rattle.cuttree.specs.Walk.{graft};
+ghost use Rattle.wholetree.specs.Reading.{Reading, sameRow};
+ghost use Rattle.wholetree.specs.Whole.{whole};
+ghost use Rattle.layout.specs.Layout.{noRow, rootOf};
+ghost use Rattle.nodestore.specs.Rows.{field, stepOf, massOver, weigh, heavier, lighter, Climb, redirect, relink, rowFor, leafMass, massAt};
+ghost use Rattle.nodestore.specs.Stored.{Walks, SomeWalks, Walked, SomeWalked, Arrays, Reached, SomeReached, Graft, SomeGraft};
+ghost use Rattle.cut.specs.declared.Cut.{Cut};
+use cut::Cut;
+
+pub fn wide16(x: u16) -> usize
+    ensures { λ r. ⌜ r ≡ x ⌝ }
+{
+    x as usize
+}
+
+fn rows_of(s: &[[u16; 2]]) {}
+
+// A lent path has its 256 rows, which the array's type doesn't tell a proof.
+fn path_length(path: &[[u16; 2]; 256])
+    ensures { λ _. ⌜ length (now (path .entry)) ≡ 256 ⌝ }
+{
+    rows_of(path);
+}
+
+// The side that the point goes to, and the other.
+fn step_at(nodes: &[[u16; 4]; 255], cuts: &[f32; 255], point: &[f32; 8], i: usize) -> [u16; 2]
+    requires { ⌜ i < 255 ⌝ }
+    requires { ⌜ field (now nodes) i 3 < 8 ⌝ }
+    ensures { λ r. ⌜ r ≡ stepOf (now (nodes .entry)) (now (cuts .entry)) (now (point .entry)) i ⌝ }
+{
+    let d = wide16(nodes[i][3]);
+    if point[d] <= cuts[i] {
+        [nodes[i][0], nodes[i][1]]
+    } else {
+        [nodes[i][1], nodes[i][0]]
+    }
+}
+
+// The nodes from the root to the leaf, each with its sibling; the root has none. The rows after the walk's stay as they are.
+pub fn set_path(
+    nodes: &[[u16; 4]; 255],
+    cuts: &[f32; 255],
+    point: &[f32; 8],
+    root: u16,
+    capacity: u16,
+    path: &mut [[u16; 2]; 256],
+) -> usize
+    requires { ⌜ capacity ≤ 256 ⌝ }
+    requires { ⌜ SomeWalks capacity (now nodes) (now cuts) (now point) root ⌝ }
+    ensures walked { λ r. ⌜ ((d : ℕ) (t : Tree (whole d)) (p : Reading) → Walks d capacity (now (nodes .entry)) (now (cuts .entry)) (now (point .entry)) root t p → Walked d capacity (now (path .exit)) r t p) ⌝ }
+    ensures rest { λ r. ⌜ drop r (now (path .exit)) ≡ drop r (now (path .entry)) ⌝ }
+{
+    path_length(path);
+    path[0] = [root, 65535];
+    let mut n: usize = 1;
+    let mut node = root;
+    while node < capacity {
+        let s = step_at(nodes, cuts, point, wide16(node));
+        path[n] = s;
+        node = s[0];
+        n += 1;
+    }
+    n
+}
+
+fn heavier_by_one(nodes: &mut [[u16; 4]; 255], i: usize)
+    requires { ⌜ i < 255 ⌝ }
+    requires { ⌜ field (now nodes) i 2 ≤ 65534 ⌝ }
+    ensures { λ _. ⌜ now (nodes .exit) ≡ weigh heavier (now (nodes .entry)) i ⌝ }
+{
+    nodes[i][2] = nodes[i][2] + 1;
+}
+
+fn lighter_by_one(nodes: &mut [[u16; 4]; 255], i: usize)
+    requires { ⌜ i < 255 ⌝ }
+    requires { ⌜ 1 ≤ field (now nodes) i 2 ⌝ }
+    ensures { λ _. ⌜ now (nodes .exit) ≡ weigh lighter (now (nodes .entry)) i ⌝ }
+{
+    nodes[i][2] = nodes[i][2] - 1;
+}
+
+// The masses of the first n nodes of the path, from the last to the root.
+fn manage_ancestors_add(nodes: &mut [[u16; 4]; 255], path: &[[u16; 2]; 256], n: usize)
+    requires { ⌜ n ≤ 256 ⌝ }
+    requires { ⌜ length (now path) ≡ 256 ⌝ }
+    requires { ⌜ Climb 0 65534 (now nodes) (take n (now path)) ⌝ }
+    ensures { λ _. ⌜ now (nodes .exit) ≡ massOver heavier (take n (now (path .entry))) (now (nodes .entry)) ⌝ }
+{
+    let mut k = n;
+    while 0 < k {
+        k -= 1;
+        heavier_by_one(nodes, wide16(path[k][0]));
+    }
+}
+
+fn manage_ancestors_delete(nodes: &mut [[u16; 4]; 255], path: &[[u16; 2]; 256], n: usize)
+    requires { ⌜ n ≤ 256 ⌝ }
+    requires { ⌜ length (now path) ≡ 256 ⌝ }
+    requires { ⌜ Climb 1 65535 (now nodes) (take n (now path)) ⌝ }
+    ensures { λ _. ⌜ now (nodes .exit) ≡ massOver lighter (take n (now (path .entry))) (now (nodes .entry)) ⌝ }
+{
+    let mut k = n;
+    while 0 < k {
+        k -= 1;
+        lighter_by_one(nodes, wide16(path[k][0]));
+    }
+}
+
+// The side `old` of the branch a is made `new`.
+fn replace_node(nodes: &mut [[u16; 4]; 255], a: usize, old: u16, new: u16)
+    requires { ⌜ a < 255 ⌝ }
+    ensures { λ _. ⌜ now (nodes .exit) ≡ redirect (now (nodes .entry)) a old new ⌝ }
+{
+    if nodes[a][0] == old {
+        nodes[a][0] = new;
+    } else {
+        nodes[a][1] = new;
+    }
+}
+
+// The node `old` below the first k nodes of the path is made `new`.
+fn relink_at(nodes: &mut [[u16; 4]; 255], path: &[[u16; 2]; 256], k: usize, old: u16, new: u16)
+    requires { ⌜ k ≤ 256 ⌝ }
+    requires { ⌜ (0 < k → field (now path) (k - 1) 0 < 255) ⌝ }
+    ensures { λ _. ⌜ now (nodes .exit) ≡ relink (now (nodes .entry)) (now (path .entry)) k old new ⌝ }
+{
+    if k == 0 {
+        return;
+    }
+    replace_node(nodes, wide16(path[k - 1][0]), old, new);
+}
+
+// The row and the cut of a branch.
+fn put_cell(nodes: &mut [[u16; 4]; 255], cuts: &mut [f32; 255], b: usize, row: [u16; 4], cut: f32)
+    requires { ⌜ b < 255 ⌝ }
+    ensures { λ _. ⌜ now (nodes .exit) ≡ set (now (nodes .entry)) b row ⌝ ∗ ⌜ now (cuts .exit) ≡ set (now (cuts .entry)) b cut ⌝ }
+{
+    nodes[b] = row;
+    cuts[b] = cut;
+}
+
+// The branch b, below the first k nodes of the path, goes; the node s takes its place.
+fn lift(
+    nodes: &mut [[u16; 4]; 255],
+    cuts: &mut [f32; 255],
+    path: &[[u16; 2]; 256],
+    k: usize,
+    b: u16,
+    s: u16,
+)
+    requires { ⌜ b < 255 ⌝ }
+    requires { ⌜ k ≤ 256 ⌝ }
+    requires { ⌜ length (now path) ≡ 256 ⌝ }
+    requires { ⌜ (0 < k → field (now path) (k - 1) 0 < 255) ⌝ }
+    requires { ⌜ Climb 1 65535 (relink (set (now nodes) b noRow) (now path) k b s) (take k (now path)) ⌝ }
+    ensures { λ _. ⌜ now (nodes .exit) ≡ massOver lighter (take k (now (path .entry))) (relink (set (now (nodes .entry)) b noRow) (now (path .entry)) k b s) ⌝ ∗ ⌜ now (cuts .exit) ≡ set (now (cuts .entry)) b nought ⌝ }
+{
+    put_cell(nodes, cuts, wide16(b), [0, 0, 0, 0], 0.0);
+    relink_at(nodes, path, k, b, s);
+    manage_ancestors_delete(nodes, path, k);
+}
+
+// The branch b comes, below the first k nodes of the path and above the node `old`.
+fn insert(
+    nodes: &mut [[u16; 4]; 255],
+    cuts: &mut [f32; 255],
+    path: &[[u16; 2]; 256],
+    k: usize,
+    b: u16,
+    row: [u16; 4],
+    value: f32,
+    old: u16,
+)
+    requires { ⌜ b < 255 ⌝ }
+    requires { ⌜ k ≤ 256 ⌝ }
+    requires { ⌜ length (now path) ≡ 256 ⌝ }
+    requires { ⌜ (0 < k → field (now path) (k - 1) 0 < 255) ⌝ }
+    requires { ⌜ Climb 0 65534 (relink (set (now nodes) b row) (now path) k old b) (take k (now path)) ⌝ }
+    ensures { λ _. ⌜ now (nodes .exit) ≡ massOver heavier (take k (now (path .entry))) (relink (set (now (nodes .entry)) b row) (now (path .entry)) k old b) ⌝ ∗ ⌜ now (cuts .exit) ≡ set (now (cuts .entry)) b value ⌝ }
+{
+    put_cell(nodes, cuts, wide16(b), row, value);
+    relink_at(nodes, path, k, old, b);
+    manage_ancestors_add(nodes, path, k);
+}
+
+// Equal coordinates in all eight channels.
+pub fn same_point(a: &[f32; 8], b: &[f32; 8]) -> bool
+    ensures { λ r. ⌜ r ≡ sameRow (now (a .entry)) (now (b .entry)) ⌝ }
+{
+    let mut i: usize = 0;
+    while i < 8 {
+        if a[i] == b[i] {
+            i += 1;
+        } else {
+            return false;
+        }
+    }
+    true
+}
+
+fn node_at(path: &[[u16; 2]; 256], i: usize) -> u16
+    requires { ⌜ i < 256 ⌝ }
+    ensures { λ r. ⌜ r ≡ field (now (path .entry)) i 0 ⌝ }
+{
+    path[i][0]
+}
+
+fn sibling_at(path: &[[u16; 2]; 256], i: usize) -> u16
+    requires { ⌜ i < 256 ⌝ }
+    ensures { λ r. ⌜ r ≡ field (now (path .entry)) i 1 ⌝ }
+{
+    path[i][1]
+}
+
+fn put_copies(copies: &mut [u16; 1024], index: usize, n: u16)
+    requires { ⌜ index < 1024 ⌝ }
+    ensures { λ _. ⌜ now (copies .exit) ≡ set (now (copies .entry)) index n ⌝ }
+{
+    copies[index] = n;
+}
+
+fn one_more(copies: &mut [u16; 1024], index: usize)
+    requires { ⌜ index < 1024 ⌝ }
+    requires { ⌜ getD (now copies) index 0 ≤ 65534 ⌝ }
+    ensures { λ _. ⌜ now (copies .exit) ≡ set (now (copies .entry)) index (getD (now (copies .entry)) index 0 + 1) ⌝ }
+{
+    copies[index] = copies[index] + 1;
+}
+
+fn one_less(copies: &mut [u16; 1024], index: usize)
+    requires { ⌜ index < 1024 ⌝ }
+    requires { ⌜ 1 ≤ getD (now copies) index 0 ⌝ }
+    ensures { λ _. ⌜ now (copies .exit) ≡ set (now (copies .entry)) index (getD (now (copies .entry)) index 0 - 1) ⌝ }
+{
+    copies[index] = copies[index] - 1;
+}
+
+// The point index of the leaf that the path ends in.
+pub fn leaf_at(path: &[[u16; 2]; 256], n: usize, capacity: u16) -> usize
+    requires { ⌜ SomeWalked capacity (now path) n ⌝ }
+    ensures { λ r. ⌜ ((d : ℕ) (t : Tree (whole d)) (p : Reading) → Walked d capacity (now (path .entry)) n t p → r ≡ ending (whole d) t p .index) ⌝ }
+{
+    wide16(node_at(path, n - 1)) - wide16(capacity)
+}
+
+// One copy more of the leaf that the path ends in.
+pub fn add_copy(
+    nodes: &mut [[u16; 4]; 255],
+    copies: &mut [u16; 1024],
+    path: &[[u16; 2]; 256],
+    n: usize,
+    index: usize,
+)
+    requires { ⌜ SomeReached (now nodes) (now copies) (now path) n index 65534 ⌝ }
+    ensures { λ _. ⌜ ((d c : ℕ) (cuts : List Float) (t : Tree (whole d)) (p : Reading) → Reached d c (now (nodes .entry)) cuts (now (copies .entry)) (now (path .entry)) n index t p
+        → Arrays d c (now (nodes .exit)) cuts (now (copies .exit)) (some (addCopy (whole d) p t))) ⌝ }
+{
+    one_more(copies, index);
+    manage_ancestors_add(nodes, path, n - 1);
+}
+
+// One copy less of that leaf, where copies are left.
+pub fn drop_copy(
+    nodes: &mut [[u16; 4]; 255],
+    copies: &mut [u16; 1024],
+    path: &[[u16; 2]; 256],
+    n: usize,
+    index: usize,
+)
+    requires { ⌜ SomeReached (now nodes) (now copies) (now path) n index 65535 ⌝ }
+    requires { ⌜ 2 ≤ getD (now copies) index 0 ⌝ }
+    ensures { λ _. ⌜ ((d c : ℕ) (cuts : List Float) (t : Tree (whole d)) (p : Reading) → Reached d c (now (nodes .entry)) cuts (now (copies .entry)) (now (path .entry)) n index t p
+        → Arrays d c (now (nodes .exit)) cuts (now (copies .exit)) (forget (whole d) p t) × (freed (whole d) p t ≡ none)) ⌝ }
+{
+    one_less(copies, index);
+    manage_ancestors_delete(nodes, path, n - 1);
+}
+
+// The first leaf of an empty tree.
+pub fn add_root(copies: &mut [u16; 1024], index: usize)
+    requires { ⌜ index < 1024 ⌝ }
+    ensures put { λ _. ⌜ now (copies .exit) ≡ set (now (copies .entry)) index 1 ⌝ }
+    ensures arrays { λ _. ⌜ ((d c : ℕ) (nodes : List (List ℕ)) (cuts : List Float) (p : Reading) → Arrays d c nodes cuts (now (copies .entry)) none
+        → Arrays d c nodes cuts (now (copies .exit)) (some (leaf index p 1))) ⌝ }
+{
+    put_copies(copies, index, 1);
+}
+
+// The last copy of a lone leaf.
+pub fn remove_root(copies: &mut [u16; 1024], index: usize)
+    requires { ⌜ index < 1024 ⌝ }
+    requires { ⌜ getD (now copies) index 0 ≡ 1 ⌝ }
+    ensures put { λ _. ⌜ now (copies .exit) ≡ set (now (copies .entry)) index 0 ⌝ }
+    ensures arrays { λ _. ⌜ ((d c : ℕ) (nodes : List (List ℕ)) (cuts : List Float) (path : List (List ℕ)) (t : Tree (whole d)) (p : Reading) → Reached d c nodes cuts (now (copies .entry)) path 1 index t p
+        → Arrays d c nodes cuts (now (copies .exit)) (forget (whole d) p t) × (freed (whole d) p t ≡ none)) ⌝ }
+{
+    put_copies(copies, index, 0);
+}
+
+// The last copy of a leaf below a branch: the sibling takes the branch's place. The number of that branch, which is free again.
+pub fn remove_leaf(
+    nodes: &mut [[u16; 4]; 255],
+    cuts: &mut [f32; 255],
+    copies: &mut [u16; 1024],
+    path: &[[u16; 2]; 256],
+    n: usize,
+    index: usize,
+) -> u16
+    requires { ⌜ SomeReached (now nodes) (now copies) (now path) n index 65535 ⌝ }
+    requires { ⌜ getD (now copies) index 0 ≡ 1 ⌝ }
+    requires { ⌜ 2 ≤ n ⌝ }
+    ensures { λ r. ⌜ ((d c : ℕ) (t : Tree (whole d)) (p : Reading) → Reached d c (now (nodes .entry)) (now (cuts .entry)) (now (copies .entry)) (now (path .entry)) n index t p
+        → Arrays d c (now (nodes .exit)) (now (cuts .exit)) (now (copies .exit)) (forget (whole d) p t) × (freed (whole d) p t ≡ some r)) ⌝ }
+{
+    let b = node_at(path, n - 2);
+    let s = sibling_at(path, n - 1);
+    put_copies(copies, index, 0);
+    lift(nodes, cuts, path, n - 2, b, s);
+    b
+}
+
+// The root's id where the node below k others is made `new`.
+fn root_of(root: u16, k: usize, new: u16) -> u16
+    ensures { λ r. ⌜ r ≡ cond (eqb k 0) new root ⌝ }
+{
+    if k == 0 {
+        return new;
+    }
+    root
+}
+
+// The id of the root after that: the sibling's where the branch was the root.
+pub fn lifted_root(root: u16, path: &[[u16; 2]; 256], n: usize) -> u16
+    requires { ⌜ 2 ≤ n ⌝ }
+    requires { ⌜ n ≤ 256 ⌝ }
+    ensures is { λ r. ⌜ r ≡ cond (eqb (n - 2) 0) (field (now (path .entry)) (n - 1) 1) root ⌝ }
+    ensures root { λ r. ⌜ ((d c : ℕ) (nodes : List (List ℕ)) (cuts : List Float) (copies : List ℕ) (index : ℕ) (t : Tree (whole d)) (p : Reading) → Reached d c nodes cuts copies (now (path .entry)) n index t p
+        → getD copies index 0 ≡ 1 → root ≡ id (whole d) c t → r ≡ rootOf d c 0 (forget (whole d) p t)) ⌝ }
+{
+    root_of(root, n - 2, sibling_at(path, n - 1))
+}
+
+// The mass of a leaf of k copies.
+fn leaf_mass(k: u16) -> u16
+    requires { ⌜ 1 ≤ k ⌝ }
+    ensures { λ r. ⌜ r ≡ leafMass k ⌝ }
+{
+    if k == 1 {
+        return 1;
+    }
+    k - 1
+}
+
+// The mass of the node of an id.
+fn mass_of(nodes: &[[u16; 4]; 255], copies: &[u16; 1024], node: u16, capacity: u16) -> u16
+    requires { ⌜ (node < capacity → node < 255) ⌝ }
+    requires { ⌜ node - capacity < 1024 ⌝ }
+    requires { ⌜ (capacity ≤ node → 1 ≤ getD (now copies) (node - capacity) 0) ⌝ }
+    ensures { λ r. ⌜ r ≡ massAt capacity (now (nodes .entry)) (now (copies .entry)) node ⌝ }
+{
+    if node < capacity {
+        return nodes[wide16(node)][2];
+    }
+    leaf_mass(copies[wide16(node) - wide16(capacity)])
+}
+
+fn leaf_id(index: usize, capacity: u16) -> u16
+    requires { ⌜ index < 1024 ⌝ }
+    requires { ⌜ capacity ≤ 256 ⌝ }
+    ensures { λ r. ⌜ r ≡ index + capacity ⌝ }
+{
+    (index as u16) + capacity
+}
+
+// The row of a new branch over `old`, with the leaf `new` on its side of the cut.
+fn row_for(left: bool, new: u16, old: u16, mass: u16, dimension: usize) -> [u16; 4]
+    requires { ⌜ mass ≤ 65534 ⌝ }
+    requires { ⌜ dimension < 8 ⌝ }
+    ensures { λ r. ⌜ r ≡ rowFor left new old mass dimension ⌝ }
+{
+    if left {
+        return [new, old, mass + 1, dimension as u16];
+    }
+    [old, new, mass + 1, dimension as u16]
+}
+
+// A new value: its leaf, and the branch b above the node below the first k of the path, with the cut given.
+pub fn place_branch(
+    nodes: &mut [[u16; 4]; 255],
+    cuts: &mut [f32; 255],
+    copies: &mut [u16; 1024],
+    path: &[[u16; 2]; 256],
+    k: usize,
+    b: u16,
+    index: usize,
+    cut: Cut,
+    left: bool,
+    capacity: u16,
+)
+    requires { ⌜ SomeGraft capacity (now nodes) (now cuts) (now copies) (now path) k b index cut left ⌝ }
+    ensures { λ _. ⌜ ((d n : ℕ) (t : Tree (whole d)) (p : Reading) (h : ℕ) (x : CutOf (whole d)) → Graft d capacity (now (nodes .entry)) (now (cuts .entry)) (now (copies .entry)) (now (path .entry)) k b index cut left n t p h x
+        → Arrays d capacity (now (nodes .exit)) (now (cuts .exit)) (now (copies .exit)) (some (graft (whole d) b index p (h, x) t))) ⌝ }
+{
+    let old = node_at(path, k);
+    let m = mass_of(nodes, copies, old, capacity);
+    let row = row_for(left, leaf_id(index, capacity), old, m, cut.dimension);
+    put_copies(copies, index, 1);
+    insert(nodes, cuts, path, k, b, row, cut.value, old);
+}
+
+// The id of the root after that: the new branch's where nothing is above it.
+pub fn placed_root(root: u16, k: usize, b: u16) -> u16
+    ensures is { λ r. ⌜ r ≡ cond (eqb k 0) b root ⌝ }
+    ensures root { λ r. ⌜ ((d c : ℕ) (nodes : List (List ℕ)) (cuts : List Float) (copies : List ℕ) (path : List (List ℕ)) (index : ℕ) (cut : Cut) (left : Bool) (n : ℕ) (t : Tree (whole d)) (p : Reading) (h : ℕ) (x : CutOf (whole d))
+        → Graft d c nodes cuts copies path k b index cut left n t p h x → root ≡ id (whole d) c t → r ≡ id (whole d) c (graft (whole d) b index p (h, x) t)) ⌝ }
+{
+    root_of(root, k, b)
+}

@@ -1,0 +1,138 @@
+-- A state whose tree is not empty: what the functions on rows and on boxes are told of it. Assumes nothing.
+use mathlib.Core.Path.{_≡_, refl, ap, _∙_, subst}
+use mathlib.Core.Bool.{Bool, true, false, cond}
+use mathlib.Core.Option.{Option, some}
+use mathlib.Core.List.{List, []}
+use Prim.Native.Nat.{ℕ, _+_, _-_, _≤_}
+use native.Mathlib.Omega.{arith}
+use lib.Dec.{ltb}
+use lib.ListN.{getD}
+use lib.Ieee.{Float, nan}
+use Rattle.boundingbox.specs.Padding.{Padded}
+use Rattle.cuttree.specs.Tree.{Tree, leaf, branch, is, id, sum, All, OfTree, leaves}
+use Rattle.cuttree.specs.Run.{World}
+use Rattle.cuttree.specs.Sound.{Sound}
+use Rattle.cuttree.proofs.Nodes.{In, here, left, right, in-trans, nodes-one}
+use Rattle.cuttree.proofs.Leaves.{leaves-branches, all-map}
+use Rattle.cuttree.proofs.Room.{uses-in, number-below, index-below}
+use Rattle.wholetree.specs.Reading.{Reading}
+use Rattle.wholetree.specs.Whole.{whole, tab}
+use Rattle.wholetree.proofs.Laws.{whole-laws}
+use Rattle.boundingbox.specs.Sides.{nought}
+use Rattle.layout.specs.Slots.{slot, rowOf, cutOf, lowOf, highOf}
+use Rattle.layout.specs.Layout.{noRow, rootOf, slotIn, countIn, boxIn, pointRow, tableOf, Table}
+use Rattle.layout.specs.Stands.{Laid, Once, InRange}
+use Rattle.layout.proofs.Tabs.{entry-of}
+use Rattle.layout.proofs.Slots.{tab-laid, tab-boxes}
+use Rattle.nodestore.specs.Stored.{Stored, Walks}
+use Rattle.boxstore.specs.Boxed.{Linked, Boxed}
+use Rattle.randomcuttree.specs.declared.RCFTree.{RCFTree}
+use Rattle.randomcuttree.specs.State.{InRow, Reachable, Lent, State}
+
+module _ (d c k : ℕ) (W : World (whole d)) (R : Reachable d c k W) (t : Tree (whole d)) (T : W .tree ≡ some t) where
+  pub sound : Sound (whole d) c (record { table = W .table; tree = some t; free = W .free })
+  sound = subst (λ (o : Option (Tree (whole d))). Sound (whole d) c (record { table = W .table; tree = o; free = W .free })) T (R .sound)
+
+  in-row : InRow d t
+  in-row = subst (OfTree (whole d) (InRow d)) T (R .in-row)
+
+  row-in : {u s : Tree (whole d)} → In (whole d) u s → InRow d s → InRow d u
+  row-in here h = h
+  row-in (left i) h = row-in i (h .1)
+  row-in (right i) h = row-in i (h .2)
+
+  range-in : (u : Tree (whole d)) → In (whole d) u t → InRange d c u
+  range-in (leaf i q n) h = index-below (whole d) c (whole-laws d) (W .table) t (W .free) sound h
+  range-in (branch b x g l r) h = (
+    omega (arith, number-below (whole d) c (whole-laws d) (W .table) t (W .free) sound b (uses-in (whole d) h)),
+    row-in h in-row .0,
+    range-in l (in-trans (whole d) (left here) h),
+    range-in r (in-trans (whole d) (right here) h),
+  )
+
+  pub in-range : InRange d c t
+  in-range = range-in t here
+
+  pub apart : (x : ℕ) → sum (whole d) (λ i q n. is (i + c) x) (λ b. is b x) t ≤ 1
+  apart = nodes-one (whole d) c (whole-laws d) (W .table) t (W .free) sound
+
+  pub once : Once d c t
+  once j = omega (arith, sound .numbers j, at-most (ltb j (c - 1)))
+    where
+      at-most : (b : Bool) → cond {A = ℕ} b 1 0 ≤ 1
+      at-most true = omega arith
+      at-most false = omega arith
+
+  pub few : 2 ≤ c → leaves (whole d) t ≤ c
+  few h = omega (arith, leaves-branches (whole d) t, sound .fits)
+
+  pub narrow : All (whole d) (λ i q n. Padded (q .row) d 8) t
+  narrow = all-map (whole d) _ _ t (λ i q n e. R .narrow i q e) (sound .agree)
+
+  -- the points of the table
+  module _ (points : List (List Float)) (marks : List ℕ) (E : record { points = points; written = marks } ≡ tableOf (W .table)) where
+    pub point-at : (i : ℕ) (q : Reading) → W .table i ≡ some q → getD points i [] ≡ q .row
+    point-at i q e = entry-of 1024 (λ (j : ℕ). pointRow (W .table j)) points (ap (λ (x : Table). x .points) E) [] i (R .sound .inside i q e) ∙ ap pointRow e
+
+    pub leaves-stand : All (whole d) (λ i q n. getD points i [] ≡ q .row) t
+    leaves-stand = all-map (whole d) _ _ t (λ i q n e. point-at i q e) (sound .agree)
+
+pub linked : (d c : ℕ) (nodes : List (List ℕ)) (t : Tree (whole d)) → Laid d c (rowOf d c) (λ (j : ℕ). getD nodes j []) t → Linked d c nodes t
+linked d c nodes (leaf i q n) h = tt
+linked d c nodes (branch b x g l r) h = (ap (λ (y : List ℕ). getD y 0 0) (h .0), ap (λ (y : List ℕ). getD y 1 0) (h .0), linked d c nodes l (h .1), linked d c nodes r (h .2))
+
+module _ (d c k : ℕ) (W : World (whole d)) (tree : RCFTree) (a : Lent) (points : List (List Float)) (marks : List ℕ) (H : State d c k W tree a points marks) (t : Tree (whole d)) (T : W .tree ≡ some t) where
+  abbrev R : Reachable d c k W
+  R = H .reachable
+
+  rows-are : a .nodes ≡ tab 255 (slot d c (rowOf d c) noRow t)
+  rows-are = H .nodes-are ∙ ap (λ (o : Option (Tree (whole d))). tab 255 (slotIn d c k (rowOf d c) noRow o)) T
+
+  values-are : a .cuts ≡ tab 255 (slot d c (cutOf d c) nought t)
+  values-are = H .cuts-are ∙ ap (λ (o : Option (Tree (whole d))). tab 255 (slotIn d c k (cutOf d c) nought o)) T
+
+  pub lows-of : a .lows ≡ tab 255 (boxIn d c k (lowOf d c) (some t))
+  lows-of = H .lows-are ∙ ap (λ (o : Option (Tree (whole d))). tab 255 (boxIn d c k (lowOf d c) o)) T
+
+  pub highs-of : a .highs ≡ tab 255 (boxIn d c k (highOf d c) (some t))
+  highs-of = H .highs-are ∙ ap (λ (o : Option (Tree (whole d))). tab 255 (boxIn d c k (highOf d c) o)) T
+
+  rows-laid : Laid d c (rowOf d c) (λ (j : ℕ). getD (a .nodes) j []) t
+  rows-laid = tab-laid d c (rowOf d c) noRow [] (a .nodes) t (H .limits .3) rows-are (once d c k W R t T) (in-range d c k W R t T)
+
+  values-laid : Laid d c (cutOf d c) (λ (j : ℕ). getD (a .cuts) j nan) t
+  values-laid = tab-laid d c (cutOf d c) nought nan (a .cuts) t (H .limits .3) values-are (once d c k W R t T) (in-range d c k W R t T)
+
+  pub stored : Stored d c (a .nodes) (a .cuts) (a .copies) t
+  stored = record {
+    small = H .limits .3;
+    arrays = record { rows = rows-are; values = values-are; counts = H .copies-are ∙ ap (λ (o : Option (Tree (whole d))). tab 1024 (countIn d c k o)) T };
+    apart = apart d c k W R t T;
+    in-range = in-range d c k W R t T;
+    filled = sound d c k W R t T .filled;
+    light = sound d c k W R t T .light;
+  }
+
+  pub root-of : tree .root ≡ id (whole d) c t
+  root-of = H .root-is ∙ ap (rootOf d c k) T
+
+  pub walks : (p : Reading) → Walks d c (a .nodes) (a .cuts) (p .row) (tree .root) t p
+  walks p = record {
+    rows = rows-laid;
+    values = values-laid;
+    in-range = in-range d c k W R t T;
+    few = few d c k W R t T (H .limits .2);
+    root-is = root-of;
+    point-is = refl;
+  }
+
+  pub boxed : Boxed d c k (a .nodes) points (a .lows) (a .highs) t
+  boxed = record {
+    links = linked d c (a .nodes) t rows-laid;
+    leaves = leaves-stand d c k W R t T points marks (H .table-is);
+    in-range = in-range d c k W R t T;
+    cached = record {
+      low = tab-boxes d c k (lowOf d c) (a .lows) t (H .limits .3) lows-of (once d c k W R t T) (in-range d c k W R t T);
+      high = tab-boxes d c k (highOf d c) (a .highs) t (H .limits .3) highs-of (once d c k W R t T) (in-range d c k W R t T);
+    };
+  }

@@ -1,0 +1,12 @@
+pub mod Reaches
+pub mod Given
+pub mod Manager
+pub mod Removes
+pub mod Enterings
+pub mod Makings
+pub mod Lookups
+pub mod Boxings
+pub mod Told
+pub mod Calls
+pub mod Deletes
+pub mod Adds

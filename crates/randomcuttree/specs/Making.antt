@@ -1,0 +1,74 @@
+-- What a making answers, in document 01's numbers, and the arrays that it leaves. Definitions.
+use mathlib.Core.Path.{_≡_}
+use mathlib.Core.Bool.{Bool, cond, _&&_}
+use mathlib.Core.Option.{none}
+use mathlib.Core.List.{List}
+use Prim.Native.Nat.{ℕ, _-_, min}
+use lib.Dec.{leb}
+use lib.ListN.{length, replicate}
+use lib.Ieee.{Float}
+use Rattle.readings.specs.Share.{isShare, cachedPart}
+use Rattle.boundingbox.specs.Sides.{nought}
+use Rattle.intervalstoremanager.specs.Stack as Stack
+use Rattle.intervalstoremanager.specs.Rows as Rows
+use Rattle.cuttree.specs.Run.{fresh}
+use Rattle.wholetree.specs.Whole.{whole}
+use Rattle.layout.specs.Layout.{noRow, noEnds, tableOf}
+use Rattle.randomcuttree.specs.declared.RCFTree.{RCFTree}
+use Rattle.randomcuttree.specs.declared.Made.{Made}
+use Rattle.randomcuttree.specs.declared.Made.the-variants as Variants
+use Rattle.randomcuttree.specs.State.{Lent, State}
+
+-- '1 to 8 channels'; 'Capacity c is 2 to 256'
+abbrev pub channelsTaken : ℕ → Bool
+channelsTaken d = leb 1 d && leb d 8
+
+abbrev pub capacityTaken : ℕ → Bool
+capacityTaken c = leb 2 c && leb c 256
+
+-- 'Branches below the whole part of share × c are cached': there are c − 1 branches at most
+abbrev pub cachedBy : Float → ℕ → ℕ
+cachedBy s c = min (cachedPart s c) (c - 1)
+
+-- the header of an empty tree, all its branch numbers free
+abbrev pub emptyTree : ℕ → ℕ → ℕ → RCFTree
+emptyTree d c k = record {
+  dimensions = d;
+  capacity = c;
+  cached = k;
+  root = c - 1;
+  total = 0;
+  manager = record { capacity = c - 1; «last_in_use» = length (Stack.fresh (c - 1)) };
+}
+
+-- 'make: 1 channels; 2 capacity; 3 cached share: outside its range or NaN', in this order; else the header
+unfoldable pub madeBy : ℕ → ℕ → Float → Made
+madeBy d c s =
+    cond (channelsTaken d)
+    (cond (capacityTaken c)
+    (cond (isShare s) (Variants.Tree (emptyTree d c (cachedBy s c))) (Variants.NotMade 3))
+    (Variants.NotMade 2))
+    (Variants.NotMade 1)
+
+-- the arrays of an empty tree
+abbrev pub cleared : ℕ → Lent
+cleared c = record {
+  nodes = replicate 255 noRow;
+  cuts = replicate 255 nought;
+  copies = replicate 1024 0;
+  free = Rows.layout (Stack.fresh (c - 1));
+  lows = replicate 255 noEnds;
+  highs = replicate 255 noEnds;
+}
+
+-- the arrays after a making: a refused one writes nothing
+unfoldable pub lentBy : ℕ → ℕ → Float → Lent → Lent
+lentBy d c s a = cond (channelsTaken d && (capacityTaken c && isShare s)) (cleared c) a
+
+-- What a making gives and leaves. A tree that is made stands, with an unwritten table, for document 01's 'tree fresh from an accepted
+-- making and a table with nothing written'.
+pub record MakeDone (d c : ℕ) (s : Float) (before after : Lent) (r : Made) : Type 0 where
+  pub answer : r ≡ madeBy d c s
+  pub arrays : after ≡ lentBy d c s before
+  pub state : (tree : RCFTree) → r ≡ Variants.Tree tree → (points : List (List Float)) (marks : List ℕ)
+      → record { points = points; written = marks } ≡ tableOf (λ i. none) → State d c (cachedBy s c) (fresh (whole d) c) tree after points marks

@@ -1,0 +1,83 @@
+-- What the queries answer, in document 01's number and values, of any world that the lent arrays are those of. Definitions.
+use mathlib.Core.Path.{_≡_}
+use mathlib.Core.List.{List}
+use Prim.Native.Nat.{ℕ}
+use lib.Ieee.{Float}
+use Rattle.cuttree.specs.Run.{World, Row, Answer, refused, written, added, deleted, copiesAre, branchIs, boxIs, numberOf, copiesOf, branchOf, boxOf, ask}
+use Rattle.wholetree.specs.Whole.{whole, ends}
+use Rattle.layout.specs.Layout.{noEnds}
+use Rattle.randomcuttree.specs.declared.RCFTree.{RCFTree}
+use Rattle.randomcuttree.specs.declared.BranchRow.{BranchRow}
+use Rattle.randomcuttree.specs.declared.CopiesAnswer.{CopiesAnswer}
+use Rattle.randomcuttree.specs.declared.CopiesAnswer.the-variants.{Copies, NoLeaf}
+use Rattle.randomcuttree.specs.declared.BranchAnswer.{BranchAnswer}
+use Rattle.randomcuttree.specs.declared.BranchAnswer.the-variants.{Branch, NoBranch}
+use Rattle.randomcuttree.specs.declared.BoxAnswer.{BoxAnswer}
+use Rattle.randomcuttree.specs.State.{Lent, State, SomeState}
+
+-- 'copies of a leaf', or the refusal's number. A copies query has no other answer.
+abbrev pub copiesSay : (d : ℕ) → Answer (whole d) → CopiesAnswer
+copiesSay d (refused r) = NoLeaf (numberOf r)
+copiesSay d (copiesAre n) = Copies n
+copiesSay d written = NoLeaf 0
+copiesSay d (added j n) = NoLeaf 0
+copiesSay d (deleted j) = NoLeaf 0
+copiesSay d (branchIs r) = NoLeaf 0
+copiesSay d (boxIs b) = NoLeaf 0
+
+-- 'a branch's channel, cut, children, mass'
+abbrev pub rowSays : (d : ℕ) → Row (whole d) → BranchRow
+rowSays d r = record { cut = record { dimension = r .cut .channel; value = r .cut .value .value }; left = r .left; right = r .right; mass = r .mass }
+
+-- a branch's row, or the refusal's number. A branch query has no other answer.
+abbrev pub branchSays : (d : ℕ) → Answer (whole d) → BranchAnswer
+branchSays d (refused r) = NoBranch (numberOf r)
+branchSays d (branchIs r) = Branch (rowSays d r)
+branchSays d written = NoBranch 0
+branchSays d (added j n) = NoBranch 0
+branchSays d (deleted j) = NoBranch 0
+branchSays d (copiesAre n) = NoBranch 0
+branchSays d (boxIs b) = NoBranch 0
+
+-- an answer with no box in it: the number, and a box of zeros
+abbrev pub noBox : ℕ → BoxAnswer
+noBox n = record { refusal = n; «bounding_box» = record { «min_values» = noEnds; «max_values» = noEnds } }
+
+-- 'and box': its ends, with 0 for a number; or the refusal's number. A box query has no other answer.
+abbrev pub boxSays : (d : ℕ) → Answer (whole d) → BoxAnswer
+boxSays d (refused r) = noBox (numberOf r)
+boxSays d (boxIs b) = record { refusal = 0; «bounding_box» = record { «min_values» = ends (b .lower); «max_values» = ends (b .upper) } }
+boxSays d written = noBox 0
+boxSays d (added j n) = noBox 0
+boxSays d (deleted j) = noBox 0
+boxSays d (copiesAre n) = noBox 0
+boxSays d (branchIs r) = noBox 0
+
+-- What a query gives, of the arrays that it reads: the answer of each world whose header and arrays these are.
+abbrev pub CopiesTold : RCFTree → List ℕ → ℕ → CopiesAnswer → Type 0
+CopiesTold tree copies x r =
+    (d c k : ℕ) (W : World (whole d)) (a : Lent) (points : List (List Float)) (marks : List ℕ) → State d c k W tree a points marks
+    → a .copies ≡ copies → r ≡ copiesSay d (ask (whole d) c W (copiesOf x))
+
+abbrev pub BranchTold : RCFTree → List (List ℕ) → List Float → ℕ → BranchAnswer → Type 0
+BranchTold tree nodes cuts x r =
+    (d c k : ℕ) (W : World (whole d)) (a : Lent) (points : List (List Float)) (marks : List ℕ) → State d c k W tree a points marks
+    → a .nodes ≡ nodes → a .cuts ≡ cuts → r ≡ branchSays d (ask (whole d) c W (branchOf x))
+
+-- the arrays that a box is read from
+pub record BoxRead (a : Lent) (nodes : List (List ℕ)) (lows highs : List (List Float)) : Type 0 where
+  pub nodes-are : a .nodes ≡ nodes
+  pub lows-are : a .lows ≡ lows
+  pub highs-are : a .highs ≡ highs
+
+abbrev pub BoxTold : RCFTree → List (List ℕ) → List (List Float) → List (List Float) → List (List Float) → ℕ → BoxAnswer → Type 0
+BoxTold tree nodes points lows highs x r =
+    (d c k : ℕ) (W : World (whole d)) (a : Lent) (marks : List ℕ) → State d c k W tree a points marks
+    → BoxRead a nodes lows highs → r ≡ boxSays d (ask (whole d) c W (boxOf x))
+
+-- What a box query asks of its caller: that the header and these arrays are part of a state that a making and its calls leave.
+pub record SomeBoxRead (tree : RCFTree) (nodes : List (List ℕ)) (points lows highs : List (List Float)) : Type 0 where
+  pub lent : Lent
+  pub marks : List ℕ
+  pub read : BoxRead lent nodes lows highs
+  pub state : SomeState tree lent points marks

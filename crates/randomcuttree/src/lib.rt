@@ -1,0 +1,576 @@
+// A random cut tree on readings fed in (randomcuttree.rs): making, adding, deleting and the queries. Its arrays are lent; the header goes in and comes back by value.
+use boundingbox::BoundingBox;
+use cut::Cut;
+use intervalstoremanager::Got;
+use intervalstoremanager::IntervalStoreManager;
+use intervalstoremanager::Released;
+ghost use mathlib.Core.Path.{_≡_};
+ghost use mathlib.Core.Bool.{_&&_};
+ghost use mathlib.Core.List.{List, []};
+ghost use Prim.Native.Nat.{ℕ, _≤_, _<_, min};
+ghost use lib.Dec.{leb};
+ghost use lib.ListN.{getD, replicate};
+ghost use Rattle.readings.specs.Share.{cachedPart};
+ghost use Rattle.boundingbox.specs.Sides.{nought};
+ghost use Rattle.intervalstoremanager.specs.Rows as Rows;
+ghost use Rattle.intervalstoremanager.specs.Stack.{afterRelease, holds, Proper, Once};
+ghost use Rattle.layout.specs.Layout.{noRow, noEnds};
+ghost use Rattle.randomcuttree.specs.State.{managerOf, lent, headed, SomeState};
+ghost use Rattle.randomcuttree.specs.Answers.{AddDone, DeleteDone};
+ghost use Rattle.randomcuttree.specs.Edits.{SomeHeld, Forgets};
+ghost use Rattle.randomcuttree.specs.Enters.{SomeEntering, Enters};
+ghost use Rattle.randomcuttree.specs.Making.{MakeDone};
+ghost use Rattle.randomcuttree.specs.Queries.{CopiesTold, BranchTold, BoxTold, SomeBoxRead, noBox};
+
+// The header of a tree. The arrays beside it hold the branches' rows and cuts, the leaves' copies, the free branch numbers and the cached boxes.
+pub struct RCFTree {
+    pub dimensions: usize,
+    pub capacity: u16,
+    pub cached: usize,
+    pub root: u16,
+    pub total: usize,
+    pub manager: IntervalStoreManager,
+}
+
+// What an add answers: the header after it, the leaf's point index and the words taken; or document 01's number, and the header is as it was.
+pub enum AddAnswer {
+    Added(RCFTree, usize, usize),
+    NotAdded(u8),
+}
+
+// What a delete answers: the header after it and the leaf's point index; or document 01's number, and the header is as it was.
+pub enum DeleteAnswer {
+    Deleted(RCFTree, usize),
+    NotDeleted(u8),
+}
+
+// What a making answers: the header of an empty tree, or document 01's number.
+pub enum Made {
+    Tree(RCFTree),
+    NotMade(u8),
+}
+
+// A leaf's copies, or document 01's number.
+pub enum CopiesAnswer {
+    Copies(usize),
+    NoLeaf(u8),
+}
+
+// What is told of a branch: its cut, the ids of its sides and its mass.
+pub struct BranchRow {
+    pub cut: Cut,
+    pub left: usize,
+    pub right: usize,
+    pub mass: usize,
+}
+
+// A branch's row, or document 01's number.
+pub enum BranchAnswer {
+    Branch(BranchRow),
+    NoBranch(u8),
+}
+
+// A branch's box, with 0 for the refusal; or document 01's number, and a box of zeros. An enum cannot hold the ends.
+pub struct BoxAnswer {
+    pub refusal: u8,
+    pub bounding_box: BoundingBox,
+}
+
+fn wide(x: u16) -> usize
+    ensures { λ r. ⌜ r ≡ x ⌝ }
+{
+    x as usize
+}
+
+fn within(x: usize, low: usize, high: usize) -> bool
+    ensures { λ r. ⌜ r ≡ (leb low x && leb x high) ⌝ }
+{
+    (low <= x) & (x <= high)
+}
+
+// How many branches are cached: the share's part of the capacity, or all where there are fewer.
+fn cached_of(share: f64, capacity: u16, branches: usize) -> usize
+    ensures { λ r. ⌜ r ≡ min (cachedPart share capacity) branches ⌝ }
+{
+    let part = readings::cached_part(share, capacity);
+    if part < branches {
+        return part;
+    }
+    branches
+}
+
+// Clears what a tree keeps of its branches and leaves.
+fn clear(
+    nodes: &mut [[u16; 4]; 255],
+    cuts: &mut [f32; 255],
+    copies: &mut [u16; 1024],
+    lows: &mut [[f32; 8]; 255],
+    highs: &mut [[f32; 8]; 255],
+)
+    ensures rows { λ _. ⌜ now (nodes .exit) ≡ replicate 255 noRow ⌝ }
+    ensures values { λ _. ⌜ now (cuts .exit) ≡ replicate 255 nought ⌝ }
+    ensures counts { λ _. ⌜ now (copies .exit) ≡ replicate 1024 0 ⌝ }
+    ensures lower { λ _. ⌜ now (lows .exit) ≡ replicate 255 noEnds ⌝ }
+    ensures upper { λ _. ⌜ now (highs .exit) ≡ replicate 255 noEnds ⌝ }
+{
+    *nodes = [[0; 4]; 255];
+    *cuts = [0.0; 255];
+    *copies = [0; 1024];
+    *lows = [[0.0; 8]; 255];
+    *highs = [[0.0; 8]; 255];
+}
+
+// The mass in a branch's row. A branch has one of at least 1, and a row of no branch is zero.
+fn mass_at(nodes: &[[u16; 4]; 255], node: usize) -> usize
+    requires { ⌜ node < 255 ⌝ }
+    ensures { λ r. ⌜ r ≡ getD (getD (now (nodes .entry)) node []) 2 0 ⌝ }
+{
+    wide(nodes[node][2])
+}
+
+// Document 01's 16, with no box.
+fn no_box() -> BoxAnswer
+    ensures { λ r. ⌜ r ≡ noBox 16 ⌝ }
+{
+    BoxAnswer {
+        refusal: 16,
+        bounding_box: BoundingBox {
+            min_values: [0.0; 8],
+            max_values: [0.0; 8],
+        },
+    }
+}
+
+// A branch number put back. A stack of numbers below 255, each free once at most, always has a row for it.
+fn put_back(
+    manager: IntervalStoreManager,
+    free: &mut [[u16; 2]; 255],
+    b: u16,
+) -> IntervalStoreManager
+    ensures { λ r. ⌜ ((u : List (ℕ × ℕ)) → manager ≡ managerOf (manager .capacity) u → now (free .entry) ≡ Rows.layout u → manager .capacity ≤ 255 → Proper (manager .capacity) u → Once u → b < manager .capacity → holds u b ≡ 0
+        → (r ≡ managerOf (manager .capacity) (afterRelease u b)) × (now (free .exit) ≡ Rows.layout (afterRelease u b))) ⌝ }
+{
+    let released = manager.release(free, b);
+    match released {
+        Released::Done(next) => next,
+        Released::Full => manager,
+    }
+}
+
+// The header with another root, total and manager.
+fn headed_by(tree: RCFTree, root: u16, total: usize, manager: IntervalStoreManager) -> RCFTree
+    ensures { λ r. ⌜ r ≡ headed tree root total manager ⌝ }
+{
+    RCFTree {
+        dimensions: tree.dimensions,
+        capacity: tree.capacity,
+        cached: tree.cached,
+        root,
+        total,
+        manager,
+    }
+}
+
+// The last copy of a leaf below a branch: the sibling takes the branch's place, the branch's number is free again, and the boxes above are repaired.
+fn remove_last(
+    tree: RCFTree,
+    nodes: &mut [[u16; 4]; 255],
+    cuts: &mut [f32; 255],
+    copies: &mut [u16; 1024],
+    free: &mut [[u16; 2]; 255],
+    lows: &mut [[f32; 8]; 255],
+    highs: &mut [[f32; 8]; 255],
+    points: &[[f32; 8]; 1024],
+    path: &[[u16; 2]; 256],
+    n: usize,
+    leaf: usize,
+    point: &[f32; 8],
+) -> RCFTree
+    requires held { ⌜ SomeHeld tree (lent (now nodes) (now cuts) (now copies) (now free) (now lows) (now highs)) (now points) (now path) n leaf (now point) ⌝ }
+    requires last { ⌜ getD (now copies) leaf 0 ≤ 1 ⌝ }
+    requires below { ⌜ 2 ≤ n ⌝ }
+    ensures { λ r. ⌜ Forgets tree (lent (now (nodes .entry)) (now (cuts .entry)) (now (copies .entry)) (now (free .entry)) (now (lows .entry)) (now (highs .entry))) (now (points .entry)) (now (path .entry)) n leaf (now (point .entry)) r (lent (now (nodes .exit)) (now (cuts .exit)) (now (copies .exit)) (now (free .exit)) (now (lows .exit)) (now (highs .exit))) ⌝ }
+{
+    let root = nodestore::lifted_root(tree.root, path, n);
+    let b = nodestore::remove_leaf(nodes, cuts, copies, path, n, leaf);
+    let manager = put_back(tree.manager, free, b);
+    boxstore::clear_box(lows, highs, wide(b), tree.cached);
+    boxstore::repair_ancestors(
+        lows,
+        highs,
+        nodes,
+        points,
+        path,
+        n - 2,
+        point,
+        tree.dimensions,
+        wide(tree.capacity),
+        tree.cached,
+    );
+    headed_by(tree, root, tree.total - 1, manager)
+}
+
+// One copy less of the leaf that the path ends in.
+fn remove_copy(
+    tree: RCFTree,
+    nodes: &mut [[u16; 4]; 255],
+    cuts: &mut [f32; 255],
+    copies: &mut [u16; 1024],
+    free: &mut [[u16; 2]; 255],
+    lows: &mut [[f32; 8]; 255],
+    highs: &mut [[f32; 8]; 255],
+    points: &[[f32; 8]; 1024],
+    path: &[[u16; 2]; 256],
+    n: usize,
+    leaf: usize,
+    point: &[f32; 8],
+) -> RCFTree
+    requires held { ⌜ SomeHeld tree (lent (now nodes) (now cuts) (now copies) (now free) (now lows) (now highs)) (now points) (now path) n leaf (now point) ⌝ }
+    ensures { λ r. ⌜ Forgets tree (lent (now (nodes .entry)) (now (cuts .entry)) (now (copies .entry)) (now (free .entry)) (now (lows .entry)) (now (highs .entry))) (now (points .entry)) (now (path .entry)) n leaf (now (point .entry)) r (lent (now (nodes .exit)) (now (cuts .exit)) (now (copies .exit)) (now (free .exit)) (now (lows .exit)) (now (highs .exit))) ⌝ }
+{
+    if 1 < copies[leaf] {
+        nodestore::drop_copy(nodes, copies, path, n, leaf);
+        return headed_by(tree, tree.root, tree.total - 1, tree.manager);
+    }
+    if n < 2 {
+        nodestore::remove_root(copies, leaf);
+        return headed_by(tree, tree.capacity - 1, tree.total - 1, tree.manager);
+    }
+    remove_last(
+        tree,
+        nodes,
+        cuts,
+        copies,
+        free,
+        lows,
+        highs,
+        points,
+        path,
+        n,
+        leaf,
+        point,
+    )
+}
+
+// A reading that no leaf has: the highest cut that parts, a free number for the new branch, its row and its box, and the boxes above it grown.
+fn insert_leaf(
+    tree: RCFTree,
+    nodes: &mut [[u16; 4]; 255],
+    cuts: &mut [f32; 255],
+    copies: &mut [u16; 1024],
+    free: &mut [[u16; 2]; 255],
+    lows: &mut [[f32; 8]; 255],
+    highs: &mut [[f32; 8]; 255],
+    points: &[[f32; 8]; 1024],
+    path: &[[u16; 2]; 256],
+    n: usize,
+    leaf: usize,
+    index: usize,
+    words: &[u64],
+    point: &[f32; 8],
+) -> RCFTree
+    requires { ⌜ SomeEntering tree (lent (now nodes) (now cuts) (now copies) (now free) (now lows) (now highs)) (now points) (now path) n leaf index (now words) (now point) ⌝ }
+    ensures { λ r. ⌜ Enters tree (lent (now (nodes .entry)) (now (cuts .entry)) (now (copies .entry)) (now (free .entry)) (now (lows .entry)) (now (highs .entry))) (now (points .entry)) (now (path .entry)) n leaf index (now (words .entry)) (now (point .entry)) r (lent (now (nodes .exit)) (now (cuts .exit)) (now (copies .exit)) (now (free .exit)) (now (lows .exit)) (now (highs .exit))) ⌝ }
+{
+    let highest = drawing::highest_cut(
+        nodes,
+        points,
+        lows,
+        highs,
+        path,
+        n,
+        leaf,
+        words,
+        point,
+        wide(tree.capacity),
+        tree.cached,
+    );
+    let above = n - 1 - highest.height;
+    let got = tree.manager.get(free);
+    match got {
+        Got::Index(b, manager) => {
+            let dimension = highest.cut.dimension;
+            let left = point[dimension] <= highest.cut.value;
+            nodestore::place_branch(
+                nodes,
+                cuts,
+                copies,
+                path,
+                above,
+                b,
+                index,
+                highest.cut,
+                left,
+                tree.capacity,
+            );
+            let below = highest.bounding_box;
+            boxstore::copy_box_above(lows, highs, wide(b), below, point, tree.cached);
+            boxstore::grow_ancestors(lows, highs, path, above, point, tree.cached);
+            let root = nodestore::placed_root(tree.root, above, b);
+            headed_by(tree, root, tree.total + 1, manager)
+        }
+        Got::Empty => tree,
+    }
+}
+
+impl RCFTree {
+    // Document 01's limits: channels, leaves, point indices and copies.
+    pub const CHANNELS: usize = 8;
+
+    pub const CAPACITY: usize = 256;
+
+    pub const POINTS: usize = 1024;
+
+    pub const TOTAL: usize = 65535;
+
+    // An empty tree, its arrays cleared; or a refusal, in document 01's order, and nothing written.
+    // Rules out capacity 1 taken, and a refused making that has cleared an array.
+    pub fn new(
+        dimensions: usize,
+        capacity: usize,
+        cache_fraction: f64,
+        nodes: &mut [[u16; 4]; 255],
+        cuts: &mut [f32; 255],
+        copies: &mut [u16; 1024],
+        free: &mut [[u16; 2]; 255],
+        lows: &mut [[f32; 8]; 255],
+        highs: &mut [[f32; 8]; 255],
+    ) -> Made
+        ensures { λ r. ⌜ MakeDone dimensions capacity «cache_fraction»
+            (record { nodes = now (nodes .entry); cuts = now (cuts .entry); copies = now (copies .entry); free = now (free .entry); lows = now (lows .entry); highs = now (highs .entry) })
+            (record { nodes = now (nodes .exit); cuts = now (cuts .exit); copies = now (copies .exit); free = now (free .exit); lows = now (lows .exit); highs = now (highs .exit) }) r ⌝ }
+    {
+        if !within(dimensions, 1, Self::CHANNELS) {
+            return Made::NotMade(1);
+        }
+        if !within(capacity, 2, Self::CAPACITY) {
+            return Made::NotMade(2);
+        }
+        if !readings::is_share(cache_fraction) {
+            return Made::NotMade(3);
+        }
+        clear(nodes, cuts, copies, lows, highs);
+        let c = capacity as u16;
+        let cached = cached_of(cache_fraction, c, capacity - 1);
+        let manager = IntervalStoreManager::new(c - 1, free);
+        Made::Tree(RCFTree {
+            dimensions,
+            capacity: c,
+            cached,
+            root: c - 1,
+            total: 0,
+            manager,
+        })
+    }
+
+    // The copies of a leaf by its id.
+    // Rules out copies answered for a branch's id, and 0 copies in place of the refusal.
+    pub fn copies_of(self, copies: &[u16; 1024], id: usize) -> CopiesAnswer
+        ensures { λ r. ⌜ CopiesTold self (now (copies .entry)) id r ⌝ }
+    {
+        let capacity = wide(self.capacity);
+        if id < capacity {
+            return CopiesAnswer::NoLeaf(16);
+        }
+        let index = id - capacity;
+        if Self::POINTS <= index {
+            return CopiesAnswer::NoLeaf(16);
+        }
+        let n = copies[index];
+        if n == 0 {
+            return CopiesAnswer::NoLeaf(16);
+        }
+        CopiesAnswer::Copies(wide(n))
+    }
+
+    // The row of a branch by its number.
+    // Rules out the sides swapped, and a row of zeros in place of the refusal.
+    pub fn branch_of(self, nodes: &[[u16; 4]; 255], cuts: &[f32; 255], id: usize) -> BranchAnswer
+        ensures { λ r. ⌜ BranchTold self (now (nodes .entry)) (now (cuts .entry)) id r ⌝ }
+    {
+        // A tree of 256 leaves has 255 branches.
+        if 254 < id {
+            return BranchAnswer::NoBranch(16);
+        }
+        let mass = mass_at(nodes, id);
+        if mass == 0 {
+            return BranchAnswer::NoBranch(16);
+        }
+        let cut = Cut {
+            dimension: wide(nodes[id][3]),
+            value: cuts[id],
+        };
+        BranchAnswer::Branch(BranchRow {
+            cut,
+            left: wide(nodes[id][0]),
+            right: wide(nodes[id][1]),
+            mass,
+        })
+    }
+
+    // The box of a branch by its number.
+    // Rules out the box of a leaf answered, and a cached row taken for a branch that is not cached.
+    pub fn box_of(
+        self,
+        nodes: &[[u16; 4]; 255],
+        points: &[[f32; 8]; 1024],
+        lows: &[[f32; 8]; 255],
+        highs: &[[f32; 8]; 255],
+        id: usize,
+    ) -> BoxAnswer
+        requires { ⌜ SomeBoxRead self (now nodes) (now points) (now lows) (now highs) ⌝ }
+        ensures { λ r. ⌜ BoxTold self (now (nodes .entry)) (now (points .entry)) (now (lows .entry)) (now (highs .entry)) id r ⌝ }
+    {
+        if 254 < id {
+            return no_box();
+        }
+        if mass_at(nodes, id) == 0 {
+            return no_box();
+        }
+        let bounding_box = boxstore::bounding_box(
+            id,
+            nodes,
+            points,
+            lows,
+            highs,
+            wide(self.capacity),
+            self.cached,
+        );
+        BoxAnswer {
+            refusal: 0,
+            bounding_box,
+        }
+    }
+
+    // One copy more of the reading written for an index, with a word for each node of the walk where its value is new; or a refusal, in
+    // document 01's order, and nothing written.
+    // Rules out words taken for a value that is held, and a full tree told before the value is looked for.
+    pub fn add(
+        self,
+        nodes: &mut [[u16; 4]; 255],
+        cuts: &mut [f32; 255],
+        copies: &mut [u16; 1024],
+        free: &mut [[u16; 2]; 255],
+        lows: &mut [[f32; 8]; 255],
+        highs: &mut [[f32; 8]; 255],
+        points: &[[f32; 8]; 1024],
+        written: &[u8; 1024],
+        index: usize,
+        words: &[u64],
+    ) -> AddAnswer
+        requires { ⌜ SomeState self (lent (now nodes) (now cuts) (now copies) (now free) (now lows) (now highs)) (now points) (now written) ⌝ }
+        ensures { λ r. ⌜ AddDone self (lent (now (nodes .entry)) (now (cuts .entry)) (now (copies .entry)) (now (free .entry)) (now (lows .entry)) (now (highs .entry))) (now (points .entry)) (now (written .entry)) index (now (words .entry)) r (lent (now (nodes .exit)) (now (cuts .exit)) (now (copies .exit)) (now (free .exit)) (now (lows .exit)) (now (highs .exit))) ⌝ }
+    {
+        if Self::POINTS <= index {
+            return AddAnswer::NotAdded(5);
+        }
+        if written[index] == 0 {
+            return AddAnswer::NotAdded(9);
+        }
+        if self.total == Self::TOTAL {
+            return AddAnswer::NotAdded(10);
+        }
+        if self.total == 0 {
+            nodestore::add_root(copies, index);
+            let root = index as u16 + self.capacity;
+            return AddAnswer::Added(headed_by(self, root, 1, self.manager), index, 0);
+        }
+        let mut path = [[0u16; 2]; 256];
+        let n = nodestore::set_path(
+            nodes,
+            cuts,
+            &points[index],
+            self.root,
+            self.capacity,
+            &mut path,
+        );
+        let leaf = nodestore::leaf_at(&path, n, self.capacity);
+        if nodestore::same_point(&points[leaf], &points[index]) {
+            nodestore::add_copy(nodes, copies, &path, n, leaf);
+            return AddAnswer::Added(
+                headed_by(self, self.root, self.total + 1, self.manager),
+                leaf,
+                0,
+            );
+        }
+        if self.manager.is_empty() {
+            return AddAnswer::NotAdded(10);
+        }
+        if words.len() < n {
+            return AddAnswer::NotAdded(11);
+        }
+        let tree = insert_leaf(
+            self,
+            nodes,
+            cuts,
+            copies,
+            free,
+            lows,
+            highs,
+            points,
+            &path,
+            n,
+            leaf,
+            index,
+            words,
+            &points[index],
+        );
+        AddAnswer::Added(tree, index, n)
+    }
+
+    // One copy less of the reading written for an index; or a refusal, in document 01's order, and nothing written.
+    // Rules out the index asked for answered in place of the leaf's, and a delete that leaves the last copy's branch.
+    pub fn delete(
+        self,
+        nodes: &mut [[u16; 4]; 255],
+        cuts: &mut [f32; 255],
+        copies: &mut [u16; 1024],
+        free: &mut [[u16; 2]; 255],
+        lows: &mut [[f32; 8]; 255],
+        highs: &mut [[f32; 8]; 255],
+        points: &[[f32; 8]; 1024],
+        written: &[u8; 1024],
+        index: usize,
+    ) -> DeleteAnswer
+        requires { ⌜ SomeState self (lent (now nodes) (now cuts) (now copies) (now free) (now lows) (now highs)) (now points) (now written) ⌝ }
+        ensures { λ r. ⌜ DeleteDone self (lent (now (nodes .entry)) (now (cuts .entry)) (now (copies .entry)) (now (free .entry)) (now (lows .entry)) (now (highs .entry))) (now (points .entry)) (now (written .entry)) index r (lent (now (nodes .exit)) (now (cuts .exit)) (now (copies .exit)) (now (free .exit)) (now (lows .exit)) (now (highs .exit))) ⌝ }
+    {
+        if Self::POINTS <= index {
+            return DeleteAnswer::NotDeleted(5);
+        }
+        if written[index] == 0 {
+            return DeleteAnswer::NotDeleted(9);
+        }
+        if self.total == 0 {
+            return DeleteAnswer::NotDeleted(12);
+        }
+        let mut path = [[0u16; 2]; 256];
+        let n = nodestore::set_path(
+            nodes,
+            cuts,
+            &points[index],
+            self.root,
+            self.capacity,
+            &mut path,
+        );
+        let leaf = nodestore::leaf_at(&path, n, self.capacity);
+        if !nodestore::same_point(&points[leaf], &points[index]) {
+            return DeleteAnswer::NotDeleted(13);
+        }
+        let tree = remove_copy(
+            self,
+            nodes,
+            cuts,
+            copies,
+            free,
+            lows,
+            highs,
+            points,
+            &path,
+            n,
+            leaf,
+            &points[index],
+        );
+        DeleteAnswer::Deleted(tree, leaf)
+    }
+}
