@@ -10,3 +10,4 @@ pub mod Told
 pub mod Calls
 pub mod Deletes
 pub mod Adds
+pub mod Standing

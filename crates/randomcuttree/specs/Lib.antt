@@ -4,3 +4,4 @@ pub mod Edits
 pub mod Enters
 pub mod Making
 pub mod Queries
+pub mod Standing
