@@ -2,12 +2,14 @@
 //!
 //!   record cuts OUT        writes the recorded cut choices
 //!   record intervals OUT   writes the recorded sequences of the interval manager
+//!   record trees OUT       writes the recorded runs of the tree
 //!   record check CRATES    makes each recording again and compares it with the committed file
 //!                          below the folder CRATES, byte for byte
 #![forbid(unsafe_code)]
 
 mod cuts;
 mod intervals;
+mod trees;
 
 use std::path::Path;
 use std::process::ExitCode;
@@ -20,7 +22,7 @@ struct Recording {
     make: fn() -> Vec<u8>,
 }
 
-const RECORDINGS: [Recording; 2] = [
+const RECORDINGS: [Recording; 3] = [
     Recording {
         name: "cuts",
         file: "replay_cut/stdin",
@@ -33,6 +35,12 @@ const RECORDINGS: [Recording; 2] = [
         record_bytes: intervals::RECORD_BYTES,
         make: intervals::make,
     },
+    Recording {
+        name: "trees",
+        file: "../harness/recorded/trees",
+        record_bytes: trees::RECORD_BYTES,
+        make: trees::make,
+    },
 ];
 
 fn main() -> ExitCode {
@@ -40,7 +48,7 @@ fn main() -> ExitCode {
     let done = match arguments.iter().map(String::as_str).collect::<Vec<_>>()[..] {
         ["check", crates] => check(Path::new(crates)),
         [name, out] => write(name, Path::new(out)),
-        _ => Err("usage: record cuts OUT | record intervals OUT | record check CRATES".into()),
+        _ => Err("usage: record cuts OUT | record intervals OUT | record trees OUT | record check CRATES".into()),
     };
     match done {
         Ok(()) => ExitCode::SUCCESS,
