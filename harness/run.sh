@@ -1,8 +1,9 @@
 #!/bin/bash
-# Holds the recorded answers against the Rust, and the oracle against document 01.
+# Holds the oracle against document 01, the recorded answers against the Rust, and the port against the Rust.
 #   harness/run.sh [--digests]
 # KRCF_SRC names the folder that holds crates/rcflib/src, seen from the project's root; the default
-# is ../shared/docs/src. Where the Rust or cargo is not at hand, one line says so and all is well.
+# is ../shared/docs/src. COMPARE says for how long the port is compared, 75s if unset. Where the Rust or
+# cargo is not at hand, one line says so and all is well; where rt is not, the port is not compared.
 # --digests prints the digest of each given file. Needs no network.
 set -euo pipefail
 
@@ -24,6 +25,14 @@ harness/copy_given.sh "$source" "$@"
 built() {
   cargo "$1" --quiet --offline --locked --manifest-path harness/Cargo.toml "${@:2}"
 }
-built build --workspace
+built build
 built run --package selftest
 built run --package record -- check crates
+
+if ! command -v rt >/dev/null; then
+  echo "harness: rt is not at hand, the port is not compared"
+  exit 0
+fi
+rt staticlib run
+built run --package compare -- --fault
+built run --package compare -- "${COMPARE:-75s}"

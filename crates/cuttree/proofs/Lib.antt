@@ -19,6 +19,7 @@ pub mod Refused
 pub mod Keeps
 pub mod Nodes
 pub mod Room
+pub mod Words
 -- Demand 3
 pub mod Views
 pub mod Roots

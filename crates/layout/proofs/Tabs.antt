@@ -5,7 +5,7 @@ use mathlib.Core.List.{List}
 use Prim.Native.Nat.{ℕ, _<_}
 use native.Mathlib.Omega.{arith}
 use lib.Dec.{eqb}
-use lib.ListN.{length, getD, set, length-set}
+use lib.ListN.{length, getD, set, replicate, length-set, length-replicate, getD-replicate}
 use lib.Seq.{ext-getD, getD-set-same, getD-set-other}
 use borrow.Author.Tests.{eqb-true, eqb-false}
 use Rattle.cuttree.proofs.Tests.{by-test}
@@ -25,6 +25,9 @@ is-tab z n f l e h = ext-getD z l (tab n f) (e ∙ sym (tab-length n f)) (λ i q
 
 pub same-tab : {A : Type 0} (z : A) (n : ℕ) (f g : ℕ → A) → ((i : ℕ) → i < n → f i ≡ g i) → tab n f ≡ tab n g
 same-tab z n f g h = is-tab z n g (tab n f) (tab-length n f) (λ i q. tab-at n f i z q ∙ h i q)
+
+pub constant : {A : Type 0} (n : ℕ) (x : A) (f : ℕ → A) → ((i : ℕ) → f i ≡ x) → replicate n x ≡ tab n f
+constant n x f h = is-tab x n f (replicate n x) (length-replicate n x) (λ i q. getD-replicate n i x x q ∙ sym (h i))
 
 -- an entry set: the functions agree at every other
 pub set-tab : {A : Type 0} (z : A) (n : ℕ) (f g : ℕ → A) (l : List A) (i : ℕ) → l ≡ tab n f → i < n → ((x : ℕ) → x ≢ i → g x ≡ f x) → set l i (g i) ≡ tab n g

@@ -6,7 +6,6 @@ use mathlib.Core.List.{List}
 use Prim.Native.Nat.{ℕ, _-_, _≤_}
 use native.Mathlib.Omega.{arith}
 use lib.Dec.{leb, ltb}
-use lib.ListN.{replicate, length-replicate, getD-replicate}
 use lib.Ieee.{Float}
 use borrow.Author.Tests.{leb-true}
 use Rattle.readings.specs.Share.{isShare}
@@ -14,18 +13,15 @@ use Rattle.boundingbox.specs.Sides.{nought}
 use Rattle.cuttree.specs.Run.{fresh}
 use Rattle.cuttree.proofs.Tests.{by-test, by-cond, clash, nonsense}
 use Rattle.randomcuttree.proofs.Reaches.{reachable-fresh}
-use Rattle.wholetree.specs.Whole.{whole, tab}
+use Rattle.wholetree.specs.Whole.{whole}
 use Rattle.layout.specs.Layout.{noRow, noEnds, tableOf}
-use Rattle.layout.proofs.Tabs.{is-tab}
+use Rattle.layout.proofs.Tabs.{constant}
 use Rattle.randomcuttree.specs.declared.RCFTree.{RCFTree}
 use Rattle.randomcuttree.specs.declared.Made.{Made}
 use Rattle.randomcuttree.specs.State.{Lent, State}
 use Rattle.randomcuttree.specs.Making.{channelsTaken, capacityTaken, cachedBy, emptyTree, madeBy, cleared, lentBy, MakeDone}
 
 -- ---- the state of a fresh tree
-constant : {A : Type 0} (n : ℕ) (x : A) (f : ℕ → A) → ((i : ℕ) → f i ≡ x) → replicate n x ≡ tab n f
-constant n x f h = is-tab x n f (replicate n x) (length-replicate n x) (λ i q. getD-replicate n i x x q ∙ sym (h i))
-
 either : {A : Type 0} (b : Bool) (x : A) → cond b x x ≡ x
 either b x = by-cond (λ (y : _). y ≡ x) b x x (λ _. refl) (λ _. refl)
 

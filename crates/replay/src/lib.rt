@@ -1,12 +1,8 @@
-// What the programs share that replay recorded answers of the Rust: reading a record, the numbers in it, and counting what agrees.
+// What the programs share that replay recorded answers of the Rust: reading a record, and counting what agrees.
 // A record that cannot be replayed, or an answer that differs, is said on standard output, so that the program's test fails.
 use libc::STDIN_FILENO;
 use libc::STDOUT_FILENO;
 ghost use mathlib.Core.Path.{_≡_};
-ghost use Prim.Native.Nat.{_+_, _<_, _≤_};
-ghost use lib.ListN.{length};
-ghost use lib.Ieee.{binary32, ofBits, toBits};
-ghost use Rattle.replay.specs.Little.{little16, little32, little64};
 ghost use Rattle.replay.specs.Answers.{same as Answers·same, tallied};
 
 // What the Rust or the port answers to a record: at most three numbers, and 0 for those that are not needed.
@@ -24,78 +20,6 @@ pub struct Tally {
 
 // So many records whose answers differ are printed; the others are only counted.
 const PRINTED: u64 = 20;
-
-// The bit of an f32's sign, and the pattern of infinity.
-const SIGN: u32 = 2147483648;
-
-const INFINITE: u32 = 2139095040;
-
-// The pattern that `pattern_of` gives to NaN, of the many that it has.
-const NOT_A_NUMBER: u32 = 2143289344;
-
-// A cast of what a call or an index gives asks that it fits; a call of one of these asks nothing.
-fn wide(x: u8) -> u16
-    ensures { λ r. ⌜ (r ≡ x) × (x < 256) ⌝ }
-{
-    x as u16
-}
-
-fn wide16(x: u16) -> u32
-    ensures { λ r. ⌜ r ≡ x ⌝ }
-{
-    x as u32
-}
-
-fn wide32(x: u32) -> u64
-    ensures { λ r. ⌜ r ≡ x ⌝ }
-{
-    x as u64
-}
-
-// The number in two bytes, from `at` on, the lowest byte first; and so in four and in eight.
-// Wrong here: the highest byte first; halves that overlap.
-pub fn u16_at(bytes: &[u8], at: usize) -> u16
-    requires { ⌜ at + 2 ≤ length (now bytes) ⌝ }
-    ensures { λ r. ⌜ r ≡ little16 (now (bytes .entry)) at ⌝ }
-{
-    wide(bytes[at]) + 256 * wide(bytes[at + 1])
-}
-
-pub fn u32_at(bytes: &[u8], at: usize) -> u32
-    requires { ⌜ at + 4 ≤ length (now bytes) ⌝ }
-    ensures { λ r. ⌜ r ≡ little32 (now (bytes .entry)) at ⌝ }
-{
-    wide16(u16_at(bytes, at)) + 65536 * wide16(u16_at(bytes, at + 2))
-}
-
-pub fn u64_at(bytes: &[u8], at: usize) -> u64
-    requires { ⌜ at + 8 ≤ length (now bytes) ⌝ }
-    ensures { λ r. ⌜ r ≡ little64 (now (bytes .entry)) at ⌝ }
-{
-    wide32(u32_at(bytes, at)) + 4294967296 * wide32(u32_at(bytes, at + 4))
-}
-
-// The f32 of any pattern. `from_bits` is not defined at those of NaN, which stand above infinity's.
-// Wrong here: NaN for every pattern above infinity's, which those with the sign are too.
-pub fn float_of(bits: u32) -> f32
-    ensures { λ r. ⌜ r ≡ ofBits binary32 bits ⌝ }
-{
-    if bits % SIGN > INFINITE {
-        return 0.0 / 0.0;
-    }
-    f32::from_bits(bits)
-}
-
-// The pattern of any f32. `to_bits` is not defined at NaN.
-// Wrong here: 0 for NaN, which is a number's.
-pub fn pattern_of(x: f32) -> u32
-    ensures { λ r. ⌜ r ≡ toBits binary32 x ⌝ }
-{
-    if x != x {
-        return NOT_A_NUMBER;
-    }
-    f32::to_bits(x)
-}
 
 fn same(x: Answer, y: Answer) -> bool
     ensures { λ r. ⌜ r ≡ Answers·same x y ⌝ }

@@ -27,7 +27,7 @@ fn floats_at(bytes: &Record, at: usize) -> [f32; 8]
 {
     let mut values = [0.0f32; 8];
     for i in 0..8 {
-        values[i] = replay::float_of(replay::u32_at(bytes, at + 4 * i));
+        values[i] = little::float_of(little::u32_at(bytes, at + 4 * i));
     }
     values
 }
@@ -65,7 +65,7 @@ fn recorded(record: &Record) -> Answer {
     Answer {
         a: wide(record[104]),
         b: wide(record[105]),
-        c: replay::u32_at(record, 108) as u64,
+        c: little::u32_at(record, 108) as u64,
     }
 }
 
@@ -77,7 +77,7 @@ fn drawn(record: &Record) -> Answer {
     let point = floats_at(record, 64);
     let separation = Cut::random_cut_and_separation(
         bounding_box,
-        replay::u64_at(record, 96),
+        little::u64_at(record, 96),
         &point,
     );
     match separation {
@@ -85,7 +85,7 @@ fn drawn(record: &Record) -> Answer {
         Separation::Drawn(cut, parts) => Answer {
             a: if parts { 2 } else { 1 },
             b: cut.dimension as u64,
-            c: replay::pattern_of(cut.value) as u64,
+            c: little::pattern_of(cut.value) as u64,
         },
     }
 }

@@ -152,9 +152,9 @@ fn step(kind: u8, a: u16, manager: IntervalStoreManager, rows: &mut Rows) -> Ans
 // The numbers of the record are the Rust's answer.
 fn recorded(record: &[u8; 8]) -> Answer {
     Answer {
-        a: wide(replay::u16_at(record, 2)),
-        b: wide(replay::u16_at(record, 4)),
-        c: wide(replay::u16_at(record, 6)),
+        a: wide(little::u16_at(record, 2)),
+        b: wide(little::u16_at(record, 4)),
+        c: wide(little::u16_at(record, 6)),
     }
 }
 
@@ -184,7 +184,7 @@ fn replay_one(number: u64, state: Replay, rows: &mut Rows) -> Replay {
         replay::refuse(number, kind);
         return stopped(state);
     }
-    let done = step(kind, replay::u16_at(&record, 2), state.manager, rows);
+    let done = step(kind, little::u16_at(&record, 2), state.manager, rows);
     let manager = done.manager;
     Replay {
         manager,

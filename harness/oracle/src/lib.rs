@@ -16,7 +16,7 @@ mod trees;
 mod words;
 
 pub use cut::{cut_choice, Choice};
-pub use nodes::{free_intervals, nodes, printed, total, walk_nodes, Node};
+pub use nodes::{free_intervals, ids, node, nodes, printed, total, walk, walk_nodes, Node};
 pub use rand::{factor, feed};
 pub use rcflib;
 pub use rcflib::common::intervalstoremanager::IntervalStoreManager;

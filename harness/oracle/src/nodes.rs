@@ -32,7 +32,7 @@ fn root(tree: &Tree) -> Option<usize> {
 }
 
 /// The ids in printed order: branch before left before right.
-fn ids(tree: &Tree) -> Vec<usize> {
+pub fn ids(tree: &Tree) -> Vec<usize> {
     let store = tree.oracle_store();
     let mut found = Vec::new();
     let mut ahead: Vec<usize> = root(tree).into_iter().collect();
@@ -54,7 +54,8 @@ pub fn nodes(tree: &Tree, table: &Table) -> Vec<Node> {
         .collect()
 }
 
-fn node(tree: &Tree, table: &Table, id: usize) -> Node {
+/// The node of an id that is in the tree.
+pub fn node(tree: &Tree, table: &Table, id: usize) -> Node {
     let store = tree.oracle_store();
     let mass = store.mass(id);
     if store.is_leaf(id) {
@@ -114,12 +115,17 @@ pub fn total(tree: &Tree) -> usize {
     root(tree).map_or(0, |_| tree.oracle_tree_mass())
 }
 
-/// The nodes of a point's walk from the root to a leaf, both counted: the words that an add takes
-/// where the value isn't held. An empty tree has none.
-pub fn walk_nodes(tree: &Tree, point: &[f32]) -> usize {
+/// The ids of a point's walk, from the leaf to the root. An empty tree has none.
+pub fn walk(tree: &Tree, point: &[f32]) -> Vec<usize> {
     let mut path = Vec::new();
     if let Some(id) = root(tree) {
         tree.oracle_store().set_path(&mut path, id, point);
     }
-    path.len()
+    path.into_iter().rev().map(|(id, _)| id).collect()
+}
+
+/// The nodes of a point's walk from the root to a leaf, both counted: the words that an add takes
+/// where the value isn't held.
+pub fn walk_nodes(tree: &Tree, point: &[f32]) -> usize {
+    walk(tree, point).len()
 }

@@ -1,8 +1,9 @@
 //! Recorded cut choices of `Cut::random_cut_and_separation`. The layout of a record stands in
 //! replay_cut/RECORDED.md.
-use oracle::{cut_choice, factor, feed, Choice, Words};
+use oracle::{cut_choice, feed, Choice, Words};
+use runs::aimed::{self, Aim};
 
-pub const RECORD_BYTES: usize = 112;
+const RECORD_BYTES: usize = 112;
 const RECORDS: usize = 6000;
 const SEED: u64 = 0x0123_4567_89AB_CDEF;
 /// A record has room for this many channels.
@@ -48,7 +49,7 @@ enum Place {
     OutsideAll,
 }
 
-/// How the word is made. A target is a number that factor times sum of sides is to meet.
+/// How the word is made.
 #[derive(Clone, Copy)]
 enum Kind {
     Zeros,
@@ -58,31 +59,21 @@ enum Kind {
     TopBits,
     /// Bits that the shift by 11 drops.
     LowBits,
-    /// The rest lies halfway between two f32 numbers, or one factor beside.
-    NarrowingTie,
-    /// Lower end plus rest lies halfway between two f32 numbers, or one factor beside.
-    AddingTie,
-    /// The product ends exactly with a side, or one factor beside.
-    SideEnd,
-    /// The rest is about to reach the upper end.
-    UpperEnd,
+    Aimed(Aim),
 }
 
-pub fn make() -> Vec<u8> {
+pub fn make() -> Vec<Vec<u8>> {
     let mut words = Words::new(SEED);
-    let mut bytes = Vec::with_capacity(RECORDS * RECORD_BYTES);
     let mut cases = examples();
     for n in cases.len()..RECORDS {
         cases.push(random_case(n, &mut words));
     }
-    for case in &cases {
-        bytes.extend_from_slice(&record(case));
-    }
+    let records = cases.iter().map(|case| record(case).to_vec()).collect();
     assert!(
         feed::seed17_draws() == 0,
         "the branch seeded with 17 was reached"
     );
-    bytes
+    records
 }
 
 /// The cut choices that document 01 names, boxes that hold their point, and words at which a
@@ -217,12 +208,12 @@ fn random_word(case: &Case, words: &mut Words) -> u64 {
         Any,
         TopBits,
         LowBits,
-        NarrowingTie,
-        NarrowingTie,
-        AddingTie,
-        AddingTie,
-        SideEnd,
-        UpperEnd,
+        Aimed(Aim::NarrowingTie),
+        Aimed(Aim::NarrowingTie),
+        Aimed(Aim::AddingTie),
+        Aimed(Aim::AddingTie),
+        Aimed(Aim::SideEnd),
+        Aimed(Aim::UpperEnd),
     ]);
     let any = words.word();
     match kind {
@@ -230,113 +221,17 @@ fn random_word(case: &Case, words: &mut Words) -> u64 {
         Ones => u64::MAX,
         OneBit => 1 << words.below(64),
         Any => any,
-        TopBits => top_bits(words),
+        TopBits => aimed::top_bits(words),
         LowBits => any % 0x1800,
-        NarrowingTie | AddingTie | SideEnd | UpperEnd => {
-            aimed_word(case, kind, words).unwrap_or(any)
+        Aimed(aim) => {
+            let place = aimed::Place {
+                low: &case.low,
+                high: &case.high,
+                point: &case.point,
+            };
+            aimed::word(&place, aim, words).unwrap_or(any)
         }
     }
-}
-
-/// Ones or one pattern in the highest bits, zeros or ones below.
-fn top_bits(words: &mut Words) -> u64 {
-    let bits = 1 + words.below(12) as u32;
-    let pattern = words.word() >> (64 - bits) << (64 - bits);
-    let below = words.one_of(&[0, u64::MAX >> bits]);
-    words.one_of(&[pattern, u64::MAX << (64 - bits)]) | below
-}
-
-/// A side of the box with the point in it: its lower end, its length, and the lengths before it.
-struct Side {
-    low: i32,
-    length: i32,
-    before: i32,
-}
-
-/// The non-zero sides in channel order, and their sum. The sum is at most 2^24.
-fn sides(case: &Case) -> (Vec<Side>, i32) {
-    let mut found = Vec::new();
-    let mut before = 0;
-    for ((&low, &high), &x) in case.low.iter().zip(&case.high).zip(&case.point) {
-        let (low, high) = (low.min(x), high.max(x));
-        if low < high {
-            found.push(Side {
-                low,
-                length: high - low,
-                before,
-            });
-        }
-        before += high - low;
-    }
-    (found, before)
-}
-
-/// A word whose product meets a chosen target on one of the sides, or lies one factor beside it.
-fn aimed_word(case: &Case, kind: Kind, words: &mut Words) -> Option<u64> {
-    let (sides, sum) = sides(case);
-    if sides.is_empty() {
-        return None;
-    }
-    let side = &sides[words.below(sides.len())];
-    let length = f64::from(side.length);
-    let rest = match kind {
-        Kind::NarrowingTie => narrowing_tie(length, words),
-        Kind::AddingTie => adding_tie(side, words),
-        Kind::UpperEnd => length - two_to(-words.between(1, 28)),
-        _ => length,
-    };
-    let least = least_factor(f64::from(side.before) + rest, f64::from(sum));
-    let number = least as i64 + i64::from(words.between(-1, 1));
-    let number = number.clamp(0, (1 << 53) - 1) as u64;
-    Some(number << 11 | words.word() >> 53)
-}
-
-/// A number below `length` halfway between two f32 neighbours.
-fn narrowing_tie(length: f64, words: &mut Words) -> f64 {
-    let size = two_to(-words.between(1, 12)) * length;
-    let unit = two_to(exponent(size) - 24);
-    let odd = (1 << 24) + 2 * words.between(0, (1 << 23) - 1) + 1;
-    f64::from(odd) * unit
-}
-
-/// A rest that an f32 holds and that, added to the lower end, lies halfway between two f32
-/// neighbours.
-fn adding_tie(side: &Side, words: &mut Words) -> f64 {
-    let whole = match words.below(3) {
-        0 => 0,
-        1 => words.between(0, (side.length - 1).min(8)),
-        _ => words.between(0, side.length - 1),
-    };
-    let size = f64::from((side.low + whole).unsigned_abs().max(1));
-    let half_unit = two_to(exponent(size) - 24);
-    let steps = (1.0 / half_unit) as i32;
-    let odd = 2 * words.between(0, steps / 2 - 1) + 1;
-    f64::from(whole) + f64::from(odd) * half_unit
-}
-
-/// 2 to a power, exactly and alike on every machine.
-fn two_to(power: i32) -> f64 {
-    f64::from_bits(((1023 + power) as u64) << 52)
-}
-
-/// The largest power with 2 to it not above `x`, which is positive.
-fn exponent(x: f64) -> i32 {
-    (x.to_bits() >> 52) as i32 - 1023
-}
-
-/// The least number k with k * 2^-53 times `sum`, rounded as the Rust rounds it, not below
-/// `target`.
-fn least_factor(target: f64, sum: f64) -> u64 {
-    let product = |k: u64| factor(k << 11) * sum;
-    let top = (1u64 << 53) - 1;
-    let mut k = ((target / sum * (1u64 << 53) as f64) as u64).min(top);
-    while k > 0 && product(k - 1) >= target {
-        k -= 1;
-    }
-    while k < top && product(k) < target {
-        k += 1;
-    }
-    k
 }
 
 fn as_f32(whole: &[i32]) -> Vec<f32> {

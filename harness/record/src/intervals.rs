@@ -2,7 +2,7 @@
 //! layout of a record stands in replay_intervals/RECORDED.md.
 use oracle::{IntervalStoreManager, Words};
 
-pub const RECORD_BYTES: usize = 8;
+const RECORD_BYTES: usize = 8;
 const SEQUENCES: usize = 260;
 const SEED: u64 = 0xFEDC_BA98_7654_3210;
 /// Largest number of branches, and so of numbers handed out.
@@ -29,7 +29,7 @@ enum Order {
     OnEmpty,
 }
 
-pub fn make() -> Vec<u8> {
+pub fn make() -> Vec<Vec<u8>> {
     use Order::*;
     let orders = [Stack, Queue, Random, AllThenNone, EverySecond, OnEmpty];
     let mut words = Words::new(SEED);
@@ -43,7 +43,7 @@ pub fn make() -> Vec<u8> {
         sequence.run(orders[n % orders.len()], &mut words);
         sequence.intervals();
     }
-    bytes
+    bytes.chunks(RECORD_BYTES).map(<[u8]>::to_vec).collect()
 }
 
 /// A manager, the numbers in use in the order they were got, and the records so far.

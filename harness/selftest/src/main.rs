@@ -1,11 +1,12 @@
 //! Holds the oracle against document 01: its examples, the differences that docs/DIFFERENCES.md
-//! lists, and random runs of whole trees. Stops at the first thing that does not hold.
+//! lists, random runs of whole trees, and byte runs. Stops at the first thing that does not hold.
 #![forbid(unsafe_code)]
 
 mod bare;
 mod differences;
 mod examples;
 mod model;
+mod runs_read;
 mod sampled;
 
 fn main() {
@@ -20,6 +21,8 @@ fn main() {
     println!(
         "sampled trees: 200 runs, {steps} arrivals, every tree and sample as document 01 says"
     );
+    let calls = runs_read::run(400);
+    println!("byte runs: 400, {calls} calls, read back and answered as document 01 says");
     let reached = oracle::feed::seed17_draws() > draws;
     assert!(!reached, "the branch seeded with 17 was reached");
 }

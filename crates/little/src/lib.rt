@@ -1,0 +1,114 @@
+// Numbers and floats in byte slices, the lowest byte first: how the byte run and the recorded answers lie.
+ghost use mathlib.Core.Path.{_≡_};
+ghost use Prim.Native.Nat.{_+_, _%_, _<_, _≤_};
+ghost use lib.ListN.{length, set};
+ghost use lib.Ieee.{binary32, binary64, ofBits, toBits};
+ghost use Rattle.little.specs.Little.{little16, little32, little64, bytes32, over};
+
+// The bit of an f32's sign, and the pattern of infinity.
+const SIGN: u32 = 2147483648;
+
+const INFINITE: u32 = 2139095040;
+
+// The same of an f64.
+const SIGN64: u64 = 9223372036854775808;
+
+const INFINITE64: u64 = 9218868437227405312;
+
+// The pattern that `pattern_of` gives to NaN, of the many that it has.
+const NOT_A_NUMBER: u32 = 2143289344;
+
+// A cast of what a call or an index gives asks that it fits; a call of one of these asks nothing.
+fn wide(x: u8) -> u16
+    ensures { λ r. ⌜ (r ≡ x) × (x < 256) ⌝ }
+{
+    x as u16
+}
+
+fn wide16(x: u16) -> u32
+    ensures { λ r. ⌜ r ≡ x ⌝ }
+{
+    x as u32
+}
+
+fn wide32(x: u32) -> u64
+    ensures { λ r. ⌜ r ≡ x ⌝ }
+{
+    x as u64
+}
+
+// The number in two bytes, from `at` on, the lowest byte first; and so in four and in eight.
+// Wrong here: the highest byte first; halves that overlap.
+pub fn u16_at(bytes: &[u8], at: usize) -> u16
+    requires { ⌜ at + 2 ≤ length (now bytes) ⌝ }
+    ensures { λ r. ⌜ r ≡ little16 (now (bytes .entry)) at ⌝ }
+{
+    wide(bytes[at]) + 256 * wide(bytes[at + 1])
+}
+
+pub fn u32_at(bytes: &[u8], at: usize) -> u32
+    requires { ⌜ at + 4 ≤ length (now bytes) ⌝ }
+    ensures { λ r. ⌜ r ≡ little32 (now (bytes .entry)) at ⌝ }
+{
+    wide16(u16_at(bytes, at)) + 65536 * wide16(u16_at(bytes, at + 2))
+}
+
+pub fn u64_at(bytes: &[u8], at: usize) -> u64
+    requires { ⌜ at + 8 ≤ length (now bytes) ⌝ }
+    ensures { λ r. ⌜ r ≡ little64 (now (bytes .entry)) at ⌝ }
+{
+    wide32(u32_at(bytes, at)) + 4294967296 * wide32(u32_at(bytes, at + 4))
+}
+
+// The f32 of any pattern. `from_bits` is not defined at those of NaN, which stand above infinity's.
+// Wrong here: NaN for every pattern above infinity's, which those with the sign are too.
+pub fn float_of(bits: u32) -> f32
+    ensures { λ r. ⌜ r ≡ ofBits binary32 bits ⌝ }
+{
+    if bits % SIGN > INFINITE {
+        return 0.0 / 0.0;
+    }
+    f32::from_bits(bits)
+}
+
+// The pattern of any f32. `to_bits` is not defined at NaN.
+// Wrong here: 0 for NaN, which is a number's.
+pub fn pattern_of(x: f32) -> u32
+    ensures { λ r. ⌜ r ≡ toBits binary32 x ⌝ }
+{
+    if x != x {
+        return NOT_A_NUMBER;
+    }
+    f32::to_bits(x)
+}
+
+// The f64 of any pattern.
+// Wrong here: NaN for every pattern above infinity's, which those with the sign are too.
+pub fn double_of(bits: u64) -> f64
+    ensures { λ r. ⌜ r ≡ ofBits binary64 bits ⌝ }
+{
+    if bits % SIGN64 > INFINITE64 {
+        return 0.0 / 0.0;
+    }
+    f64::from_bits(bits)
+}
+
+// Writes the lowest byte of a number.
+fn put_byte(bytes: &mut [u8], at: usize, x: usize)
+    requires { ⌜ at < length (now bytes) ⌝ }
+    ensures { λ _. ⌜ now (bytes .exit) ≡ set (now (bytes .entry)) at (x % 256) ⌝ }
+{
+    bytes[at] = (x % 256) as u8;
+}
+
+// Writes the lowest 32 bits of a number to four bytes, from `at` on.
+// Wrong here: the highest byte first; a byte written beyond the four.
+pub fn put_u32(bytes: &mut [u8], at: usize, x: usize)
+    requires { ⌜ at + 4 ≤ length (now bytes) ⌝ }
+    ensures { λ _. ⌜ now (bytes .exit) ≡ over at (bytes32 x) (now (bytes .entry)) ⌝ }
+{
+    put_byte(bytes, at, x);
+    put_byte(bytes, at + 1, x / 256);
+    put_byte(bytes, at + 2, x / 65536);
+    put_byte(bytes, at + 3, x / 16777216);
+}

@@ -1,0 +1,6 @@
+pub mod Firsts
+pub mod Told
+pub mod Edits
+pub mod Puts
+pub mod Queries
+pub mod Places

@@ -1,0 +1,63 @@
+-- `runcalls::coordinates_at` meets its contract: after i turns the first i coordinates stand. Assumes nothing.
+use native.Mathlib.Omega.{arith}
+use mathlib.Core.Path.{refl, ap, _∙_}
+use Prim.Native.Nat.{ℕ, _+_, _-_}
+use lib.Ieee.{nan, binary32, ofBits}
+use Rattle.runlayout.specs.Layout.{number}
+use Rattle.runcalls.proofs.Firsts.{Firsts, firsts-none, firsts-turn, firsts-all}
+use borrow.Author.Needs.{needs}
+use Rattle.runcalls.proofs.coordinates_at.Statement.{statement}
+use Rattle.runcalls.proofs.coordinates_at.Tie as tie
+
+abbrev Inv-loop : tie.InvT-loop
+Inv-loop run from n coordinates₀ i₀ coordinates i = Firsts nan (λ (j : ℕ). ofBits binary32 (number run (from + j))) n 9 i coordinates
+
+abbrev μ-loop : tie.MeasureT-loop
+μ-loop run from n coordinates₀ i₀ coordinates i = n - i
+
+loop-holds : tie.Need-loop-holds Inv-loop μ-loop
+loop-holds c = firsts-none _ _ _ 9 _ refl
+
+add-bits-at : tie.Need-add-bits-at Inv-loop μ-loop
+add-bits-at c = search needs
+
+bits-at-requires : tie.Need-bits-at-requires Inv-loop μ-loop
+bits-at-requires c κs = search needs
+
+float-of-requires : tie.Need-float-of-requires Inv-loop μ-loop
+float-of-requires c κs = search needs
+
+mul-coordinates : tie.Need-mul-coordinates Inv-loop μ-loop
+mul-coordinates c = search needs
+
+array-write-coordinates : tie.Need-array-write-coordinates Inv-loop μ-loop
+array-write-coordinates c = search needs
+
+add-i : tie.Need-add-i Inv-loop μ-loop
+add-i c = search needs
+
+loop-less : tie.Need-loop-less Inv-loop μ-loop
+loop-less c = search needs
+
+loop-again : tie.Need-loop-again Inv-loop μ-loop
+loop-again c = firsts-turn _ _ _ 9 _ _ _ (c .before .before .before .loop .inv) (omega arith) (c .before .before .before .before .before .pre .0) (c .float-of .ensures ∙ ap (ofBits binary32) (c .before .bits-at .ensures))
+
+returns : tie.Need-returns Inv-loop μ-loop
+returns c = firsts-all _ _ _ 9 _ _ (c .before .loop .inv) (omega arith) (c .before .before .before .pre .0)
+
+pub coordinates-at-spec : {M : Type 1} → statement M
+coordinates-at-spec =
+    tie.close
+    (tie.spec
+    Inv-loop
+    μ-loop
+    loop-holds
+    add-bits-at
+    bits-at-requires
+    float-of-requires
+    mul-coordinates
+    array-write-coordinates
+    add-i
+    loop-less
+    loop-again
+    returns)

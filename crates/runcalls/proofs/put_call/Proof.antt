@@ -1,0 +1,50 @@
+-- `runcalls::put_call` meets its contract. Assumes nothing.
+use Rattle.runcalls.proofs.Puts.{put-does}
+use borrow.Author.Needs.{needs}
+use Rattle.runcalls.proofs.put_call.Statement.{statement}
+use Rattle.runcalls.proofs.put_call.Tie as tie
+
+add-number-at : tie.Need-add-number-at
+add-number-at c = search needs
+
+number-at-requires : tie.Need-number-at-requires
+number-at-requires c κs = search needs
+
+add-number-at-2 : tie.Need-add-number-at-2
+add-number-at-2 c = search needs
+
+number-at-requires-2 : tie.Need-number-at-requires-2
+number-at-requires-2 c κs = search needs
+
+at-most-requires : tie.Need-at-most-requires
+at-most-requires c κs = search needs
+
+add-coordinates-at : tie.Need-add-coordinates-at
+add-coordinates-at c = search needs
+
+coordinates-at-requires : tie.Need-coordinates-at-requires
+coordinates-at-requires c κs = search needs
+
+put-first-requires : tie.Need-put-first-requires
+put-first-requires c κs = search needs
+
+tell-put-requires : tie.Need-tell-put-requires
+tell-put-requires c κs = search needs
+
+returns : tie.Need-returns
+returns c = put-does (c .before .before .before .before .before .before .before .before .before .before .before .args .run .now) _ _ _ _ _ _ _ _ _ _ _ _ _ (c .before .before .before .before .before .before .before .before .before .number-at .ensures .0) (c .before .before .before .before .before .before .before .before .number-at2 .ensures .0) (c .before .before .before .before .before .before .before .at-most .ensures) (c .before .before .before .before .before .before .coordinates-at .ensures) (c .before .before .put-first .ensures) (c .tell-put .ensures)
+
+pub put-call-spec : {M : Type 1} → statement M
+put-call-spec =
+    tie.close
+    (tie.spec
+    add-number-at
+    number-at-requires
+    add-number-at-2
+    number-at-requires-2
+    at-most-requires
+    add-coordinates-at
+    coordinates-at-requires
+    put-first-requires
+    tell-put-requires
+    returns)

@@ -1,0 +1,95 @@
+//! Holds the port against the Rust, byte run by byte run.
+//!
+//!   compare 500 [SEED]        compares 500 runs
+//!   compare 75s [SEED]        compares runs for 75 seconds
+//!   compare --only N [SEED]   compares the run N of a seed
+//!   compare --fault           changes answers, buffers and words on purpose; all is well if that
+//!                             is noticed
+//!   compare --replay          reads a run in hexadecimal digits and shows each call's two answers
+//!
+//! SEED is a whole number; the same one gives the same runs. The last line says how many were
+//! compared and how many differ; the exit status is 0 only if none does.
+#![forbid(unsafe_code)]
+
+mod difference;
+mod fault;
+mod inputs;
+mod judge;
+mod replay;
+
+use inputs::Source;
+use judge::{Judge, Plain};
+use std::process::ExitCode;
+use std::time::{Duration, Instant};
+
+const SEED: u64 = 20;
+
+/// When a comparison ends, or the one run it is of.
+enum Until {
+    Only(usize),
+    Runs(usize),
+    Time(Duration),
+}
+
+fn main() -> ExitCode {
+    let arguments: Vec<String> = std::env::args().skip(1).collect();
+    let arguments: Vec<&str> = arguments.iter().map(String::as_str).collect();
+    match ask(&arguments) {
+        Ok(()) => ExitCode::SUCCESS,
+        Err(why) => {
+            eprintln!("compare: {why}");
+            ExitCode::FAILURE
+        }
+    }
+}
+
+fn ask(arguments: &[&str]) -> Result<(), String> {
+    match *arguments {
+        ["--fault"] => fault::run(SEED),
+        ["--replay"] => replay::run(),
+        ["--only", n] => compare(numbered(n)?, SEED),
+        ["--only", n, seed] => compare(numbered(n)?, number(seed)?),
+        [until] => compare(until_of(until)?, SEED),
+        [until, seed] => compare(until_of(until)?, number(seed)?),
+        _ => Err("usage: compare RUNS|SECONDSs|--only N|--fault|--replay [SEED]".into()),
+    }
+}
+
+fn number(text: &str) -> Result<u64, String> {
+    let number = text.parse();
+    number.map_err(|_| format!("{text} is no whole number"))
+}
+
+fn numbered(text: &str) -> Result<Until, String> {
+    Ok(Until::Only(number(text)? as usize))
+}
+
+/// A number of runs, or of seconds with an s behind it.
+fn until_of(text: &str) -> Result<Until, String> {
+    Ok(match text.strip_suffix('s') {
+        Some(seconds) => Until::Time(Duration::from_secs(number(seconds)?)),
+        None => Until::Runs(number(text)? as usize),
+    })
+}
+
+fn compare(until: Until, seed: u64) -> Result<(), String> {
+    let start = Instant::now();
+    let source = Source::new(seed);
+    let mut judge = Judge::new(Plain::default());
+    let mut n = match until {
+        Until::Only(n) => n,
+        _ => 0,
+    };
+    loop {
+        judge.look(&source.draw(n));
+        n += 1;
+        let over = match until {
+            Until::Only(_) => true,
+            Until::Runs(runs) => n >= runs,
+            Until::Time(time) => start.elapsed() >= time,
+        };
+        if over {
+            return judge.finish(oracle::feed::seed17_draws());
+        }
+    }
+}

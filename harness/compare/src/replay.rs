@@ -1,0 +1,57 @@
+//! A run in hexadecimal digits, from standard input: each call with the Rust's and the port's
+//! answer.
+use crate::difference::numbers;
+use crate::judge::{Answers, Plain};
+use runs::{decode, outcome, Call, Outcome};
+
+/// Shows every call, and an error if an answer differs.
+pub fn run() -> Result<(), String> {
+    let text = std::io::read_to_string(std::io::stdin()).map_err(|e| e.to_string())?;
+    let digits: Vec<char> = text.chars().filter(|c| !c.is_whitespace()).collect();
+    let bytes = digits.chunks(2).map(|two| {
+        let two: String = two.iter().collect();
+        u8::from_str_radix(&two, 16).map_err(|_| format!("{two} is no byte"))
+    });
+    let bytes = bytes.collect::<Result<Vec<u8>, String>>()?;
+    let expected = outcome(&bytes, usize::MAX);
+    let lent = match &expected {
+        Outcome::Answered(answers) => answers.len(),
+        Outcome::Refused(_) => 0,
+    };
+    let called = Plain::default().call(&bytes, lent);
+    show(&bytes, &expected, &called.written);
+    let (ours, theirs) = (expected.returned(), called.returned);
+    println!("returned: expected {ours}, got {theirs}");
+    let equal = match &expected {
+        Outcome::Answered(answers) => *answers == called.written,
+        Outcome::Refused(_) => true,
+    };
+    match equal && ours == theirs && called.harm.is_none() {
+        true => Ok(()),
+        false => Err("the port's answers are not those of the Rust".into()),
+    }
+}
+
+fn show(bytes: &[u8], expected: &Outcome, got: &[u8]) {
+    let (Some(run), Outcome::Answered(answers)) = (decode(bytes), expected) else {
+        return;
+    };
+    let channels = run.making.channels;
+    let size = |call: &Call| 4 * call.answer_numbers(channels);
+    let sizes = run.calls.iter().map(size);
+    let names = run.calls.iter().map(|call| format!("{call:X?}"));
+    let mut place = 0;
+    let making = (format!("{:X?}", run.making), 4);
+    for (name, size) in [making].into_iter().chain(names.zip(sizes)) {
+        let answer = place..place + size;
+        place += size;
+        let (ours, theirs) = (answers.get(answer.clone()), got.get(answer));
+        let mark = if ours == theirs { "" } else { " DIFFERS" };
+        println!("{name}{mark}");
+        println!(
+            "  expected {}\n  got      {}",
+            numbers(ours),
+            numbers(theirs)
+        );
+    }
+}

@@ -1,0 +1,16 @@
+#!/bin/bash
+# Compares port and Rust for a given time, on other runs each day.
+#   harness/night.sh MINUTES [SEED]
+# KRCF_SRC as for run.sh. Needs cargo, the Rust and rt. Without a SEED it is the day's date.
+set -euo pipefail
+
+minutes=${1:?usage: harness/night.sh MINUTES [SEED]}
+seed=${2:-$(date -u +%Y%m%d)}
+root=$(cd "$(dirname "$0")/.." && pwd)
+cd "$root"
+harness/copy_given.sh "${KRCF_SRC:-../shared/docs/src}"
+rt staticlib run
+
+echo "night: $minutes minutes with the seed $seed"
+cargo run --quiet --offline --locked --manifest-path harness/Cargo.toml --package compare -- \
+  "$((60 * minutes))s" "$seed"

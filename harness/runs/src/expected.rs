@@ -1,0 +1,53 @@
+//! What `sicklephlox_run` must return and write for given bytes.
+use crate::decode::decode;
+use crate::driver::Driver;
+use crate::layout::{Answer, Run};
+use crate::refusals::{OUT_OF_LAYOUT, TOO_FEW_BYTES};
+
+/// What a run's bytes come to.
+#[derive(Clone, Debug, PartialEq)]
+pub enum Outcome {
+    /// The run is refused with this number, and nothing is written.
+    Refused(u32),
+    /// These answer bytes are written, and their number returned.
+    Answered(Vec<u8>),
+}
+
+impl Outcome {
+    /// The number that is returned.
+    pub fn returned(&self) -> usize {
+        match self {
+            Outcome::Refused(number) => *number as usize,
+            Outcome::Answered(bytes) => bytes.len(),
+        }
+    }
+}
+
+/// The answers of a run: the making's, then one for each call. A refused making has its own only.
+pub fn answers(run: &Run) -> Vec<Answer> {
+    match Driver::make(&run.making) {
+        Err(refusal) => vec![vec![refusal]],
+        Ok(mut driver) => {
+            let calls = run.calls.iter().map(|call| driver.call(call));
+            [vec![0]].into_iter().chain(calls).collect()
+        }
+    }
+}
+
+/// Answers as the bytes that are written.
+pub fn bytes_of(answers: &[Answer]) -> Vec<u8> {
+    let numbers = answers.iter().flatten();
+    numbers.flat_map(|number| number.to_le_bytes()).collect()
+}
+
+/// What these bytes come to where `lent` answer bytes are lent.
+pub fn outcome(bytes: &[u8], lent: usize) -> Outcome {
+    let Some(run) = decode(bytes) else {
+        return Outcome::Refused(OUT_OF_LAYOUT);
+    };
+    let written = bytes_of(&answers(&run));
+    if lent < written.len() {
+        return Outcome::Refused(TOO_FEW_BYTES);
+    }
+    Outcome::Answered(written)
+}

@@ -1,0 +1,33 @@
+//! Runs from a seeded generator, each with the answers that it must get.
+mod fed;
+mod long;
+mod readings;
+mod setting;
+mod steps;
+mod writer;
+
+pub use long::{lone_leaf_to_the_limit, three_values_to_the_limit};
+
+use crate::layout::{Answer, Run};
+use oracle::Words;
+use setting::Setting;
+
+/// A run, and the answers to its making and calls.
+#[derive(Clone)]
+pub struct Written {
+    pub run: Run,
+    pub answers: Vec<Answer>,
+}
+
+/// How many bytes a run and its answers may have.
+#[derive(Clone, Copy)]
+pub struct Room {
+    pub run: usize,
+    pub answers: usize,
+}
+
+/// A run that the generator makes up, in this room.
+pub fn run(words: &mut Words, room: Room) -> Written {
+    let setting = Setting::draw(words, room);
+    writer::write(setting, words, room)
+}

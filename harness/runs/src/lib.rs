@@ -1,0 +1,21 @@
+//! The byte run of docs/LAYOUT.md: runs written to bytes and read from them, the answers that the
+//! unchanged Rust and document 01 demand, and runs to compare, whole ones and damaged ones.
+#![forbid(unsafe_code)]
+
+pub mod aimed;
+mod checker;
+mod copies;
+pub mod damaged;
+mod decode;
+mod driver;
+pub mod examples;
+mod expected;
+pub mod generate;
+mod layout;
+mod refusals;
+
+pub use checker::{check, Checked};
+pub use decode::decode;
+pub use driver::Driver;
+pub use expected::{answers, bytes_of, outcome, Outcome};
+pub use layout::{Answer, Call, Making, Run};

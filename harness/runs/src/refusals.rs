@@ -1,0 +1,44 @@
+//! Document 01's conditions that need no tree: what a making and a reading are refused for.
+use crate::layout::Making;
+
+pub const CHANNELS: u32 = 1;
+pub const CAPACITY: u32 = 2;
+pub const SHARE: u32 = 3;
+pub const INDEX: u32 = 5;
+pub const COORDINATE_COUNT: u32 = 6;
+pub const COORDINATE: u32 = 7;
+pub const IS_LEAF: u32 = 8;
+pub const NEVER_WRITTEN: u32 = 9;
+pub const FULL: u32 = 10;
+pub const TOO_FEW_WORDS: u32 = 11;
+pub const EMPTY: u32 = 12;
+pub const NOT_HELD: u32 = 13;
+pub const TOO_FEW_BYTES: u32 = 15;
+pub const NO_SUCH_NODE: u32 = 16;
+pub const OUT_OF_LAYOUT: u32 = 17;
+
+/// The largest coordinate; the least is minus this.
+pub const EDGE: i32 = 1 << 20;
+/// No tree holds more copies.
+pub const MOST_COPIES: usize = 65_535;
+
+/// Why a making is refused, if it is.
+pub fn making_refusal(making: &Making) -> Option<u32> {
+    let share = f64::from_bits(making.share);
+    if !(1..=8).contains(&making.channels) {
+        Some(CHANNELS)
+    } else if !(2..=256).contains(&making.capacity) {
+        Some(CAPACITY)
+    } else if !(0.0..=1.0).contains(&share) {
+        Some(SHARE)
+    } else {
+        None
+    }
+}
+
+/// Whether these bits are a coordinate: a whole number from -2^20 to 2^20, not minus zero.
+pub fn is_coordinate(bits: u32) -> bool {
+    let x = f32::from_bits(bits);
+    let edge = EDGE as f32;
+    (-edge..=edge).contains(&x) && x.fract() == 0.0 && bits != (-0.0f32).to_bits()
+}

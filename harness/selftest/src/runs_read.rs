@@ -1,0 +1,106 @@
+//! Byte runs: what is written is read back, both readings of docs/LAYOUT.md agree, document 01's
+//! list gets document 01's answers, and the trees hold what the copy counts say.
+use crate::model::{check_tree, count_down, count_up, value, Counts, Value};
+use oracle::{Table, Words};
+use runs::damaged::damage;
+use runs::generate::{self, Room, Written};
+use runs::{answers, bytes_of, check, decode, examples, outcome, Answer, Call, Checked};
+use runs::{Driver, Outcome};
+
+const SEED: u64 = 0x00C0_FFEE_0000_0003;
+
+/// Looks at this many runs and as many damaged ones, and answers how many calls they have.
+pub fn run(runs: usize) -> usize {
+    list_of_three_adds();
+    let mut words = Words::new(SEED);
+    let mut calls = 0;
+    for n in 0..runs {
+        let size = 1_000 << (n % 6);
+        let room = Room {
+            run: size,
+            answers: size,
+        };
+        let written = generate::run(&mut words, room);
+        read_back(&written);
+        replay(&written);
+        calls += written.run.calls.len();
+        both_agree(&damage(&written.run, &mut words));
+    }
+    calls
+}
+
+/// Document 01's list and its printed tree: branches 0 and 1, leaves 4, 6 and 5.
+fn list_of_three_adds() {
+    let Written { run, answers } = examples::all().swap_remove(0);
+    let answer = |call: &Call| -> &Answer {
+        let place = run.calls.iter().position(|c| c == call);
+        &answers[1 + place.expect("a call of the run")]
+    };
+    let adds = run.calls.iter().filter(|c| matches!(c, Call::Add { .. }));
+    let added: Vec<&Answer> = adds.map(answer).collect();
+    assert_eq!(added, [&[0, 0, 0], &[0, 1, 1], &[0, 2, 2]]);
+    let branch = |id| answer(&Call::Branch { id });
+    assert_eq!(*branch(0), [0, 0, 0x4080_0000, 1, 5, 3]);
+    assert_eq!(*branch(1), [0, 0, 0x3F80_0000, 4, 6, 2]);
+    assert_eq!(*branch(2), [16, 0, 0, 0, 0, 0]);
+    for id in 0..7 {
+        let leaf = id >= 4;
+        let copies = if leaf { [0, 1] } else { [16, 0] };
+        assert_eq!(*answer(&Call::Copies { id }), copies);
+    }
+    let around = |id| answer(&Call::Box { id });
+    assert_eq!(*around(0), [0, 0, 8.0f32.to_bits()]);
+    assert_eq!(*around(1), [0, 0, 2.0f32.to_bits()]);
+    assert_eq!(*around(2), [16, 0, 0]);
+}
+
+fn read_back(written: &Written) {
+    let bytes = written.run.encode();
+    assert_eq!(bytes.len(), written.run.run_bytes());
+    assert_eq!(decode(&bytes).as_ref(), Some(&written.run));
+    assert_eq!(answers(&written.run), written.answers);
+    let needs = bytes_of(&written.answers).len();
+    assert_eq!(check(&bytes), Checked::Needs(needs));
+    assert_eq!(outcome(&bytes, needs - 1), Outcome::Refused(15));
+}
+
+/// `decode` and `check` agree on bytes that may be a run or not.
+fn both_agree(bytes: &[u8]) {
+    match (check(bytes), outcome(bytes, usize::MAX)) {
+        (Checked::OutOfLayout, Outcome::Refused(17)) => {}
+        (Checked::Needs(needs), Outcome::Answered(written)) => assert_eq!(needs, written.len()),
+        (checked, outcome) => panic!("{checked:?} but {outcome:?}"),
+    }
+}
+
+/// Counts copies from calls and answers alone, and holds the tree after the last call against them.
+fn replay(written: &Written) {
+    let Ok(mut driver) = Driver::make(&written.run.making) else {
+        return assert_eq!(written.answers.len(), 1);
+    };
+    let mut kept: Vec<Option<Value>> = vec![None; Table::SIZE];
+    let mut counts = Counts::new();
+    for (call, answer) in written.run.calls.iter().zip(&written.answers[1..]) {
+        driver.call(call);
+        if answer[0] == 0 {
+            count(call, &mut kept, &mut counts);
+        }
+    }
+    let (tree, table) = (driver.bare().tree(), driver.table());
+    let share = f64::from_bits(written.run.making.share);
+    check_tree(tree, table, &counts, driver.capacity(), share);
+}
+
+/// What an accepted call changes in the counts.
+fn count(call: &Call, kept: &mut [Option<Value>], counts: &mut Counts) {
+    let point = |index: &u32, kept: &[Option<Value>]| kept[*index as usize].clone().expect("put");
+    match call {
+        Call::Put { index, coordinates } => {
+            let point: Vec<f32> = coordinates.iter().map(|x| f32::from_bits(*x)).collect();
+            kept[*index as usize] = Some(value(&point));
+        }
+        Call::Add { index, .. } => count_up(counts, point(index, kept)),
+        Call::Delete { index } => count_down(counts, point(index, kept)),
+        _ => {}
+    }
+}
