@@ -7,3 +7,4 @@ pub mod Growth
 pub mod Held
 pub mod Around
 pub mod Padding
+pub mod Casts

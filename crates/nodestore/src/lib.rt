@@ -7,7 +7,7 @@ ghost use mathlib.Core.List.{List};
 ghost use Prim.Native.Nat.{ℕ, _+_, _-_, _<_, _≤_};
 ghost use lib.Dec.{eqb};
 ghost use lib.ListN.{length, getD, set, take, drop};
-ghost use lib.Ieee.{Float};
+ghost use lib.Ieee.{Float, le};
 ghost use Rattle.boundingbox.specs.Sides.{nought};
 ghost use Rattle.cuttree.specs.Tree.{Tree, leaf, id, ending, addCopy, forget, freed};
 ghost use Rattle.cuttree.specs.Setting.{Cut as CutOf};
@@ -35,6 +35,13 @@ fn path_length(path: &[[u16; 2]; 256])
     rows_of(path);
 }
 
+// The side that a coordinate goes to: 0 is the left one, 1 the right one. A number and no branch, so that none has to be guessed.
+fn side_of(x: f32, cut: f32) -> usize
+    ensures { λ r. ⌜ (r ≡ cond (le x cut) 0 1) × (r ≤ 1) ⌝ }
+{
+    if x <= cut { 0 } else { 1 }
+}
+
 // The side that the point goes to, and the other.
 fn step_at(nodes: &[[u16; 4]; 255], cuts: &[f32; 255], point: &[f32; 8], i: usize) -> [u16; 2]
     requires { ⌜ i < 255 ⌝ }
@@ -42,11 +49,8 @@ fn step_at(nodes: &[[u16; 4]; 255], cuts: &[f32; 255], point: &[f32; 8], i: usiz
     ensures { λ r. ⌜ r ≡ stepOf (now (nodes .entry)) (now (cuts .entry)) (now (point .entry)) i ⌝ }
 {
     let d = wide16(nodes[i][3]);
-    if point[d] <= cuts[i] {
-        [nodes[i][0], nodes[i][1]]
-    } else {
-        [nodes[i][1], nodes[i][0]]
-    }
+    let side = side_of(point[d], cuts[i]);
+    [nodes[i][side], nodes[i][1 - side]]
 }
 
 // The nodes from the root to the leaf, each with its sibling; the root has none. The rows after the walk's stay as they are.

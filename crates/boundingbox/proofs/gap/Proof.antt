@@ -1,20 +1,18 @@
--- `boundingbox::gap` meets its contract: a difference of two values in order is a number, so the cast keeps it. Assumes nothing.
-use lib.Ieee.{ofBits}
-use Rattle.readings.proofs.Numbers.{sub-cast}
-use Rattle.boundingbox.specs.Sides.{gapOf}
+-- `boundingbox::gap` meets its contract: what is cast is a number. Assumes nothing.
+use borrow.Author.Needs.{needs}
+use mathlib.Core.Path.{sym, subst}
+use Rattle.boundingbox.proofs.Casts.{Casts, gap-casts}
 use Rattle.boundingbox.proofs.gap.Statement.{statement}
 use Rattle.boundingbox.proofs.gap.Tie as tie
 
+rise-requires : tie.Need-rise-requires
+rise-requires c κs = search needs
+
 float-to-float-result : tie.Need-float-to-float-result
-float-to-float-result c = sub-cast (c .before .before .args .b) (c .before .before .args .a) (c .before .if1 .taken)
+float-to-float-result c = subst Casts (sym (c .before .rise .ensures)) (gap-casts (c .before .before .args .a) (c .before .before .args .b))
 
 returns : tie.Need-returns
-unfolding gapOf
-returns c = rw (c .before .if1 .taken)
-
-returns-2 : tie.Need-returns-2
-unfolding gapOf ofBits
-returns-2 c = rw (c .if1 .left)
+returns c = search needs
 
 pub gap-spec : {M : Type 1} → statement M
-gap-spec = tie.close (tie.spec float-to-float-result returns returns-2)
+gap-spec = tie.close (tie.spec rise-requires float-to-float-result returns)
