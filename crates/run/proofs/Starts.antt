@@ -11,8 +11,8 @@ use Rattle.cuttree.specs.Run.{World, Call}
 use Rattle.wholetree.specs.Whole.{whole}
 use Rattle.randomcuttree.specs.declared.RCFTree.{RCFTree}
 use Rattle.randomcuttree.specs.State.{Lent}
+use Rattle.calls.specs.Said.{saidFrom}
 use Rattle.runlayout.specs.Check.{widths}
-use Rattle.runcalls.specs.Said.{saidFrom}
 use Rattle.run.specs.Outcome.{given}
 use Rattle.run.specs.Running.{Running, Started}
 use Rattle.run.proofs.Widths.{length-all}

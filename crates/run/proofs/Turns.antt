@@ -14,11 +14,11 @@ use Rattle.cuttree.proofs.Tests.{nonsense}
 use Rattle.wholetree.specs.Whole.{whole}
 use Rattle.randomcuttree.specs.declared.RCFTree.{RCFTree}
 use Rattle.randomcuttree.specs.State.{Lent, State, SomeState}
+use Rattle.calls.specs.Said.{filled, said, saidFrom}
+use Rattle.calls.specs.Done.{Done, Does}
 use Rattle.runlayout.specs.Layout.{size, number, widthAt, standsAt, callAt, restFrom}
 use Rattle.runlayout.specs.Check.{widthOf, widths, widthOfKind}
 use Rattle.runlayout.proofs.Rest.{rest-end, Begun, rest-call, is-call, width-kind}
-use Rattle.runcalls.specs.Said.{filled, said, saidFrom}
-use Rattle.runcalls.specs.Done.{Done, Does}
 use Rattle.run.specs.Running.{Running}
 use Rattle.run.proofs.Widths.{length-said}
 

@@ -11,8 +11,8 @@ use Rattle.wholetree.specs.Whole.{whole}
 use Rattle.randomcuttree.specs.declared.Made.{Made}
 use Rattle.randomcuttree.specs.declared.Made.the-variants.{Tree, NotMade}
 use Rattle.randomcuttree.specs.Making.{cachedBy, madeBy}
+use Rattle.calls.specs.Said.{saidFrom}
 use Rattle.runlayout.specs.Layout.{channels, capacity, share, calls}
-use Rattle.runcalls.specs.Said.{saidFrom}
 
 -- '15: fewer answer bytes are lent than the run needs'; else the numbers' bytes, and the lent bytes beyond them as they were
 abbrev pub given : List ℕ → List ℕ → ℕ × List ℕ

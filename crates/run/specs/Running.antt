@@ -12,10 +12,10 @@ use Rattle.cuttree.specs.Run.{World, Call}
 use Rattle.wholetree.specs.Whole.{whole}
 use Rattle.randomcuttree.specs.declared.RCFTree.{RCFTree}
 use Rattle.randomcuttree.specs.State.{Lent, State}
+use Rattle.calls.specs.Said.{saidFrom}
 use Rattle.runlayout.specs.Layout as Layout
 use Rattle.runlayout.specs.Layout.{restFrom}
 use Rattle.runlayout.specs.Check.{widths}
-use Rattle.runcalls.specs.Said.{saidFrom}
 
 -- At place p of the run, with `out` numbers answered: the lent state is a world's, and the calls from p on, answered from it, end with
 -- `count` numbers answered and the lent bytes `final`.

@@ -15,9 +15,9 @@ ghost use Rattle.wholetree.specs.Whole.{whole};
 ghost use Rattle.layout.specs.Layout.{noEnds};
 ghost use Rattle.randomcuttree.specs.State.{lent};
 ghost use Rattle.randomcuttree.specs.Making.{madeBy};
+ghost use Rattle.calls.specs.Said.{saidFrom};
 ghost use Rattle.runlayout.specs.Layout.{size, number, isMaking, channels, capacity, share, restFrom, widthAt, standsAt};
 ghost use Rattle.runlayout.specs.Check.{widths};
-ghost use Rattle.runcalls.specs.Said.{saidFrom};
 ghost use Rattle.run.specs.Outcome.{given, answered, outcome};
 ghost use Rattle.run.specs.Running.{Running, SomeRunning, Started, SomeStarted, Checks};
 

@@ -1,6 +1,3 @@
 pub mod Firsts
-pub mod Told
-pub mod Edits
-pub mod Puts
-pub mod Queries
+pub mod Given
 pub mod Places

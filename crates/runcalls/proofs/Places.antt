@@ -13,8 +13,8 @@ use Rattle.wholetree.specs.Whole.{whole}
 use Rattle.randomcuttree.specs.declared.RCFTree.{RCFTree}
 use Rattle.randomcuttree.specs.State.{Lent, SomeState}
 use Rattle.randomcuttree.specs.Queries.{SomeBoxRead}
+use Rattle.calls.specs.Done.{Does, Done, queryOf}
 use Rattle.runlayout.specs.Layout.{size, number, coordinatesAt, wordsAt, callAt, widthAt, standsAt, isCall}
-use Rattle.runcalls.specs.Done.{Does, Done, queryOf}
 
 both : (a b : Bool) → a && b ≡ true → b ≡ true
 both true b e = e

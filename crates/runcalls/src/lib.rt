@@ -1,45 +1,21 @@
-// The calls of a byte run (docs/LAYOUT.md): each read from its place in the run, carried out on the lent state, and its answer as numbers.
-use boundingbox::BoundingBox;
-use pointstore::PutAnswer;
-use randomcuttree::AddAnswer;
-use randomcuttree::BoxAnswer;
-use randomcuttree::BranchAnswer;
-use randomcuttree::CopiesAnswer;
-use randomcuttree::DeleteAnswer;
+// The calls of a byte run (docs/LAYOUT.md): each read from its place in the run and carried out on the lent state, with its answer as numbers.
 use randomcuttree::RCFTree;
 ghost use mathlib.Core.Path.{_≡_};
 ghost use mathlib.Core.Bool.{true};
-ghost use mathlib.Core.List.{List};
-ghost use Prim.Native.Nat.{ℕ, _+_, _*_, _<_, _≤_, min};
+ghost use Prim.Native.Nat.{ℕ, _+_, _*_, _≤_, min};
 ghost use lib.ListN.{length, take};
-ghost use lib.Ieee.{Float, binary32, ofBits};
-ghost use Rattle.cuttree.specs.Run.{World, put, add, delete, query};
-ghost use Rattle.wholetree.specs.Whole.{whole, tab};
-ghost use Rattle.pointstore.specs.Puts.{Tabled, PutDone};
+ghost use lib.Ieee.{binary32, ofBits};
+ghost use Rattle.cuttree.specs.Run.{put, add, delete};
+ghost use Rattle.wholetree.specs.Whole.{tab};
 ghost use Rattle.randomcuttree.specs.State.{Lent, lent, SomeState};
-ghost use Rattle.randomcuttree.specs.Answers.{AddDone};
-ghost use Rattle.randomcuttree.specs.Queries.{BoxRead, SomeBoxRead};
+ghost use Rattle.calls.specs.Done.{Does};
 ghost use Rattle.runlayout.specs.Layout.{size, number, double, coordinatesAt, wordsAt, callAt, standsAt};
-ghost use Rattle.runcalls.specs.Said.{filled, putNumbers, addNumbers, deleteNumbers, copiesNumbers, branchNumbers, boxNumbers};
-ghost use Rattle.runcalls.specs.Done.{Does, headerAdded, headerDeleted, queryOf};
 
 // The lesser of two numbers.
 fn at_most(n: usize, most: usize) -> usize
     ensures { λ r. ⌜ r ≡ min n most ⌝ }
 {
     if n < most { n } else { most }
-}
-
-fn wide8(x: u8) -> usize
-    ensures { λ r. ⌜ r ≡ x ⌝ }
-{
-    x as usize
-}
-
-fn wide32(x: u32) -> usize
-    ensures { λ r. ⌜ r ≡ x ⌝ }
-{
-    x as usize
 }
 
 // n coordinates from a place on. A list of nine is longer than any tree's, so a longer one is refused like it.
@@ -76,116 +52,6 @@ fn read_words(run: &[u8], from: usize, n: usize, words: &mut [u64; 256])
     fill_words(run, from, n, words);
 }
 
-// The numbers of each answer, with 0 after them.
-fn tell_put(answer: PutAnswer, reply: &mut [usize; 17])
-    ensures { λ _. ⌜ now (reply .exit) ≡ filled 17 (putNumbers answer) ⌝ }
-{
-    *reply = [0; 17];
-    match answer {
-        PutAnswer::Written => {}
-        PutAnswer::Refused(r) => {
-            reply[0] = wide8(r);
-        }
-    }
-}
-
-fn tell_add(answer: AddAnswer, reply: &mut [usize; 17])
-    ensures { λ _. ⌜ now (reply .exit) ≡ filled 17 (addNumbers answer) ⌝ }
-{
-    *reply = [0; 17];
-    match answer {
-        AddAnswer::Added(_, leaf, taken) => {
-            reply[1] = leaf;
-            reply[2] = taken;
-        }
-        AddAnswer::NotAdded(r) => {
-            reply[0] = wide8(r);
-        }
-    }
-}
-
-fn tell_delete(answer: DeleteAnswer, reply: &mut [usize; 17])
-    ensures { λ _. ⌜ now (reply .exit) ≡ filled 17 (deleteNumbers answer) ⌝ }
-{
-    *reply = [0; 17];
-    match answer {
-        DeleteAnswer::Deleted(_, leaf) => {
-            reply[1] = leaf;
-        }
-        DeleteAnswer::NotDeleted(r) => {
-            reply[0] = wide8(r);
-        }
-    }
-}
-
-fn tell_copies(answer: CopiesAnswer, reply: &mut [usize; 17])
-    ensures { λ _. ⌜ now (reply .exit) ≡ filled 17 (copiesNumbers answer) ⌝ }
-{
-    *reply = [0; 17];
-    match answer {
-        CopiesAnswer::Copies(n) => {
-            reply[1] = n;
-        }
-        CopiesAnswer::NoLeaf(r) => {
-            reply[0] = wide8(r);
-        }
-    }
-}
-
-fn tell_branch(answer: BranchAnswer, reply: &mut [usize; 17])
-    ensures { λ _. ⌜ now (reply .exit) ≡ filled 17 (branchNumbers answer) ⌝ }
-{
-    *reply = [0; 17];
-    match answer {
-        BranchAnswer::Branch(row) => {
-            let cut = row.cut;
-            reply[1] = cut.dimension;
-            reply[2] = wide32(little::pattern_of(cut.value));
-            reply[3] = row.left;
-            reply[4] = row.right;
-            reply[5] = row.mass;
-        }
-        BranchAnswer::NoBranch(r) => {
-            reply[0] = wide8(r);
-        }
-    }
-}
-
-// The ends of a box's channels as bits, the lower ones from the second number on, the upper ones after them.
-fn tell_box(answer: BoxAnswer, d: usize, reply: &mut [usize; 17])
-    requires { ⌜ d ≤ 8 ⌝ }
-    ensures { λ _. ⌜ now (reply .exit) ≡ filled 17 (boxNumbers d answer) ⌝ }
-{
-    let bounding_box = answer.bounding_box;
-    let low = bounding_box.min_values;
-    let high = bounding_box.max_values;
-    *reply = [0; 17];
-    reply[0] = wide8(answer.refusal);
-    let mut i: usize = 0;
-    while i < d {
-        reply[1 + i] = wide32(little::pattern_of(low[i]));
-        reply[1 + d + i] = wide32(little::pattern_of(high[i]));
-        i += 1;
-    }
-}
-
-// The put of the first n coordinates.
-fn put_first(
-    dimensions: usize,
-    copies: &[u16; 1024],
-    points: &mut [[f32; 8]; 1024],
-    written: &mut [u8; 1024],
-    index: usize,
-    coordinates: &[f32; 9],
-    n: usize,
-) -> PutAnswer
-    requires { ⌜ n ≤ 9 ⌝ }
-    ensures { λ r. ⌜ ((d c : ℕ) (W : World (whole d)) → dimensions ≡ d → Tabled d c W (now (points .entry)) (now (written .entry)) (now (copies .entry)) → PutDone d c W index (take n (now (coordinates .entry))) (now (points .exit)) (now (written .exit)) r) ⌝ }
-{
-    let all: &[f32] = coordinates;
-    pointstore::put(dimensions, copies, points, written, index, &all[..n])
-}
-
 fn put_call(
     tree: RCFTree,
     copies: &[u16; 1024],
@@ -201,68 +67,7 @@ fn put_call(
     let index = runlayout::number_at(run, p + 1);
     let n = at_most(runlayout::number_at(run, p + 2), 9);
     let coordinates = coordinates_at(run, p + 3, n);
-    let answer = put_first(
-        tree.dimensions,
-        copies,
-        points,
-        written,
-        index,
-        &coordinates,
-        n,
-    );
-    tell_put(answer, reply);
-}
-
-// The add with the first n words.
-fn add_first(
-    tree: RCFTree,
-    nodes: &mut [[u16; 4]; 255],
-    cuts: &mut [f32; 255],
-    copies: &mut [u16; 1024],
-    free: &mut [[u16; 2]; 255],
-    lows: &mut [[f32; 8]; 255],
-    highs: &mut [[f32; 8]; 255],
-    points: &[[f32; 8]; 1024],
-    written: &[u8; 1024],
-    index: usize,
-    words: &[u64; 256],
-    n: usize,
-) -> AddAnswer
-    requires { ⌜ (n ≤ 256) × SomeState tree (lent (now nodes) (now cuts) (now copies) (now free) (now lows) (now highs)) (now points) (now written) ⌝ }
-    ensures { λ r. ⌜ AddDone tree (lent (now (nodes .entry)) (now (cuts .entry)) (now (copies .entry)) (now (free .entry)) (now (lows .entry)) (now (highs .entry))) (now (points .entry)) (now (written .entry)) index (take n (now (words .entry))) r (lent (now (nodes .exit)) (now (cuts .exit)) (now (copies .exit)) (now (free .exit)) (now (lows .exit)) (now (highs .exit))) ⌝ }
-{
-    let all: &[u64] = words;
-    tree.add(
-        nodes,
-        cuts,
-        copies,
-        free,
-        lows,
-        highs,
-        points,
-        written,
-        index,
-        &all[..n],
-    )
-}
-
-// The header after an add, and after a delete: a refused one leaves it as it was.
-fn header_added(tree: RCFTree, answer: AddAnswer) -> RCFTree
-    ensures { λ r. ⌜ r ≡ headerAdded tree answer ⌝ }
-{
-    match answer {
-        AddAnswer::Added(next, _, _) => next,
-        AddAnswer::NotAdded(_) => tree,
-    }
-}
-
-fn header_deleted(tree: RCFTree, answer: DeleteAnswer) -> RCFTree
-    ensures { λ r. ⌜ r ≡ headerDeleted tree answer ⌝ }
-{
-    match answer {
-        DeleteAnswer::Deleted(next, _) => next,
-        DeleteAnswer::NotDeleted(_) => tree,
-    }
+    calls::put(tree, copies, points, written, index, &coordinates, n, reply);
 }
 
 fn add_call(
@@ -286,7 +91,7 @@ fn add_call(
     let index = runlayout::number_at(run, p + 1);
     let n = at_most(runlayout::number_at(run, p + 2), 256);
     read_words(run, p + 3, n, words);
-    let answer = add_first(
+    calls::add(
         tree,
         nodes,
         cuts,
@@ -299,9 +104,8 @@ fn add_call(
         index,
         words,
         n,
-    );
-    tell_add(answer, reply);
-    header_added(tree, answer)
+        reply,
+    )
 }
 
 fn delete_call(
@@ -322,7 +126,8 @@ fn delete_call(
     ensures { λ r. ⌜ Does (λ d. delete (number (now (run .entry)) (p + 1))) tree (lent (now (nodes .entry)) (now (cuts .entry)) (now (copies .entry)) (now (free .entry)) (now (lows .entry)) (now (highs .entry))) (now (points .entry)) (now (written .entry)) r (lent (now (nodes .exit)) (now (cuts .exit)) (now (copies .exit)) (now (free .exit)) (now (lows .exit)) (now (highs .exit))) (now (points .entry)) (now (written .entry)) (now (reply .exit)) ⌝ }
 {
     let index = runlayout::number_at(run, p + 1);
-    let answer = tree.delete(
+    calls::delete(
+        tree,
         nodes,
         cuts,
         copies,
@@ -332,41 +137,8 @@ fn delete_call(
         points,
         written,
         index,
-    );
-    tell_delete(answer, reply);
-    header_deleted(tree, answer)
-}
-
-// A query writes nothing but the reply.
-fn query_call(
-    tree: RCFTree,
-    nodes: &[[u16; 4]; 255],
-    cuts: &[f32; 255],
-    copies: &[u16; 1024],
-    points: &[[f32; 8]; 1024],
-    lows: &[[f32; 8]; 255],
-    highs: &[[f32; 8]; 255],
-    kind: usize,
-    id: usize,
-    reply: &mut [usize; 17],
-)
-    requires { ⌜ SomeBoxRead tree (now nodes) (now points) (now lows) (now highs) × (tree .dimensions ≤ 8) ⌝ }
-    ensures { λ _. ⌜ ((a : Lent) (marks : List ℕ) → BoxRead a (now (nodes .entry)) (now (lows .entry)) (now (highs .entry)) → a .cuts ≡ now (cuts .entry) → a .copies ≡ now (copies .entry)
-        → Does (λ d. query (queryOf kind id)) tree a (now (points .entry)) marks tree a (now (points .entry)) marks (now (reply .exit))) ⌝ }
-{
-    if kind == 8 {
-        tell_copies(tree.copies_of(copies, id), reply);
-        return;
-    }
-    if kind == 9 {
-        tell_branch(tree.branch_of(nodes, cuts, id), reply);
-        return;
-    }
-    tell_box(
-        tree.box_of(nodes, points, lows, highs, id),
-        tree.dimensions,
         reply,
-    );
+    )
 }
 
 // The call at a place of the run: its answer's numbers in the reply, with 0 after them, and the header after it.
@@ -428,7 +200,7 @@ pub fn call_at(
         );
     }
     let id = runlayout::number_at(run, p + 1);
-    query_call(
+    calls::query(
         tree,
         nodes,
         cuts,

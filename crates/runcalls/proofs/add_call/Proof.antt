@@ -1,5 +1,5 @@
 -- `runcalls::add_call` meets its contract. Assumes nothing.
-use Rattle.runcalls.proofs.Edits.{add-does}
+use Rattle.runcalls.proofs.Given.{add-given}
 use borrow.Author.Needs.{needs}
 use Rattle.runcalls.proofs.add_call.Statement.{statement}
 use Rattle.runcalls.proofs.add_call.Tie as tie
@@ -25,17 +25,11 @@ add-read-words c = search needs
 read-words-requires : tie.Need-read-words-requires
 read-words-requires c κs = search needs
 
-add-first-requires : tie.Need-add-first-requires
-add-first-requires c κs = search needs
-
-tell-add-requires : tie.Need-tell-add-requires
-tell-add-requires c κs = search needs
-
-header-added-requires : tie.Need-header-added-requires
-header-added-requires c κs = search needs
+add-requires : tie.Need-add-requires
+add-requires c κs = search needs
 
 returns : tie.Need-returns
-returns c = add-does (c .before .before .before .before .before .before .before .before .before .before .before .before .before .before .before .before .before .args .run .now) _ _ _ _ _ _ _ _ _ _ _ _ _ (c .before .before .before .before .before .before .before .before .before .before .before .before .before .before .before .number-at .ensures .0) (c .before .before .before .before .before .before .before .before .before .before .before .before .before .before .number-at2 .ensures .0) (c .before .before .before .before .before .before .before .before .before .before .before .before .before .at-most .ensures) (c .before .before .before .before .before .before .before .before .before .before .before .read-words .ensures) (c .before .before .before .add-first .ensures) (c .header-added .ensures) (c .before .tell-add .ensures)
+returns c = add-given (c .before .before .before .before .before .before .before .before .before .before .before .before .before .before .before .args .run .now) _ _ _ _ _ _ _ _ _ _ _ (c .before .before .before .before .before .before .before .before .before .before .before .before .before .number-at .ensures .0) _ _ _ (c .before .before .before .before .before .before .before .before .before .before .before .before .number-at2 .ensures .0) (c .before .before .before .before .before .before .before .before .before .before .before .at-most .ensures) (c .before .before .before .before .before .before .before .before .before .read-words .ensures) (c .add .ensures)
 
 pub add-call-spec : {M : Type 1} → statement M
 add-call-spec =
@@ -48,7 +42,5 @@ add-call-spec =
     at-most-requires
     add-read-words
     read-words-requires
-    add-first-requires
-    tell-add-requires
-    header-added-requires
+    add-requires
     returns)

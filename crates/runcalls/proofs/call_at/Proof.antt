@@ -32,11 +32,11 @@ add-number-at c = omega (arith, any-inside (c .before .before .before .before .b
 number-at-requires-2 : tie.Need-number-at-requires-2
 number-at-requires-2 c κs = omega (arith, any-inside (c .before .before .before .before .before .args .run .now) _ (c .before .before .before .before .before .pre .0))
 
-query-call-requires : tie.Need-query-call-requires
-query-call-requires c κs = readable _ _ _ _ (c .before .before .before .before .before .before .before .before .before .before .before .before .before .pre .1)
+query-requires : tie.Need-query-requires
+query-requires c κs = readable _ _ _ _ (c .before .before .before .before .before .before .before .before .before .before .before .before .before .pre .1)
 
 returns-4 : tie.Need-returns-4
-returns-4 c = query-there (c .before .before .before .before .before .before .before .before .before .before .before .before .before .before .args .run .now) _ _ _ _ _ _ _ _ _ _ _ (c .before .before .before .before .before .before .before .before .before .before .before .before .number-at .ensures .0) (c .before .before .before .before .before .before .before .before .before .before .before .if1 .left) (c .before .before .before .before .before .before .before .before .before .before .if2 .left) (c .before .before .before .before .before .before .before .before .before .if3 .left) _ (c .before .before .before .before .before .before .before .before .number-at2 .ensures .0) (c .query-call .ensures _ _ (record { nodes-are = refl; lows-are = refl; highs-are = refl }) refl refl)
+returns-4 c = query-there (c .before .before .before .before .before .before .before .before .before .before .before .before .before .before .args .run .now) _ _ _ _ _ _ _ _ _ _ _ (c .before .before .before .before .before .before .before .before .before .before .before .before .number-at .ensures .0) (c .before .before .before .before .before .before .before .before .before .before .before .if1 .left) (c .before .before .before .before .before .before .before .before .before .before .if2 .left) (c .before .before .before .before .before .before .before .before .before .if3 .left) _ (c .before .before .before .before .before .before .before .before .number-at2 .ensures .0) (c .query .ensures _ _ (record { nodes-are = refl; lows-are = refl; highs-are = refl }) refl refl)
 
 pub call-at-spec : {M : Type 1} → statement M
 call-at-spec =
@@ -51,5 +51,5 @@ call-at-spec =
     returns-3
     add-number-at
     number-at-requires-2
-    query-call-requires
+    query-requires
     returns-4)

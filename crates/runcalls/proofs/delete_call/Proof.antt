@@ -1,5 +1,5 @@
 -- `runcalls::delete_call` meets its contract. Assumes nothing.
-use Rattle.runcalls.proofs.Edits.{delete-does}
+use Rattle.runcalls.proofs.Given.{delete-given}
 use borrow.Author.Needs.{needs}
 use Rattle.runcalls.proofs.delete_call.Statement.{statement}
 use Rattle.runcalls.proofs.delete_call.Tie as tie
@@ -13,14 +13,8 @@ number-at-requires c κs = search needs
 delete-requires : tie.Need-delete-requires
 delete-requires c κs = search needs
 
-tell-delete-requires : tie.Need-tell-delete-requires
-tell-delete-requires c κs = search needs
-
-header-deleted-requires : tie.Need-header-deleted-requires
-header-deleted-requires c κs = search needs
-
 returns : tie.Need-returns
-returns c = delete-does _ _ _ _ _ _ _ _ _ _ (c .before .before .before .before .before .before .before .before .before .before .number-at .ensures .0) (c .before .before .before .delete .ensures) (c .header-deleted .ensures) (c .before .tell-delete .ensures)
+returns c = delete-given (c .before .before .before .before .before .before .before .before .before .before .args .run .now) _ _ _ _ _ _ _ _ _ _ _ (c .before .before .before .before .before .before .before .before .number-at .ensures .0) (c .delete .ensures)
 
 pub delete-call-spec : {M : Type 1} → statement M
 delete-call-spec =
@@ -29,6 +23,4 @@ delete-call-spec =
     add-number-at
     number-at-requires
     delete-requires
-    tell-delete-requires
-    header-deleted-requires
     returns)

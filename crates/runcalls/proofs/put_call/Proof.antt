@@ -1,5 +1,5 @@
 -- `runcalls::put_call` meets its contract. Assumes nothing.
-use Rattle.runcalls.proofs.Puts.{put-does}
+use Rattle.runcalls.proofs.Given.{put-given}
 use borrow.Author.Needs.{needs}
 use Rattle.runcalls.proofs.put_call.Statement.{statement}
 use Rattle.runcalls.proofs.put_call.Tie as tie
@@ -25,14 +25,11 @@ add-coordinates-at c = search needs
 coordinates-at-requires : tie.Need-coordinates-at-requires
 coordinates-at-requires c κs = search needs
 
-put-first-requires : tie.Need-put-first-requires
-put-first-requires c κs = search needs
-
-tell-put-requires : tie.Need-tell-put-requires
-tell-put-requires c κs = search needs
+put-requires : tie.Need-put-requires
+put-requires c κs = search needs
 
 returns : tie.Need-returns
-returns c = put-does (c .before .before .before .before .before .before .before .before .before .before .before .args .run .now) _ _ _ _ _ _ _ _ _ _ _ _ _ (c .before .before .before .before .before .before .before .before .before .number-at .ensures .0) (c .before .before .before .before .before .before .before .before .number-at2 .ensures .0) (c .before .before .before .before .before .before .before .at-most .ensures) (c .before .before .before .before .before .before .coordinates-at .ensures) (c .before .before .put-first .ensures) (c .tell-put .ensures)
+returns c = λ a e. put-given (c .before .before .before .before .before .before .before .before .before .before .args .run .now) _ _ _ _ _ _ _ _ _ _ _ (c .before .before .before .before .before .before .before .before .number-at .ensures .0) _ _ _ (c .before .before .before .before .before .before .before .number-at2 .ensures .0) (c .before .before .before .before .before .before .at-most .ensures) (c .before .before .before .before .before .coordinates-at .ensures) (λ xs. c .put .ensures a xs e)
 
 pub put-call-spec : {M : Type 1} → statement M
 put-call-spec =
@@ -45,6 +42,5 @@ put-call-spec =
     at-most-requires
     add-coordinates-at
     coordinates-at-requires
-    put-first-requires
-    tell-put-requires
+    put-requires
     returns)

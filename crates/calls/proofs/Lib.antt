@@ -1,0 +1,4 @@
+pub mod Told
+pub mod Edits
+pub mod Puts
+pub mod Queries

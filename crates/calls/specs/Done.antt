@@ -1,0 +1,39 @@
+-- What a call gives and leaves. Definitions.
+use mathlib.Core.Path.{_≡_}
+use mathlib.Core.List.{List}
+use Prim.Native.Nat.{ℕ}
+use lib.Ieee.{Float}
+use mathlib.Core.Bool.{cond}
+use lib.Dec.{eqb}
+use Rattle.cuttree.specs.Run.{World, Call, call, Query, copiesOf, branchOf, boxOf}
+use Rattle.wholetree.specs.Whole.{whole}
+use Rattle.randomcuttree.specs.declared.RCFTree.{RCFTree}
+use Rattle.randomcuttree.specs.State.{Lent, State}
+use Rattle.randomcuttree.specs.declared.AddAnswer.{AddAnswer}
+use Rattle.randomcuttree.specs.declared.AddAnswer.the-variants.{Added, NotAdded}
+use Rattle.randomcuttree.specs.declared.DeleteAnswer.{DeleteAnswer}
+use Rattle.randomcuttree.specs.declared.DeleteAnswer.the-variants.{Deleted, NotDeleted}
+use Rattle.calls.specs.Said.{filled, said}
+
+-- the numbers of the answer, with 0 after them, and a state of the world after the call
+pub record Done (d c k : ℕ) (W : World (whole d)) (x : Call (whole d)) (tree : RCFTree) (a : Lent) (points : List (List Float)) (marks reply : List ℕ) : Type 0 where
+  pub reply-is : reply ≡ filled 17 (said d c k x (call (whole d) c W x))
+  pub state : State d c k (call (whole d) c W x .1) tree a points marks
+
+-- A call, whichever world's the lent state is: header, arrays and table before it, then after it.
+abbrev pub Does : ((d : ℕ) → Call (whole d)) → RCFTree → Lent → List (List Float) → List ℕ → RCFTree → Lent → List (List Float) → List ℕ → List ℕ → Type 0
+Does x tree a points marks tree′ a′ points′ marks′ reply =
+    (d c k : ℕ) (W : World (whole d)) → State d c k W tree a points marks → Done d c k W (x d) tree′ a′ points′ marks′ reply
+
+-- the header after an answer: a refused call's is the one before
+abbrev pub headerAdded : RCFTree → AddAnswer → RCFTree
+headerAdded t (Added t′ j n) = t′
+headerAdded t (NotAdded r) = t
+
+abbrev pub headerDeleted : RCFTree → DeleteAnswer → RCFTree
+headerDeleted t (Deleted t′ j) = t′
+headerDeleted t (NotDeleted r) = t
+
+-- kind 8 asks for copies, 9 for a branch, 10 for a box
+abbrev pub queryOf : ℕ → ℕ → Query
+queryOf k x = cond (eqb k 8) (copiesOf x) (cond (eqb k 9) (branchOf x) (boxOf x))

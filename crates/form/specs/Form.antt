@@ -1,0 +1,94 @@
+-- Treelist's text (document 01, 'Printed tree') for every list of bytes: the making and the op rows that it brings, or its first bad row. Definitions and a statement.
+use Prim.Native.Nat.{ℕ, _+_}
+use mathlib.Core.Path.{_≡_}
+use mathlib.Core.List.{List, [], _∷_}
+use mathlib.Core.Option.{Option, none, some}
+use mathlib.Core.Bool.{Bool, true, false, _&&_, cond}
+use lib.ListN.{length}
+use lib.Dec.{eqb, leb}
+use Rattle.text.specs.Quoted.{bytes}
+use Rattle.text.specs.Pieces.{pieces}
+use Rattle.form.specs.Rows.{Op, rowOf}
+use Rattle.form.specs.Making.{Making, makingOf}
+use Rattle.form.specs.declared.Form.{Form}
+use Rattle.form.specs.declared.Form.the-variants.{Good, Bad}
+
+-- ---- the op rows
+-- the op rows of a text, or the first bad one, counted from 1
+pub data Rows : Type 0 where
+  badRow : ℕ → Rows
+  opRows : List Op → Rows
+
+-- row n in front of the rows after it: the first bad row is the one that is told
+abbrev pub before : ℕ → Option Op → Rows → Rows
+before n none r = badRow n
+before n (some o) (badRow k) = badRow k
+before n (some o) (opRows os) = opRows (o ∷ os)
+
+-- Document 01, 'Printed tree': 'every line, the last too, ends in a line feed', 'R being the op row from 1'.
+-- The lines after n op rows: what stands after the last line feed is no row and must be empty, else it is a row with no line feed.
+unfoldable pub rowsFrom : ℕ → List (List ℕ) → Rows
+rowsFrom n [] = badRow (n + 1)
+rowsFrom n (p ∷ []) = cond (eqb (length p) 0) (opRows []) (badRow (n + 1))
+rowsFrom n (p ∷ q ∷ ps) = before (n + 1) (rowOf (pieces 32 p)) (rowsFrom (n + 1) (q ∷ ps))
+
+-- ---- the whole text
+-- equal byte for byte
+unfoldable pub sameBytes : List ℕ → List ℕ → Bool
+sameBytes [] [] = true
+sameBytes [] (y ∷ t) = false
+sameBytes (x ∷ s) [] = false
+sameBytes (x ∷ s) (y ∷ t) = cond (eqb x y) (sameBytes s t) false
+
+-- Document 01, 'Printed tree': 'Two blocks, each a line of names, then lines of values.'
+abbrev pub makingNames : List ℕ
+makingNames = bytes "dimensions capacity cache16"
+
+abbrev pub opNames : List ℕ
+opNames = bytes "op index rest"
+
+-- what a text is read as: its first bad row, R of `refused 17 R`, or its making and op rows
+pub data Parsed : Type 0 where
+  bad : ℕ → Parsed
+  read : Making → List Op → Parsed
+
+-- the making and the op rows together: a bad making is row 0
+abbrev pub made : Option Making → Rows → Parsed
+made none r = bad 0
+made (some m) (badRow k) = bad k
+made (some m) (opRows os) = read m os
+
+-- Document 01, 'Printed tree': 'R 0 in the first block, in either names line'. By the text's lines, with what stands after the last line feed as one more.
+unfoldable pub blocks : List (List ℕ) → Parsed
+blocks [] = bad 0
+blocks (a ∷ []) = bad 0
+blocks (a ∷ b ∷ []) = bad 0
+blocks (a ∷ b ∷ c ∷ []) = bad 0
+blocks (a ∷ b ∷ c ∷ d ∷ ps) = cond (sameBytes a makingNames && sameBytes c opNames) (made (makingOf (pieces 32 b)) (rowsFrom 0 (d ∷ ps))) (bad 0)
+
+-- Document 01, 'Printed tree': 'reads standard input, at most 32 KiB', 'or for an over-long text'. Its length is looked at before its lines; 10 is the line feed.
+unfoldable pub parsed : List ℕ → Parsed
+parsed t = cond (leb (length t) 32768) (blocks (pieces 10 t)) (bad 0)
+
+-- ---- what `check_form` answers
+-- Document 01, 'Printed tree': 'The form of the whole text is checked first: a bad text prints only `refused 17 R` for its first bad row'
+abbrev pub formFrom : Parsed → Form
+formFrom (bad r) = Bad r
+formFrom (read m os) = Good (length os)
+
+unfoldable pub formOf : List ℕ → Form
+formOf t = formFrom (parsed t)
+
+-- the op rows of a text that is read
+pub record ReadWith (p : Parsed) (n : ℕ) : Type 0 where
+  pub making : Making
+  pub ops : List Op
+  pub is : p ≡ read making ops
+  pub many : length ops ≡ n
+
+-- The answer tells the text: `Bad r` exactly where row r is its first bad one, `Good n` exactly where it is read with n op rows.
+pub record FormTells (t : List ℕ) : Type 0 where
+  pub bad-is : (r : ℕ) → formOf t ≡ Bad r → parsed t ≡ bad r
+  pub is-bad : (r : ℕ) → parsed t ≡ bad r → formOf t ≡ Bad r
+  pub good-is : (n : ℕ) → formOf t ≡ Good n → ReadWith (parsed t) n
+  pub is-good : (n : ℕ) → ReadWith (parsed t) n → formOf t ≡ Good n

@@ -1,0 +1,5 @@
+pub mod Rows
+pub mod Making
+pub mod Form
+pub mod Lines
+pub mod Examples

@@ -1,0 +1,3 @@
+pub mod Digits
+pub mod Writes
+pub mod Lengths

@@ -1,0 +1,160 @@
+-- The tree of a state stands in its arrays, to be printed from them; and how long its lines are. Laws.
+use mathlib.Core.Path.{_≡_, refl, sym, ap, _∙_}
+use mathlib.Core.Option.{Option, none, some}
+use mathlib.Core.List.{List, []}
+use Prim.Native.Nat.{ℕ, suc, _+_, _-_, _*_, _≤_, _<_}
+use native.Mathlib.Omega.{arith}
+use lib.Dec.{eqb}
+use lib.ListN.{length, getD, length-append}
+use lib.Ieee.{Float, nan, binary32, toBits}
+use borrow.Author.Tests.{eqb-true, eqb-false}
+use Rattle.boundingbox.specs.Sides.{nought}
+use Rattle.lines.specs.Lines.{namesLine, Wrote}
+use Rattle.lines.proofs.Lengths.{branch-few, leaf-few}
+use Rattle.lines.proofs.Writes.{then}
+use Rattle.cuttree.specs.Tree.{Tree, leaf, branch, id, sum, mass, total, leaves, All, OfTree}
+use Rattle.cuttree.specs.Run.{World, Call, fresh, worldAfter, totalOf}
+use Rattle.cuttree.specs.Sound.{Sound}
+use Rattle.cuttree.proofs.Tests.{by-test}
+use Rattle.cuttree.proofs.Nodes.{In, here, left, right}
+use Rattle.cuttree.proofs.Leaves.{leaves-branches, leaves-total}
+use Rattle.cuttree.proofs.Room.{at-leaf, index-below, index-once, intervals-few}
+use Rattle.wholetree.specs.Reading.{Reading}
+use Rattle.wholetree.specs.Whole.{whole, tab}
+use Rattle.wholetree.proofs.Laws.{whole-laws}
+use Rattle.layout.specs.Slots.{rowOf, cutOf, lowOf, highOf, countAt}
+use Rattle.layout.specs.Layout.{Table, noRow, rootOf, slotIn, countIn, boxIn, tableOf}
+use Rattle.layout.specs.Stands.{Once, InRange}
+use Rattle.layout.proofs.Tabs.{entry-of}
+use Rattle.layout.proofs.Slots.{tab-laid}
+use Rattle.randomcuttree.specs.declared.RCFTree.{RCFTree}
+use Rattle.randomcuttree.specs.State.{InRow, Lent, State, headerOf}
+use Rattle.randomcuttree.specs.Standing.{arraysOf}
+use Rattle.randomcuttree.proofs.Lookups.{once}
+use Rattle.randomcuttree.proofs.Boxings.{boxed}
+use Rattle.randomcuttree.proofs.Standing.{states-stand}
+use Rattle.listing.specs.Listing.{linesOf, Listed, SomeListed, PrintsNode}
+use Rattle.listing.specs.Printed.{printedTree, SomeRead, PrintsTree}
+
+-- what holds of each leaf in a tree holds of all
+all-by : (d : ℕ) (P : ℕ → Reading → ℕ → Type 0) (t : Tree (whole d)) → ((i : ℕ) (q : Reading) (n : ℕ) → In (whole d) (leaf i q n) t → P i q n) → All (whole d) P t
+all-by d P (leaf i q n) h = h i q n here
+all-by d P (branch b k g l r) h = (all-by d P l (λ i q n j. h i q n (left j)), all-by d P r (λ i q n j. h i q n (right j)))
+
+-- HOW LONG: at most 31 bytes for a branch and 19 for a leaf
+abbrev branches : (d : ℕ) → Tree (whole d) → ℕ
+branches d t = sum (whole d) (λ i q n. 0) (λ b. 1) t
+
+id-below : (d c : ℕ) (t : Tree (whole d)) → c ≤ 256 → InRange d c t → id (whole d) c t < 10000
+id-below d c (leaf i q n) m h = omega arith
+id-below d c (branch b k g l r) m h = omega (arith, h .0)
+
+-- the lines of a tree
+lines-few : (d c : ℕ) (t : Tree (whole d)) → c ≤ 256 → InRange d c t → total (whole d) t < 65536 → length (linesOf d c t) ≤ 31 * branches d t + 19 * leaves (whole d) t
+lines-few d c (leaf i q n) m h w = omega (arith, leaf-few (i + c) (mass (whole d) (leaf i q n)) (id-below d c (leaf i q n) m h) (omega arith))
+lines-few d c (branch b k g l r) m h w =
+    let one = lines-few d c l m (h .2) (omega arith) in
+    let two = lines-few d c r m (h .3) (omega arith) in
+    let here = branch-few b (k .channel) (toBits binary32 (k .value .value)) (id (whole d) c l) (id (whole d) c r) (mass (whole d) (branch b k g l r)) (omega (arith, h .0)) (omega (arith, h .1)) (id-below d c l m (h .2)) (id-below d c r m (h .3)) (omega arith) in
+    rw (length-append, length-append) (omega arith)
+
+-- A SOUND WORLD'S TREE
+module _ (d c : ℕ) (f : ℕ → Option Reading) (t : Tree (whole d)) (u : List (ℕ × ℕ)) (H : Sound (whole d) c (record { table = f; tree = some t; free = u })) where
+  copies-stand : (copies : List ℕ) → copies ≡ tab 1024 (λ (x : ℕ). countAt d c t x) → All (whole d) (λ i q n. getD copies i 0 ≡ n) t
+  copies-stand copies e = all-by d (λ i q n. getD copies i 0 ≡ n) t (λ i q n j.
+      entry-of 1024 (λ (x : ℕ). countAt d c t x) copies e 0 i (index-below (whole d) c (whole-laws d) f t u H j) ∙ at-leaf (whole d) (λ n. n) j (index-once (whole d) c (whole-laws d) f t u H i))
+
+  tree-few : c ≤ 256 → InRange d c t → length (linesOf d c t) ≤ 12769
+  tree-few m h =
+      let a = lines-few d c t m h (omega (arith, H .light)) in
+      let b : leaves (whole d) t ≡ suc (branches d t) = leaves-branches (whole d) t in
+      let e : branches d t + length u ≤ c - 1 = intervals-few (whole d) c (whole-laws d) f t u H in
+      omega arith
+
+  -- it has copies
+  some-total : 0 < total (whole d) t
+  some-total = omega (arith, leaves-branches (whole d) t, leaves-total (whole d) t (H .filled))
+
+-- A STATE'S TREE
+module _ (d c k : ℕ) (W : World (whole d)) (tree : RCFTree) (a : Lent) (points : List (List Float)) (marks : List ℕ) (S : State d c k W tree a points marks) where
+  -- the tree that is there where there are copies
+  pub record There : Type 0 where
+    pub found : Tree (whole d)
+    pub is : W .tree ≡ some found
+    pub at-root : id (whole d) c found ≡ tree .root
+    pub singly : Once d c found
+    pub listed : Listed d c (a .nodes) (a .cuts) (a .copies) found
+    pub few : length (linesOf d c found) ≤ 12769
+
+  pub there : (tree .total ≡ 0 → ⊥) → There
+  there h = go (W .tree) refl (S .reachable .sound) (S .reachable .in-row) (S .nodes-are) (S .cuts-are) (S .copies-are) (S .lows-are) (S .highs-are)
+    where
+      go : (o : Option (Tree (whole d))) → W .tree ≡ o → Sound (whole d) c (record { table = W .table; tree = o; free = W .free }) → OfTree (whole d) (InRow d) o
+          → a .nodes ≡ tab 255 (slotIn d c k (rowOf d c) noRow o) → a .cuts ≡ tab 255 (slotIn d c k (cutOf d c) nought o) → a .copies ≡ tab 1024 (countIn d c k o)
+          → a .lows ≡ tab 255 (boxIn d c k (lowOf d c) o) → a .highs ≡ tab 255 (boxIn d c k (highOf d c) o) → There
+      go none e H I N X C L G = absurd (h (S .total-is ∙ ap (totalOf (whole d)) e))
+      go (some t) e H I N X C L G =
+          let m = S .limits .3 in
+          let R = boxed d c (W .table) t (W .free) H k (a .nodes) points (a .lows) (a .highs) m I N (ap (λ (y : Table). y .points) (S .table-is)) L G .in-range in
+          let O = once d c (W .table) t (W .free) H in
+          record {
+            found = t;
+            is = e;
+            at-root = sym (S .root-is ∙ ap (rootOf d c k) e);
+            singly = O;
+            listed = record {
+              rows = tab-laid d c (rowOf d c) noRow [] (a .nodes) t m N O R;
+              values = tab-laid d c (cutOf d c) nought nan (a .cuts) t m X O R;
+              leaves = copies-stand d c (W .table) t (W .free) H (a .copies) C;
+              in-range = R;
+            };
+            few = tree-few d c (W .table) t (W .free) H m R;
+          }
+
+  pub nothing : tree .total ≡ 0 → W .tree ≡ none
+  nothing h = go (W .tree) refl (S .reachable .sound)
+    where
+      go : (o : Option (Tree (whole d))) → W .tree ≡ o → Sound (whole d) c (record { table = W .table; tree = o; free = W .free }) → o ≡ none
+      go none e H = refl
+      go (some t) e H =
+          let z : total (whole d) t ≡ 0 = sym (S .total-is ∙ ap (totalOf (whole d)) e) ∙ h in
+          absurd (omega (arith, some-total d c (W .table) t (W .free) H))
+
+  -- 255 branches of 31 bytes, 256 leaves of 19, and 33 bytes of names
+  pub printed-few : length (printedTree d c (W .tree)) ≤ 12802
+  printed-few = by-test (eqb (tree .total) 0)
+      (λ e. rw (nothing (eqb-true (tree .total) 0 e)) (omega arith))
+      (λ e. let w = there (eqb-false (tree .total) 0 e) in rw (w .is, length-append) (omega (arith, w .few)))
+
+-- WHAT `print_tree` IS TOLD AND GIVES
+module _ (tree : RCFTree) (nodes : List (List ℕ)) (cuts : List Float) (copies : List ℕ) where
+  pub some-listed : {at p : ℕ} {before after : List ℕ} → (tree .total ≡ 0 → ⊥) → at < 10000000000 → SomeRead tree nodes cuts copies → Wrote before at namesLine p after
+      → (tree .capacity ≤ 256) × SomeListed (tree .capacity) (tree .root) p nodes cuts copies
+  some-listed {at} {p} h m w y =
+      let S = w .state .state in
+      let v = there (w .state .channels) (w .state .capacity) (w .state .cached) (w .state .world) tree (w .lent) (w .points) (w .marks) S h in
+      let room : p + length (linesOf (w .state .channels) (w .state .capacity) (v .found)) < 100000000000 = omega (arith, y .next, v .few) in
+      rw (S .capacity-is, ← w .read .nodes-are, ← w .read .cuts-are, ← w .read .copies-are)
+      (S .limits .3, record { channels = w .state .channels; tree = v .found; at-node = v .at-root; once = v .singly; listed = v .listed; room = room })
+
+  pub none-printed : {at place : ℕ} {before after : List ℕ} → tree .total ≡ 0 → Wrote before at namesLine place after → PrintsTree tree nodes cuts copies at before place after
+  none-printed h y d c k W a points marks S e = rw (nothing d c k W tree a points marks S h) y
+
+  pub some-printed : {at p place : ℕ} {before between after : List ℕ} → (tree .total ≡ 0 → ⊥) → Wrote before at namesLine p between
+      → PrintsNode (tree .capacity) (tree .root) nodes cuts copies p between place after → PrintsTree tree nodes cuts copies at before place after
+  some-printed h y F d c k W a points marks S e =
+      let v = there d c k W tree a points marks S h in
+      rw (v .is) (then y ((rw (S .capacity-is, ← e .nodes-are, ← e .cuts-are, ← e .copies-are) at F) d (v .found) (v .at-root) (v .listed)))
+
+-- What printing asks is met: after any list of calls from a fresh tree and an unwritten table.
+pub reads-stand : (d c k : ℕ) → 1 ≤ d → d ≤ 8 → 2 ≤ c → c ≤ 256 → k ≤ c - 1 → (cs : List (Call (whole d)))
+    → let W = worldAfter (whole d) c (fresh (whole d) c) cs in let a = arraysOf d c k W in SomeRead (headerOf d c k W) (a .nodes) (a .cuts) (a .copies)
+reads-stand d c k l m n o p cs =
+    let W = worldAfter (whole d) c (fresh (whole d) c) cs in
+    record {
+      lent = arraysOf d c k W;
+      points = tableOf (W .table) .points;
+      marks = tableOf (W .table) .written;
+      read = record { nodes-are = refl; cuts-are = refl; copies-are = refl };
+      state = record { channels = d; capacity = c; cached = k; world = W; state = states-stand d c k l m n o p cs };
+    }

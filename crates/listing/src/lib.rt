@@ -1,0 +1,116 @@
+// The printed tree of `treelist`: a line of names, then a line for each node, branch before left before right, read from the arrays that a tree stands in.
+use randomcuttree::RCFTree;
+ghost use mathlib.Core.Path.{_≡_};
+ghost use Prim.Native.Nat.{_≤_, _<_};
+ghost use lib.ListN.{getD};
+ghost use Rattle.lines.specs.Lines.{Wrote};
+ghost use Rattle.nodestore.specs.Rows.{field};
+ghost use Rattle.listing.specs.Listing.{leafMass, rowLine, PrintsNode, SomeListed};
+ghost use Rattle.listing.specs.Printed.{PrintsTree, SomeRead};
+
+fn wide(x: u16) -> usize
+    ensures { λ r. ⌜ r ≡ x ⌝ }
+{
+    x as usize
+}
+
+fn wide32(x: u32) -> usize
+    ensures { λ r. ⌜ r ≡ x ⌝ }
+{
+    x as usize
+}
+
+// A number of a branch's row: 0 is its left side, 1 its right, 2 its mass and 3 its channel.
+fn number_of(nodes: &[[u16; 4]; 255], node: usize, i: usize) -> usize
+    requires { ⌜ (node < 255) × (i < 4) ⌝ }
+    ensures { λ r. ⌜ r ≡ field (now (nodes .entry)) node i ⌝ }
+{
+    wide(nodes[node][i])
+}
+
+// The mass of a leaf, which is one less than its copies where it has more than one.
+fn mass_of(copies: &[u16; 1024], index: usize) -> usize
+    requires { ⌜ index < 1024 ⌝ }
+    ensures { λ r. ⌜ r ≡ leafMass (getD (now (copies .entry)) index 0) ⌝ }
+{
+    let k = wide(copies[index]);
+    if 1 < k {
+        return k - 1;
+    }
+    k
+}
+
+// A branch's line.
+// Rules out left and right swapped, and the mass where the channel stands.
+fn print_branch(
+    id: usize,
+    nodes: &[[u16; 4]; 255],
+    cuts: &[f32; 255],
+    out: &mut [u8],
+    at: usize,
+) -> usize
+    requires { ⌜ (id < 255) × (at < 100000000000) ⌝ }
+    ensures { λ r. ⌜ Wrote (now (out .entry)) at (rowLine (now (nodes .entry)) (now (cuts .entry)) id) r (now (out .exit)) ⌝ }
+{
+    let cut = wide32(little::pattern_of(cuts[id]));
+    let left = number_of(nodes, id, 0);
+    let right = number_of(nodes, id, 1);
+    let mass = number_of(nodes, id, 2);
+    let dimension = number_of(nodes, id, 3);
+    lines::put_branch(out, at, id, dimension, cut, left, right, mass)
+}
+
+// The lines of a node and of all below it. A leaf's id is at least the capacity.
+// Rules out the right side before the left, and a leaf's copies printed for its mass.
+pub fn print_node(
+    id: usize,
+    nodes: &[[u16; 4]; 255],
+    cuts: &[f32; 255],
+    copies: &[u16; 1024],
+    capacity: usize,
+    out: &mut [u8],
+    at: usize,
+) -> usize
+    requires few { ⌜ capacity ≤ 256 ⌝ }
+    requires stands { ⌜ SomeListed capacity id at (now nodes) (now cuts) (now copies) ⌝ }
+    ensures { λ r. ⌜ PrintsNode capacity id (now (nodes .entry)) (now (cuts .entry)) (now (copies .entry)) at (now (out .entry)) r (now (out .exit)) ⌝ }
+{
+    if capacity <= id {
+        let mass = mass_of(copies, id - capacity);
+        return lines::put_leaf(out, at, id, mass);
+    }
+    let left_side = number_of(nodes, id, 0);
+    let right_side = number_of(nodes, id, 1);
+    let below = print_branch(id, nodes, cuts, out, at);
+    let between = print_node(left_side, nodes, cuts, copies, capacity, out, below);
+    print_node(right_side, nodes, cuts, copies, capacity, out, between)
+}
+
+// The printed tree: the line of names, and the lines of the root and of all below it if there is one.
+// Rules out an empty tree with no line of names, and a lone leaf left out.
+pub fn print_tree(
+    tree: RCFTree,
+    nodes: &[[u16; 4]; 255],
+    cuts: &[f32; 255],
+    copies: &[u16; 1024],
+    out: &mut [u8],
+    at: usize,
+) -> usize
+    requires near { ⌜ at < 10000000000 ⌝ }
+    requires stands { ⌜ SomeRead tree (now nodes) (now cuts) (now copies) ⌝ }
+    ensures { λ r. ⌜ PrintsTree tree (now (nodes .entry)) (now (cuts .entry)) (now (copies .entry)) at (now (out .entry)) r (now (out .exit)) ⌝ }
+{
+    let below = lines::put_names(out, at);
+    if tree.total == 0 {
+        return below;
+    }
+    print_node(
+        wide(tree.root),
+        nodes,
+        cuts,
+        copies,
+        wide(tree.capacity),
+        out,
+        below,
+    )
+}

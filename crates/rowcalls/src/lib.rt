@@ -1,0 +1,107 @@
+// One op row of treelist's text, carried out on the lent state.
+use form::Row;
+use randomcuttree::RCFTree;
+ghost use mathlib.Core.Path.{_≡_};
+ghost use mathlib.Core.Option.{some};
+ghost use Prim.Native.Nat.{ℕ, min};
+ghost use lib.ListN.{length, take};
+ghost use Rattle.text.specs.Pieces.{pieces};
+ghost use Rattle.text.specs.Fields.{wordsFrom, coordinatesFrom};
+ghost use Rattle.form.specs.Rows.{Op, rowOf};
+ghost use Rattle.randomcuttree.specs.State.{lent, SomeState};
+ghost use Rattle.calls.specs.Done.{Does};
+ghost use Rattle.rowcalls.specs.Ops.{callOf, SomeOp};
+
+// The lesser of two numbers.
+fn at_most(n: usize, most: usize) -> usize
+    ensures { λ r. ⌜ r ≡ min n most ⌝ }
+{
+    if n < most { n } else { most }
+}
+
+// The first nine coordinates of a row, from a place on, and how many of them there are. No tree has nine channels, so a longer list is refused like one of nine.
+fn first_coordinates(row: &[u8], start: usize, coordinates: &mut [f32; 9]) -> usize
+    ensures first { λ r. ⌜ take r (now (coordinates .exit)) ≡ take 9 (coordinatesFrom (now (row .entry)) start) ⌝ }
+    ensures count { λ r. ⌜ r ≡ min (length (coordinatesFrom (now (row .entry)) start)) 9 ⌝ }
+{
+    at_most(text::read_coordinates(row, start, coordinates), 9)
+}
+
+// The first 256 words of a row, from a place on, and how many of them there are. No add looks at more.
+fn first_words(row: &[u8], start: usize, words: &mut [u64; 256]) -> usize
+    ensures first { λ r. ⌜ take r (now (words .exit)) ≡ take 256 (wordsFrom (now (row .entry)) start) ⌝ }
+    ensures count { λ r. ⌜ r ≡ min (length (wordsFrom (now (row .entry)) start)) 256 ⌝ }
+{
+    at_most(text::read_words(row, start, words), 256)
+}
+
+// The call of an op row: its answer's numbers in the reply, with 0 after them, and the header after it.
+// Rules out a row's rest read from another place, and a delete done as an add.
+pub fn call_row(
+    tree: RCFTree,
+    nodes: &mut [[u16; 4]; 255],
+    cuts: &mut [f32; 255],
+    copies: &mut [u16; 1024],
+    free: &mut [[u16; 2]; 255],
+    lows: &mut [[f32; 8]; 255],
+    highs: &mut [[f32; 8]; 255],
+    points: &mut [[f32; 8]; 1024],
+    written: &mut [u8; 1024],
+    row: &[u8],
+    coordinates: &mut [f32; 9],
+    words: &mut [u64; 256],
+    reply: &mut [usize; 17],
+) -> RCFTree
+    requires { ⌜ SomeOp (now row) × SomeState tree (lent (now nodes) (now cuts) (now copies) (now free) (now lows) (now highs)) (now points) (now written) ⌝ }
+    ensures { λ r. ⌜ ((o : Op) → rowOf (pieces 32 (now (row .entry))) ≡ some o
+        → Does (λ d. callOf d o) tree (lent (now (nodes .entry)) (now (cuts .entry)) (now (copies .entry)) (now (free .entry)) (now (lows .entry)) (now (highs .entry))) (now (points .entry)) (now (written .entry)) r (lent (now (nodes .exit)) (now (cuts .exit)) (now (copies .exit)) (now (free .exit)) (now (lows .exit)) (now (highs .exit))) (now (points .exit)) (now (written .exit)) (now (reply .exit))) ⌝ }
+{
+    match form::read_row(row) {
+        Row::Put(index, start) => {
+            let n = first_coordinates(row, start, coordinates);
+            calls::put(
+                tree,
+                copies,
+                points,
+                written,
+                index as usize,
+                coordinates,
+                n,
+                reply,
+            );
+            tree
+        }
+        Row::Add(index, start) => {
+            let n = first_words(row, start, words);
+            calls::add(
+                tree,
+                nodes,
+                cuts,
+                copies,
+                free,
+                lows,
+                highs,
+                points,
+                written,
+                index as usize,
+                words,
+                n,
+                reply,
+            )
+        }
+        Row::Delete(index) => calls::delete(
+            tree,
+            nodes,
+            cuts,
+            copies,
+            free,
+            lows,
+            highs,
+            points,
+            written,
+            index as usize,
+            reply,
+        ),
+        Row::NoRow => tree,
+    }
+}

@@ -1,0 +1,7 @@
+pub mod Pieces
+pub mod Numbers
+pub mod Coordinates
+pub mod Fields
+pub mod Quoted
+pub mod Cap
+pub mod Examples
