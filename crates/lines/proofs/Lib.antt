@@ -1,3 +1,4 @@
 pub mod Digits
 pub mod Writes
 pub mod Lengths
+pub mod Back

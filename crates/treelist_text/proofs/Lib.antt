@@ -1,0 +1,4 @@
+pub mod Telling
+pub mod Reading
+pub mod Makes
+pub mod Turns

@@ -1,0 +1,41 @@
+-- The making of a text's tree: refused, or begun with a fresh tree and an unwritten table. Laws.
+use mathlib.Core.Path.{_≡_, refl, sym, _∙_}
+use mathlib.Core.Option.{none}
+use mathlib.Core.List.{List}
+use Prim.Native.Nat.{ℕ}
+use lib.ListN.{replicate}
+use lib.Ieee.{Float}
+use Rattle.text.specs.Pieces.{piecesFrom}
+use Rattle.cuttree.specs.Run.{fresh}
+use Rattle.wholetree.specs.Whole.{whole}
+use Rattle.layout.specs.Layout.{noEnds, tableOf}
+use Rattle.layout.proofs.Tabs.{constant}
+use Rattle.randomcuttree.specs.declared.RCFTree.{RCFTree}
+use Rattle.randomcuttree.specs.declared.Made.{Made}
+use Rattle.randomcuttree.specs.declared.Made.the-variants.{Tree, NotMade}
+use Rattle.randomcuttree.specs.State.{Lent}
+use Rattle.randomcuttree.specs.Making.{cachedBy, madeBy, MakeDone}
+use Rattle.form.specs.Rows.{Op}
+use Rattle.form.specs.Form.{opRows, rowsFrom}
+use Rattle.lines.specs.Lines.{refusedLine, Wrote}
+use Rattle.treelist_text.specs.Output.{outputFrom, outputBy}
+use Rattle.treelist_text.specs.Running.{Standing}
+
+-- a table with nothing written
+unwritten : (points : List (List Float)) (marks : List ℕ) → points ≡ replicate 1024 noEnds → marks ≡ replicate 1024 0 → record { points = points; written = marks } ≡ tableOf (λ i. none)
+unwritten points marks e f =
+    let p : points ≡ tableOf (λ i. none) .points = e ∙ constant 1024 noEnds _ (λ i. refl) in
+    let m : marks ≡ tableOf (λ i. none) .written = f ∙ constant 1024 0 _ (λ i. refl) in
+    rw (p, m) refl
+
+module _ {d c : ℕ} {s : Float} {before after : Lent} {made : Made} (M : MakeDone d c s before after made) where
+  pub not-made : (r n : ℕ) → made ≡ NotMade r → n ≡ r → (os : List Op) {l : List ℕ} {q : ℕ} {o : List ℕ} → Wrote l 0 (refusedLine n 0) q o → Wrote l 0 (outputBy d c (madeBy d c s) os) q o
+  not-made r n h e os w = let z : madeBy d c s ≡ NotMade r = sym (M .answer) ∙ h in rw (z, ← e) w
+
+  module _ (tree : RCFTree) (h : made ≡ Tree tree) where
+    pub begun : (text : List ℕ) (at : ℕ) (points : List (List Float)) (marks : List ℕ) → points ≡ replicate 1024 noEnds → marks ≡ replicate 1024 0
+        → (os : List Op) → rowsFrom 0 (piecesFrom 10 text at) ≡ opRows os → Standing d c (cachedBy s c) (fresh (whole d) c) os text at 0 tree after points marks
+    begun text at points marks e f os r = record { state = M .state tree h points marks (unwritten points marks e f); rest = r }
+
+    pub is-made : (os : List Op) {l : List ℕ} {q : ℕ} {o : List ℕ} → Wrote l 0 (outputFrom d c (fresh (whole d) c) 0 os) q o → Wrote l 0 (outputBy d c (madeBy d c s) os) q o
+    is-made os w = let z : madeBy d c s ≡ Tree tree = sym (M .answer) ∙ h in rw z w

@@ -1,0 +1,49 @@
+-- What treelist prints for a text, for every list of bytes (document 01, 'Printed tree'). Definitions.
+use mathlib.Core.List.{List, [], _∷_, _++_}
+use Prim.Native.Nat.{ℕ, _+_}
+use lib.Ieee.{Float, binary64, ofBits, ofInt, div}
+use lib.IntN.{pos}
+use Rattle.cuttree.specs.Run.{World, Answer, refused, written, added, deleted, copiesAre, branchIs, boxIs, numberOf, call, fresh}
+use Rattle.wholetree.specs.Whole.{whole}
+use Rattle.randomcuttree.specs.declared.Made.{Made}
+use Rattle.randomcuttree.specs.declared.Made.the-variants.{Tree, NotMade}
+use Rattle.randomcuttree.specs.Making.{madeBy}
+use Rattle.form.specs.Making.{Making}
+use Rattle.form.specs.Rows.{Op}
+use Rattle.form.specs.Form.{Parsed, bad, read, parsed}
+use Rattle.lines.specs.Lines.{refusedLine}
+use Rattle.listing.specs.Printed.{printedTree}
+use Rattle.rowcalls.specs.Ops.{callOf}
+
+-- 'A refused row prints `refused N R` before the list, R being the op row from 1'
+abbrev pub toldRow : (d : ℕ) → Answer (whole d) → ℕ → List ℕ
+toldRow d (refused r) n = refusedLine (numberOf r) n
+toldRow d written n = []
+toldRow d (added j m) n = []
+toldRow d (deleted j) n = []
+toldRow d (copiesAre m) n = []
+toldRow d (branchIs r) n = []
+toldRow d (boxIs b) n = []
+
+-- '`cache16` is the share in sixteenths'
+unfoldable pub sixteenthsOf : ℕ → Float
+sixteenthsOf n = div binary64 (ofInt binary64 (pos n)) (ofBits binary64 0x4030_0000_0000_0000)
+
+-- the rows after n of them, each told if it is refused, 'and work goes on'; then the tree
+module _ (d c : ℕ) where
+  abbrev pub outputFrom : World (whole d) → ℕ → List Op → List ℕ
+  outputFrom W n [] = printedTree d c (W .tree)
+  outputFrom W n (o ∷ os) = toldRow d (call (whole d) c W (callOf d o) .0) (n + 1) ++ outputFrom (call (whole d) c W (callOf d o) .1) (n + 1) os
+
+  -- 'A refused making prints only `refused N 0`.'
+  abbrev pub outputBy : Made → List Op → List ℕ
+  outputBy (NotMade r) os = refusedLine r 0
+  outputBy (Tree t) os = outputFrom (fresh (whole d) c) 0 os
+
+-- 'a bad text prints only `refused 17 R` for its first bad row'
+abbrev pub outputOf : Parsed → List ℕ
+outputOf (bad r) = refusedLine 17 r
+outputOf (read m os) = outputBy (m .channels) (m .capacity) (madeBy (m .channels) (m .capacity) (sixteenthsOf (m .sixteenths))) os
+
+abbrev pub output : List ℕ → List ℕ
+output t = outputOf (parsed t)

@@ -1,0 +1,205 @@
+// What `treelist` prints for a text (document 01, 'Printed tree'), written to a lent buffer: the form is checked first, then the op rows are carried out
+// on a bare tree, and the tree is printed after the rows that are refused.
+use form::Form;
+use form::MakingRow;
+use randomcuttree::Made;
+use randomcuttree::RCFTree;
+ghost use mathlib.Core.Path.{_≡_};
+ghost use mathlib.Core.Bool.{cond};
+ghost use mathlib.Core.List.{List, []};
+ghost use Prim.Native.Nat.{ℕ, _+_, _<_, _≤_};
+ghost use lib.Dec.{eqb};
+ghost use lib.ListN.{length, replicate};
+ghost use Rattle.text.specs.Pieces.{piecesFrom};
+ghost use Rattle.cuttree.specs.Run.{World};
+ghost use Rattle.wholetree.specs.Whole.{whole};
+ghost use Rattle.layout.specs.Layout.{noEnds};
+ghost use Rattle.randomcuttree.specs.State.{lent};
+ghost use Rattle.randomcuttree.specs.Making.{madeBy};
+ghost use Rattle.form.specs.Rows.{Op};
+ghost use Rattle.form.specs.Form.{opRows, rowsFrom};
+ghost use Rattle.lines.specs.Lines.{refusedLine, Wrote};
+ghost use Rattle.treelist_text.specs.Output.{sixteenthsOf, outputFrom, outputBy, output};
+ghost use Rattle.treelist_text.specs.Running.{InForm, HasRows, Standing, SomeStanding};
+
+fn wide(x: u8) -> usize
+    ensures { λ r. ⌜ r ≡ x ⌝ }
+{
+    x as usize
+}
+
+fn wide64(x: u64) -> usize
+    ensures { λ r. ⌜ r ≡ x ⌝ }
+{
+    x as usize
+}
+
+// The cached share of a number of sixteenths, which has at most nine digits: an f64 has each such number.
+fn share_of(sixteenths: u64) -> f64
+    requires { ⌜ sixteenths < 1000000000 ⌝ }
+    ensures { λ r. ⌜ r ≡ sixteenthsOf sixteenths ⌝ }
+{
+    (sixteenths as f64) / 16.0
+}
+
+// Writes the line of a row that is refused, and nothing for one that is not: its refusal is 0.
+fn tell_row(out: &mut [u8], at: usize, refusal: usize, row: usize) -> usize
+    requires { ⌜ at < 100000000000 ⌝ }
+    ensures wrote { λ r. ⌜ Wrote (now (out .entry)) at (cond (eqb refusal 0) [] (refusedLine refusal row)) r (now (out .exit)) ⌝ }
+    ensures few { λ r. ⌜ r ≤ at + 50 ⌝ }
+{
+    if refusal == 0 {
+        return at;
+    }
+    lines::put_refused(out, at, refusal, row)
+}
+
+// The op rows from a place of the text on, each told if it is refused; then the tree.
+fn run_rows(
+    tree: RCFTree,
+    nodes: &mut [[u16; 4]; 255],
+    cuts: &mut [f32; 255],
+    copies: &mut [u16; 1024],
+    free: &mut [[u16; 2]; 255],
+    lows: &mut [[f32; 8]; 255],
+    highs: &mut [[f32; 8]; 255],
+    points: &mut [[f32; 8]; 1024],
+    written: &mut [u8; 1024],
+    text: &[u8],
+    start: usize,
+    out: &mut [u8],
+) -> usize
+    requires within { ⌜ (start ≤ length (now text)) × (length (now text) ≤ 32768) ⌝ }
+    requires ready { ⌜ SomeStanding (now text) start 0 tree (lent (now nodes) (now cuts) (now copies) (now free) (now lows) (now highs)) (now points) (now written) ⌝ }
+    ensures { λ r. ⌜ ((d c k : ℕ) (W : World (whole d)) (os : List Op) → Standing d c k W os (now (text .entry)) start 0 tree (lent (now (nodes .entry)) (now (cuts .entry)) (now (copies .entry)) (now (free .entry)) (now (lows .entry)) (now (highs .entry))) (now (points .entry)) (now (written .entry))
+        → Wrote (now (out .entry)) 0 (outputFrom d c W 0 os) r (now (out .exit))) ⌝ }
+{
+    let mut coordinates = [0.0f32; 9];
+    let mut words = [0u64; 256];
+    let mut reply = [0usize; 17];
+    let mut current = tree;
+    let mut at = start;
+    let mut row: usize = 0;
+    let mut p: usize = 0;
+    loop {
+        let end = text::piece_end(text, at, 10);
+        if end == text.len() {
+            return listing::print_tree(current, nodes, cuts, copies, out, p);
+        }
+        current = rowcalls::call_row(
+            current,
+            nodes,
+            cuts,
+            copies,
+            free,
+            lows,
+            highs,
+            points,
+            written,
+            &text[at..end],
+            &mut coordinates,
+            &mut words,
+            &mut reply,
+        );
+        row += 1;
+        p = tell_row(out, p, reply[0], row);
+        at = end + 1;
+    }
+}
+
+// A table with nothing written.
+fn no_points() -> [[f32; 8]; 1024]
+    ensures { λ r. ⌜ r ≡ replicate 1024 noEnds ⌝ }
+{
+    [[0.0; 8]; 1024]
+}
+
+fn no_marks() -> [u8; 1024]
+    ensures { λ r. ⌜ r ≡ replicate 1024 0 ⌝ }
+{
+    [0; 1024]
+}
+
+// A making and the op rows from a place of the text on.
+fn print_by(
+    channels: usize,
+    capacity: usize,
+    share: f64,
+    text: &[u8],
+    start: usize,
+    out: &mut [u8],
+) -> usize
+    requires within { ⌜ (start ≤ length (now text)) × (length (now text) ≤ 32768) ⌝ }
+    requires rows { ⌜ HasRows (now text) start ⌝ }
+    ensures { λ r. ⌜ ((os : List Op) → rowsFrom 0 (piecesFrom 10 (now (text .entry)) start) ≡ opRows os
+        → Wrote (now (out .entry)) 0 (outputBy channels capacity (madeBy channels capacity share) os) r (now (out .exit))) ⌝ }
+{
+    let mut nodes = [[0u16; 4]; 255];
+    let mut cuts = [0.0f32; 255];
+    let mut copies = [0u16; 1024];
+    let mut free = [[0u16; 2]; 255];
+    let mut lows = [[0.0f32; 8]; 255];
+    let mut highs = [[0.0f32; 8]; 255];
+    let mut points = no_points();
+    let mut written = no_marks();
+    let made = RCFTree::new(
+        channels,
+        capacity,
+        share,
+        &mut nodes,
+        &mut cuts,
+        &mut copies,
+        &mut free,
+        &mut lows,
+        &mut highs,
+    );
+    match made {
+        Made::NotMade(refusal) => lines::put_refused(out, 0, wide(refusal), 0),
+        Made::Tree(tree) => run_rows(
+            tree,
+            &mut nodes,
+            &mut cuts,
+            &mut copies,
+            &mut free,
+            &mut lows,
+            &mut highs,
+            &mut points,
+            &mut written,
+            text,
+            start,
+            out,
+        ),
+    }
+}
+
+// A text in form: its making is the second line, and its op rows are the lines from the fourth on.
+fn print_made(text: &[u8], out: &mut [u8]) -> usize
+    requires { ⌜ InForm (now text) ⌝ }
+    ensures { λ r. ⌜ Wrote (now (out .entry)) 0 (output (now (text .entry))) r (now (out .exit)) ⌝ }
+{
+    let a = text::piece_end(text, 0, 10);
+    let b = text::piece_end(text, a + 1, 10);
+    let c = text::piece_end(text, b + 1, 10);
+    match form::read_making(&text[a + 1..b]) {
+        MakingRow::NoMaking => 0,
+        MakingRow::Make(channels, capacity, sixteenths) => print_by(
+            wide64(channels),
+            wide64(capacity),
+            share_of(sixteenths),
+            text,
+            c + 1,
+            out,
+        ),
+    }
+}
+
+// What `treelist` prints for a text, for every list of bytes, as far as the buffer goes; how many bytes it is.
+// Rules out a text with a bad row carried out up to that row, and op rows told by numbers from 0.
+pub fn treelist_output(text: &[u8], out: &mut [u8]) -> usize
+    ensures { λ r. ⌜ Wrote (now (out .entry)) 0 (output (now (text .entry))) r (now (out .exit)) ⌝ }
+{
+    match form::check_form(text) {
+        Form::Bad(row) => lines::put_refused(out, 0, 17, row),
+        Form::Good(_) => print_made(text, out),
+    }
+}
