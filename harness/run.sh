@@ -1,9 +1,11 @@
 #!/bin/bash
-# Holds the oracle against document 01, the recorded answers against the Rust, and the port against the Rust.
+# Holds the oracle against document 01, the recorded answers against the Rust, and the port and the
+# program treelist against the Rust.
 #   harness/run.sh [--digests]
 # KRCF_SRC names the folder that holds crates/rcflib/src, seen from the project's root; the default
-# is ../shared/docs/src. COMPARE says for how long the port is compared, 75s if unset. Where the Rust or
-# cargo is not at hand, one line says so and all is well; where rt is not, the port is not compared.
+# is ../shared/docs/src. COMPARE says for how long the port is compared, 75s if unset, TEXTS on how many
+# texts treelist is, 2000 if unset. Where the Rust or cargo is not at hand, one line says so and all is
+# well; where rt is not, neither is compared, and where crates.txt has no treelist, that is not.
 # --digests prints the digest of each given file. Needs no network.
 set -euo pipefail
 
@@ -34,5 +36,16 @@ if ! command -v rt >/dev/null; then
   exit 0
 fi
 rt staticlib run
+listed=
+if grep -q '^treelist:' crates.txt; then
+  listed=yes
+  rt check treelist
+else
+  echo "harness: crates.txt has no treelist, no texts are compared"
+fi
 built run --package compare -- --fault
 built run --package compare -- "${COMPARE:-75s}"
+if [ -n "$listed" ]; then
+  built run --package compare_texts -- --fault
+  built run --package compare_texts -- "${TEXTS:-2000}"
+fi

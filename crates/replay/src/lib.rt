@@ -4,6 +4,7 @@ use libc::STDIN_FILENO;
 use libc::STDOUT_FILENO;
 ghost use mathlib.Core.Path.{_≡_};
 ghost use Rattle.replay.specs.Answers.{same as Answers·same, tallied};
+ghost use Rattle.replay.specs.Agreeing.{agreeing};
 
 // What the Rust or the port answers to a record: at most three numbers, and 0 for those that are not needed.
 pub struct Answer {
@@ -72,6 +73,32 @@ pub fn next_record(number: u64, record: &mut [u8]) -> bool {
         end_line(b"the input is empty");
     }
     false
+}
+
+// Reads so many bytes, and answers whether they came whole.
+pub fn read_bytes(bytes: &mut [u8], n: usize) -> bool {
+    if n > bytes.len() {
+        return false;
+    }
+    io::read_full(STDIN_FILENO, &mut bytes[..n]) == n
+}
+
+// How many bytes at the start of both are the same.
+// Wrong here: the bytes that are the same anywhere; an end of the shorter taken for a difference in it.
+pub fn agreeing_bytes(x: &[u8], y: &[u8]) -> usize
+    ensures { λ r. ⌜ r ≡ agreeing (now (x .entry)) (now (y .entry)) ⌝ }
+{
+    let mut i: usize = 0;
+    while i < x.len() {
+        if i >= y.len() {
+            return i;
+        }
+        if x[i] != y[i] {
+            return i;
+        }
+        i += 1;
+    }
+    i
 }
 
 // Says that a record, with the kind that it names, has no form that the Rust writes.

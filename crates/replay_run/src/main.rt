@@ -1,5 +1,4 @@
 // Replays recorded byte runs (RECORDED.md): what the port returns and answers for each is held to what the Rust answers.
-use libc::STDIN_FILENO;
 use replay::Answer;
 use replay::Tally;
 
@@ -25,32 +24,12 @@ fn wide64(x: usize) -> u64 {
     x as u64
 }
 
-// Reads n bytes, and answers whether they came whole.
-fn read_bytes(bytes: &mut [u8], n: usize) -> bool {
-    if n > bytes.len() {
-        return false;
-    }
-    io::read_full(STDIN_FILENO, &mut bytes[..n]) == n
-}
-
 // The run that the first n bytes are.
 fn carry_out(run: &[u8], n: usize, answers: &mut [u8]) -> usize {
     if n > run.len() {
         return 0;
     }
     run::sicklephlox_run(&run[..n], answers)
-}
-
-// The first of n bytes that differ, or n.
-fn first_difference(x: &[u8], y: &[u8], n: usize) -> usize {
-    let mut i: usize = 0;
-    while i < n {
-        if i >= x.len() || i >= y.len() || x[i] != y[i] {
-            return i;
-        }
-        i += 1;
-    }
-    n
 }
 
 fn stopped(state: Replay) -> Replay {
@@ -79,7 +58,7 @@ fn replay_one(number: u64, state: Replay) -> Replay {
     let length = wide(little::u32_at(&head, 0));
     let returned = wide(little::u32_at(&head, 4));
     let count = answered(returned);
-    if !read_bytes(&mut run, length) || !read_bytes(&mut expected, count) {
+    if !replay::read_bytes(&mut run, length) || !replay::read_bytes(&mut expected, count) {
         replay::refuse(number, 0);
         return stopped(state);
     }
@@ -91,7 +70,7 @@ fn replay_one(number: u64, state: Replay) -> Replay {
     };
     let port = Answer {
         a: wide64(got),
-        b: wide64(first_difference(&expected, &answers, LONGEST)),
+        b: wide64(replay::agreeing_bytes(&expected, &answers)),
         c: 0,
     };
     Replay {

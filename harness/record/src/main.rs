@@ -3,6 +3,7 @@
 //!   record cuts OUT        writes the recorded cut choices
 //!   record intervals OUT   writes the recorded sequences of the interval manager
 //!   record runs OUT        writes the recorded byte runs, and the page beside them
+//!   record texts OUT       writes the recorded texts, and the page beside them
 //!   record check CRATES    makes each recording again and compares it with the committed file
 //!                          below the folder CRATES, byte for byte
 #![forbid(unsafe_code)]
@@ -11,6 +12,8 @@ mod cuts;
 mod intervals;
 mod page;
 mod runs;
+mod text_page;
+mod texts;
 
 use std::path::{Path, PathBuf};
 use std::process::ExitCode;
@@ -24,7 +27,7 @@ struct Recording {
     page: Option<fn() -> String>,
 }
 
-const RECORDINGS: [Recording; 3] = [
+const RECORDINGS: [Recording; 4] = [
     Recording {
         name: "cuts",
         file: "replay_cut/stdin",
@@ -43,6 +46,12 @@ const RECORDINGS: [Recording; 3] = [
         make: runs::make,
         page: Some(page::make),
     },
+    Recording {
+        name: "texts",
+        file: "replay_text/stdin",
+        make: texts::make,
+        page: Some(text_page::make),
+    },
 ];
 
 fn main() -> ExitCode {
@@ -50,7 +59,7 @@ fn main() -> ExitCode {
     let done = match arguments.iter().map(String::as_str).collect::<Vec<_>>()[..] {
         ["check", crates] => check(Path::new(crates)),
         [name, out] => write(name, Path::new(out)),
-        _ => Err("usage: record cuts|intervals|runs OUT | record check CRATES".into()),
+        _ => Err("usage: record cuts|intervals|runs|texts OUT | record check CRATES".into()),
     };
     match done {
         Ok(()) => ExitCode::SUCCESS,

@@ -111,7 +111,7 @@ fn rows(table: &Table) -> String {
 }
 
 /// A number with a comma before every three digits.
-fn grouped(number: usize) -> String {
+pub fn grouped(number: usize) -> String {
     let digits = number.to_string();
     let mut text = String::new();
     for (place, digit) in digits.chars().enumerate() {

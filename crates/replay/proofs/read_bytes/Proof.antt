@@ -1,9 +1,9 @@
--- `replay_run::read_bytes` is safe and ends. Assumes nothing.
+-- `replay::read_bytes` is safe and ends. Assumes nothing.
 use borrow.Author.Needs.{needs}
 use mathlib.Core.Path.{sym}
 use lib.Seq.{length-take-le}
-use Rattle.replay_run.proofs.read_bytes.Statement.{statement}
-use Rattle.replay_run.proofs.read_bytes.Tie as tie
+use Rattle.replay.proofs.read_bytes.Statement.{statement}
+use Rattle.replay.proofs.read_bytes.Tie as tie
 
 returns : tie.Need-returns
 returns c = search needs

@@ -1,0 +1,104 @@
+//! Faults made on purpose, to show that the comparison notices them.
+use crate::program::{Printed, Program};
+use oracle::Words;
+use texts::generate::{nth, FIRST_DRAWN};
+use texts::printed;
+
+/// Each fault is tried in so many texts that it can touch.
+const TRIES: usize = 40;
+/// Texts to look through for them.
+const TEXTS: usize = 200;
+
+/// What goes wrong.
+#[derive(Clone, Copy, Debug)]
+enum Fault {
+    /// One bit of what is expected.
+    ExpectedBit,
+    /// One bit of what is printed.
+    PrintedBit,
+    ByteMissing,
+    ByteMore,
+    /// All is printed, but then a signal ends the program.
+    Signal,
+    /// The program is handed the text without its last row. A row need not show.
+    Row,
+}
+
+const FAULTS: [Fault; 6] = [
+    Fault::ExpectedBit,
+    Fault::PrintedBit,
+    Fault::ByteMissing,
+    Fault::ByteMore,
+    Fault::Signal,
+    Fault::Row,
+];
+
+/// Tries every fault; an error if one goes unnoticed.
+pub fn run(seed: u64) -> Result<(), String> {
+    let program = Program::find()?;
+    let mut unnoticed = Vec::new();
+    for fault in FAULTS {
+        let (made, noticed) = try_fault(fault, seed, &program)?;
+        println!("fault {fault:?}: made in {made} texts, noticed in {noticed}");
+        let enough = match fault {
+            Fault::Row => noticed > 0,
+            _ => noticed == made && made > 0,
+        };
+        if !enough {
+            unnoticed.push(format!("{fault:?}"));
+        }
+    }
+    match unnoticed.is_empty() {
+        true => Ok(()),
+        false => Err(format!("not noticed: {}", unnoticed.join(", "))),
+    }
+}
+
+/// In how many texts the fault was made, and in how many of those it was seen. Texts whose output
+/// differs without a fault are for the comparison itself and are left out.
+fn try_fault(fault: Fault, seed: u64, program: &Program) -> Result<(usize, usize), String> {
+    let (mut made, mut noticed) = (0, 0);
+    for n in 0..TEXTS {
+        let mut words = Words::new(n as u64);
+        // those before are almost all out of form
+        let text = nth(seed, FIRST_DRAWN + n).bytes;
+        let mut expected = printed(&text);
+        let handed = match fault {
+            Fault::Row => without_last_row(&text),
+            _ => text,
+        };
+        let mut got = program.print(&handed, 1)?;
+        let equal = !got.differs(&expected);
+        match fault {
+            Fault::Row => {}
+            _ if equal => spoil(fault, &mut expected, &mut got, &mut words),
+            _ => continue,
+        }
+        made += 1;
+        noticed += usize::from(got.differs(&expected));
+        if made == TRIES {
+            break;
+        }
+    }
+    Ok((made, noticed))
+}
+
+fn spoil(fault: Fault, expected: &mut Vec<u8>, got: &mut Printed, words: &mut Words) {
+    let place = words.below(expected.len());
+    let bit = 1 << words.below(8);
+    match fault {
+        Fault::ExpectedBit => expected[place] ^= bit,
+        Fault::PrintedBit => got.bytes[place] ^= bit,
+        Fault::ByteMissing => drop(got.bytes.pop()),
+        Fault::ByteMore => got.bytes.push(b'\n'),
+        Fault::Signal => got.by_signal = true,
+        Fault::Row => {}
+    }
+}
+
+/// The text up to the line feed before its last row.
+fn without_last_row(text: &[u8]) -> Vec<u8> {
+    let before = text.strip_suffix(b"\n").unwrap_or(text);
+    let end = before.iter().rposition(|byte| *byte == b'\n');
+    text[..end.map_or(0, |place| place + 1)].to_vec()
+}

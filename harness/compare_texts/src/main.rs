@@ -1,0 +1,93 @@
+//! Holds the program `treelist` against the Rust, text by text.
+//!
+//!   texts COUNT [SEED]      compares so many texts
+//!   texts --only N [SEED]   compares the text N of a seed
+//!   texts --text N [SEED]   writes the text N of a seed and nothing else
+//!   texts --fault           changes outputs and texts on purpose; all is well if that is noticed
+//!   texts --replay          reads a text and shows what is expected and what is printed
+//!
+//! SEED is a whole number; the same one gives the same texts. TREELIST names the program; if it is
+//! unset, that is target/bin/treelist below the project's root. The last line says how many texts
+//! were compared, how many of them are in form, and how many differ; the exit status is 0 only if
+//! none does.
+#![forbid(unsafe_code)]
+
+mod difference;
+mod fault;
+mod judge;
+mod program;
+
+use judge::Judge;
+use program::Program;
+use std::io::{Read, Write};
+use std::process::ExitCode;
+use texts::generate::nth;
+
+const SEED: u64 = 20;
+
+fn main() -> ExitCode {
+    let arguments: Vec<String> = std::env::args().skip(1).collect();
+    let arguments: Vec<&str> = arguments.iter().map(String::as_str).collect();
+    match ask(&arguments) {
+        Ok(()) => ExitCode::SUCCESS,
+        Err(why) => {
+            eprintln!("texts: {why}");
+            ExitCode::FAILURE
+        }
+    }
+}
+
+fn ask(arguments: &[&str]) -> Result<(), String> {
+    match *arguments {
+        ["--fault"] => fault::run(SEED),
+        ["--replay"] => replay(),
+        ["--only", n] => compare(one(n)?, SEED),
+        ["--only", n, seed] => compare(one(n)?, number(seed)?),
+        ["--text", n] => write_text(n, SEED),
+        ["--text", n, seed] => write_text(n, number(seed)?),
+        [count] => compare(0..number(count)? as usize, SEED),
+        [count, seed] => compare(0..number(count)? as usize, number(seed)?),
+        _ => Err("usage: texts COUNT|--only N|--text N|--fault|--replay [SEED]".into()),
+    }
+}
+
+fn number(text: &str) -> Result<u64, String> {
+    let number = text.parse();
+    number.map_err(|_| format!("{text} is no whole number"))
+}
+
+fn one(text: &str) -> Result<std::ops::Range<usize>, String> {
+    let n = number(text)? as usize;
+    Ok(n..n + 1)
+}
+
+fn compare(numbers: std::ops::Range<usize>, seed: u64) -> Result<(), String> {
+    let program = Program::find()?;
+    let mut judge = Judge::default();
+    for n in numbers {
+        let given = nth(seed, n);
+        judge.look(&format!("text {n} of the seed {seed}"), &given, &program)?;
+    }
+    judge.finish(oracle::feed::seed17_draws())
+}
+
+fn write_text(n: &str, seed: u64) -> Result<(), String> {
+    let text = nth(seed, number(n)? as usize).bytes;
+    std::io::stdout()
+        .write_all(&text)
+        .map_err(|e| e.to_string())
+}
+
+/// A text from standard input, and both outputs.
+fn replay() -> Result<(), String> {
+    let mut text = Vec::new();
+    let read = std::io::stdin().read_to_end(&mut text);
+    read.map_err(|e| e.to_string())?;
+    let expected = texts::printed(&text);
+    let got = Program::find()?.print(&text, 1)?;
+    println!("{}", difference::text("the text", &text, &expected, &got));
+    match got.differs(&expected) {
+        false => Ok(()),
+        true => Err(judge::NOT_THE_RUST.into()),
+    }
+}

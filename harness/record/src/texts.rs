@@ -1,0 +1,77 @@
+//! Recorded texts with what `treelist` prints for them. The layout of an entry and what the texts
+//! are stand in replay_text/RECORDED.md, which `text_page` writes.
+use oracle::{feed, Words};
+use texts::form::MOST_BYTES;
+use texts::generate::{self, Given, BREAKS, LONGS, MAKINGS};
+use texts::{outcome, Outcome};
+
+/// A replaying program has this much room for a text, and this much for its output.
+pub const MOST_TEXT: usize = 4_096;
+pub const MOST_OUTPUT: usize = 16_384;
+const SEED: u64 = 0x1E57_0A5C_1187_60D4;
+const WHOLE: usize = 60;
+const FULL: usize = 8;
+const CHANGED: usize = 24;
+const WITHOUT_ROWS: usize = 6;
+
+/// A text and what it comes to.
+pub struct Entry {
+    pub kind: &'static str,
+    pub text: Vec<u8>,
+    pub outcome: Outcome,
+}
+
+impl Entry {
+    fn new(given: Given) -> Self {
+        let entry = Entry {
+            kind: given.kind,
+            outcome: outcome(&given.bytes),
+            text: given.bytes,
+        };
+        assert!(entry.text.len() <= MOST_TEXT && entry.output().len() <= MOST_OUTPUT);
+        entry
+    }
+
+    pub fn output(&self) -> Vec<u8> {
+        self.outcome.bytes()
+    }
+
+    fn bytes(&self) -> Vec<u8> {
+        let output = self.output();
+        let mut bytes = Vec::new();
+        for length in [self.text.len(), output.len()] {
+            bytes.extend_from_slice(&(length as u32).to_le_bytes());
+        }
+        [bytes, self.text.clone(), output].concat()
+    }
+}
+
+/// All entries: document 01's text, texts in form, makings at their limits, filled texts, each
+/// break of a rule, and changed texts.
+pub fn entries() -> Vec<Entry> {
+    let mut words = Words::new(SEED);
+    let words = &mut words;
+    let mut given = vec![generate::document()];
+    given.extend((0..WHOLE).map(|n| generate::whole(words, [300, 1_000, MOST_TEXT][n % 3])));
+    given.extend((0..FULL).map(|_| generate::full(words, MOST_TEXT)));
+    given.extend((0..MAKINGS.len()).map(|n| generate::made(n, words)));
+    given.extend((0..WITHOUT_ROWS).map(|_| generate::without_rows(words)));
+    // the largest length is too long for here; this room's takes its place
+    for long in LONGS.iter().filter(|long| long.bytes == MOST_BYTES) {
+        let mut long = *long;
+        long.bytes = MOST_TEXT;
+        given.push(generate::long(&long, words));
+    }
+    given.extend((0..BREAKS.len()).map(|n| generate::broken(n, words)));
+    given.extend((0..CHANGED).map(|_| generate::changed(words)));
+    let entries = given.into_iter().map(Entry::new).collect();
+    assert!(
+        feed::seed17_draws() == 0,
+        "the branch seeded with 17 was reached"
+    );
+    entries
+}
+
+pub fn make() -> Vec<Vec<u8>> {
+    entries().iter().map(Entry::bytes).collect()
+}

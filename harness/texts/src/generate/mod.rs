@@ -1,0 +1,108 @@
+//! Texts from a seeded generator. Where the generator knows how a text reads, it says so, so that
+//! the reader of `form` can be held against it.
+mod broken;
+mod changed;
+mod example;
+mod full;
+mod long;
+mod makings;
+mod odd;
+mod whole;
+
+pub use broken::BREAKS;
+pub use example::document;
+pub use long::{text as long, LONGS};
+pub use makings::MAKINGS;
+
+use crate::text::Text;
+use oracle::Words;
+
+/// The largest room.
+const FULL: usize = crate::form::MOST_BYTES;
+
+/// A text for `treelist`.
+#[derive(Clone)]
+pub struct Given {
+    /// What is tried with it.
+    pub kind: &'static str,
+    pub bytes: Vec<u8>,
+    /// How it reads: the text or its first bad row. None where only the reader can tell.
+    pub known: Option<Result<Text, usize>>,
+}
+
+impl Given {
+    fn in_form(kind: &'static str, text: Text) -> Self {
+        Given {
+            kind,
+            bytes: text.bytes(),
+            known: Some(Ok(text)),
+        }
+    }
+}
+
+/// The n-th text of a seed: document 01's, each break of a rule, each making at a limit, each long
+/// text, then drawn ones. Each has a generator of its own, so that it can be made without those
+/// before it.
+pub fn nth(seed: u64, n: usize) -> Given {
+    let mut of_seed = Words::new(seed);
+    let mut words = Words::new(of_seed.word() ^ n as u64);
+    let makings_from = 1 + BREAKS.len();
+    let longs_from = makings_from + MAKINGS.len();
+    match n {
+        0 => document(),
+        n if n < makings_from => broken(n - 1, &mut words),
+        n if n < longs_from => made(n - makings_from, &mut words),
+        n if n < FIRST_DRAWN => long(&LONGS[n - longs_from], &mut words),
+        _ => drawn(&mut words),
+    }
+}
+
+/// The number of the first text that is not one of a list.
+pub const FIRST_DRAWN: usize = 1 + BREAKS.len() + MAKINGS.len() + LONGS.len();
+
+fn drawn(words: &mut Words) -> Given {
+    match words.below(24) {
+        0..=4 => broken(words.below(BREAKS.len()), words),
+        5 | 6 => changed(words),
+        7 => long(&words.one_of(&LONGS), words),
+        8 => without_rows(words),
+        9..=11 => full(words, FULL),
+        _ => {
+            let room = words.one_of(&[300, 1_000, 4_096, 4_096, 12_000, FULL, FULL]);
+            whole(words, room)
+        }
+    }
+}
+
+/// A text in form, with at most this many bytes.
+pub fn whole(words: &mut Words, room: usize) -> Given {
+    Given::in_form("in form", whole::text(words, room))
+}
+
+/// A text that fills its tree, as far as so many bytes go.
+pub fn full(words: &mut Words, room: usize) -> Given {
+    Given::in_form("full tree", full::text(words, room))
+}
+
+/// A short text with one rule of form broken, the n-th of `BREAKS`.
+pub fn broken(n: usize, words: &mut Words) -> Given {
+    let room = words.one_of(&[100, 300, 1_000, 2_000]);
+    let text = whole::text(words, room);
+    broken::apply(&BREAKS[n], text, words)
+}
+
+/// A short text with a making at a limit, the n-th of `MAKINGS`.
+pub fn made(n: usize, words: &mut Words) -> Given {
+    Given::in_form("making at a limit", makings::text(MAKINGS[n], words))
+}
+
+/// A short text with a few bytes changed anywhere, in form or not.
+pub fn changed(words: &mut Words) -> Given {
+    let room = words.one_of(&[100, 300, 1_000]);
+    changed::text(whole::text(words, room), words)
+}
+
+/// A text without op rows.
+pub fn without_rows(words: &mut Words) -> Given {
+    Given::in_form("no op rows", whole::without_rows(words))
+}
