@@ -1,5 +1,5 @@
 #!/bin/bash
-# Compares port and Rust for a given time, on other runs each day.
+# Compares port and Rust for a given time, on other runs each day; then 10,000 printed trees for each of its minutes.
 #   harness/night.sh MINUTES [SEED]
 # KRCF_SRC as for run.sh. Needs cargo, the Rust and rt. Without a SEED it is the day's date.
 set -euo pipefail
@@ -10,7 +10,11 @@ root=$(cd "$(dirname "$0")/.." && pwd)
 cd "$root"
 harness/copy_given.sh "${KRCF_SRC:-../shared/docs/src}"
 rt staticlib run
+rt check treelist
 
+compared() {
+  cargo run --quiet --offline --locked --manifest-path harness/Cargo.toml --package "$1" -- "${@:2}"
+}
 echo "night: $minutes minutes with the seed $seed"
-cargo run --quiet --offline --locked --manifest-path harness/Cargo.toml --package compare -- \
-  "$((60 * minutes))s" "$seed"
+compared compare "$((60 * minutes))s" "$seed"
+compared compare_texts "$((10000 * minutes))" "$seed"
