@@ -1,8 +1,9 @@
 -- A test over the first n channels: from and to the test of each. Assumes nothing.
-use mathlib.Core.Path.{_≡_, sym, subst}
+use mathlib.Core.Path.{_≡_, refl, sym, subst}
 use mathlib.Core.Logic.{⊎-elim}
-use mathlib.Core.Bool.{Bool, false, not, _&&_}
-use Prim.Native.Nat.{ℕ, zero, suc, _+_, _≤_, _<_}
+use mathlib.Core.Bool.{Bool, true, false, not, _&&_, _||_, and-true}
+use Prim.Native.Nat.{ℕ, zero, suc, _+_, _≤_, _<_, min}
+use native.Mathlib.Omega.{arith}
 use native.Mathlib.Nat.{le-of-suc-le-suc, not-suc-le-zero, eq-or-lt-of-le, le-suc, le-refl, le-trans}
 use native.Mathlib.Numerals.{add-one}
 use lib.Dec.{T, leb, leb→le, nleb→lt}
@@ -29,6 +30,21 @@ module _ (p : ℕ → Bool) where
 
   pub every-fails : (n i : ℕ) → i < n → p i ≡ false → every p n ≡ false
   every-fails n i h e = same-test (every p n) false (λ t. rw e at (every-at n t i h)) (λ b. absurd b)
+
+  -- one channel more, of those before d
+  pub every-among : (d i : ℕ) → every p (min d (i + 1)) ≡ (every p (min d i) && (leb d i || p i))
+  every-among d i = go (leb d i) refl
+    where
+      go : (b : Bool) → leb d i ≡ b → every p (min d (i + 1)) ≡ (every p (min d i) && (b || p i))
+      go true e =
+          let l : d ≤ i = leb→le d i (subst T (sym e) tt) in
+          let z : min d (i + 1) ≡ min d i = omega arith in
+          rw z (sym (and-true (every p (min d i))))
+      go false e =
+          let l : i < d = nleb→lt d i (subst (λ (b : Bool). T (not b)) (sym e) tt) in
+          let z : min d (i + 1) ≡ i + 1 = omega arith in
+          let y : min d i ≡ i = omega arith in
+          rw (z, y) (every-next i)
 
 pub every-same : (p q : ℕ → Bool) (n : ℕ) → ((i : ℕ) → i < n → p i ≡ q i) → every p n ≡ every q n
 every-same p q n h =

@@ -1,6 +1,6 @@
 // The boxes of a random cut tree: their ends, growing, the sum of their sides, and what lies inside. After boundingbox.rs, and `check_strictly_contains` of nodestore.rs.
 ghost use mathlib.Core.Path.{_≡_};
-ghost use mathlib.Core.Bool.{_&&_};
+ghost use mathlib.Core.Bool.{_&&_, _||_};
 ghost use Prim.Native.Nat.{min};
 ghost use Rattle.boundingbox.specs.Ends.{least, greatest, joined};
 ghost use Rattle.boundingbox.specs.Sides.{gapOf, rangeSum};
@@ -94,6 +94,14 @@ impl BoundingBox {
         held
     }
 
+    // Whether the point lies in the box, its faces with it.
+    // Rules out a point on a face taken for outside, and a channel left out.
+    pub fn contains(self, point: &[f32; 8]) -> bool
+        ensures { λ r. ⌜ r ≡ contains (self .«min_values») (self .«max_values») (now (point .entry)) (now (point .entry)) 8 ⌝ }
+    {
+        self.unmoved(point, point)
+    }
+
     // The sum of the sides, in channel order.
     // Rules out a sum over one channel fewer, and one added up in another order, which rounds otherwise.
     pub fn get_range_sum(self) -> f64
@@ -110,24 +118,20 @@ impl BoundingBox {
         sum
     }
 
-    // Whether the point lies strictly inside in each of the first `dimensions` channels: in padding nothing does.
+    // Whether the point lies strictly inside in each of the first `dimensions` channels: in padding nothing does. No turn leaves the loop, as in `unmoved`.
     // Rules out a point on a face taken for inside, and padding counted as a channel.
     pub fn strictly_contains(self, point: &[f32; 8], dimensions: usize) -> bool
         ensures { λ r. ⌜ r ≡ strictlyContains (self .«min_values») (self .«max_values») (now (point .entry)) (min dimensions 8) ⌝ }
     {
         let lower = self.min_values;
         let upper = self.max_values;
+        let mut held = true;
         let mut i: usize = 0;
         while i < Self::CHANNELS {
-            if dimensions <= i {
-                return true;
-            }
-            if !between(lower[i], upper[i], point[i]) {
-                return false;
-            }
+            held = and_inside(held, dimensions <= i, lower[i], upper[i], point[i]);
             i += 1;
         }
-        true
+        held
     }
 }
 
@@ -191,9 +195,9 @@ fn and_stays(held: bool, lo: f32, hi: f32, newlo: f32, newhi: f32) -> bool
     held & (!(newlo < lo) & !(hi < newhi))
 }
 
-// Whether p lies above lo and below hi.
-fn between(lo: f32, hi: f32, p: f32) -> bool
-    ensures { λ r. ⌜ r ≡ inside lo hi p ⌝ }
+// `held`, and whether p lies above lo and below hi, or the channel is padding.
+fn and_inside(held: bool, padding: bool, lo: f32, hi: f32, p: f32) -> bool
+    ensures { λ r. ⌜ r ≡ (held && (padding || inside lo hi p)) ⌝ }
 {
-    (lo < p) & (p < hi)
+    held & (padding | ((lo < p) & (p < hi)))
 }

@@ -3,8 +3,8 @@
 ghost use mathlib.Core.Path.{_≡_};
 ghost use mathlib.Core.Bool.{Bool, cond};
 ghost use mathlib.Core.Option.{none, some};
-ghost use mathlib.Core.List.{List};
-ghost use Prim.Native.Nat.{ℕ, _+_, _-_, _<_, _≤_};
+ghost use mathlib.Core.List.{List, [], _∷_};
+ghost use Prim.Native.Nat.{ℕ, _+_, _-_, _*_, _<_, _≤_};
 ghost use lib.Dec.{eqb};
 ghost use lib.ListN.{length, getD, set, take, drop};
 ghost use lib.Ieee.{Float, le};
@@ -35,11 +35,25 @@ fn path_length(path: &[[u16; 2]; 256])
     rows_of(path);
 }
 
-// The side that a coordinate goes to: 0 is the left one, 1 the right one. A number and no branch, so that none has to be guessed.
-fn side_of(x: f32, cut: f32) -> usize
-    ensures { λ r. ⌜ (r ≡ cond (le x cut) 0 1) × (r ≤ 1) ⌝ }
+// Two u16s as one number.
+fn together(low: u16, high: u16) -> u32
+    ensures { λ r. ⌜ (r ≡ low + 65536 * high) × (low < 65536) × (high < 65536) ⌝ }
 {
-    if x <= cut { 0 } else { 1 }
+    (low as u32) + 65536 * (high as u32)
+}
+
+fn either(first: bool, x: u32, y: u32) -> u32
+    ensures { λ r. ⌜ r ≡ cond first x y ⌝ }
+{
+    if first { x } else { y }
+}
+
+// Two ids, in turn or turned round. The test picks one number of two, so that no branch has to be guessed.
+fn in_turn(straight: bool, a: u16, b: u16) -> [u16; 2]
+    ensures { λ r. ⌜ r ≡ cond straight (a ∷ b ∷ []) (b ∷ a ∷ []) ⌝ }
+{
+    let both = either(straight, together(a, b), together(b, a));
+    [(both % 65536) as u16, (both / 65536) as u16]
 }
 
 // The side that the point goes to, and the other.
@@ -49,8 +63,9 @@ fn step_at(nodes: &[[u16; 4]; 255], cuts: &[f32; 255], point: &[f32; 8], i: usiz
     ensures { λ r. ⌜ r ≡ stepOf (now (nodes .entry)) (now (cuts .entry)) (now (point .entry)) i ⌝ }
 {
     let d = wide16(nodes[i][3]);
-    let side = side_of(point[d], cuts[i]);
-    [nodes[i][side], nodes[i][1 - side]]
+    let left = nodes[i][0];
+    let right = nodes[i][1];
+    in_turn(point[d] <= cuts[i], left, right)
 }
 
 // The nodes from the root to the leaf, each with its sibling; the root has none. The rows after the walk's stay as they are.

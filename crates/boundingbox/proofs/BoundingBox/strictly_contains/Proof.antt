@@ -1,53 +1,45 @@
--- `BoundingBox::strictly_contains` meets its contract: in the channels passed the point lies strictly inside. Assumes nothing.
+-- `BoundingBox::strictly_contains` meets its contract: after i turns `held` tells of the first i channels that are not padding. Assumes nothing.
 use borrow.Author.Needs.{needs}
-use borrow.Author.Tests.{not-true, not-false}
 use native.Mathlib.Omega.{arith}
-use mathlib.Core.Path.{_≡_, refl, sym, _∙_}
-use mathlib.Core.Bool.{true}
+use mathlib.Core.Path.{_≡_, refl, _∙_}
 use Prim.Native.Nat.{_≤_, _-_, min, zero-le}
 use Rattle.boundingbox.specs.Contained.{strictlyContains, every}
-use Rattle.boundingbox.proofs.Every.{every-next, every-fails}
+use Rattle.boundingbox.proofs.Every.{every-among}
 use Rattle.boundingbox.proofs.BoundingBox.strictly_contains.Statement.{statement}
 use Rattle.boundingbox.proofs.BoundingBox.strictly_contains.Tie as tie
 
 abbrev Inv-loop : tie.InvT-loop
-Inv-loop point dimensions lower upper i₀ i = (i ≤ 8) × (i ≤ dimensions) × (strictlyContains lower upper point i ≡ true)
+Inv-loop point dimensions lower upper held₀ i₀ held i = (i ≤ 8) × (held ≡ strictlyContains lower upper point (min dimensions i))
 
 abbrev μ-loop : tie.MeasureT-loop
-μ-loop point dimensions lower upper i₀ i = 8 - i
+μ-loop point dimensions lower upper held₀ i₀ held i = 8 - i
 
 loop-holds : tie.Need-loop-holds Inv-loop μ-loop
 unfolding every
-loop-holds c = (zero-le, zero-le, refl)
+loop-holds c =
+    let e : min (c .before .before .args .dimensions) 0 ≡ 0 = omega arith in
+    (zero-le, rw e refl)
 
-returns : tie.Need-returns Inv-loop μ-loop
-returns c =
-    let e : min (c .before .before .before .before .before .args .dimensions) 8 ≡ c .before .before .loop .i = omega arith in
-    rw e (sym (c .before .before .loop .inv .2))
+mul-and-inside : tie.Need-mul-and-inside Inv-loop μ-loop
+mul-and-inside c = search needs
 
-mul-between : tie.Need-mul-between Inv-loop μ-loop
-mul-between c = search needs
+array-read-and-inside : tie.Need-array-read-and-inside Inv-loop μ-loop
+array-read-and-inside c = search needs
 
-array-read-between : tie.Need-array-read-between Inv-loop μ-loop
-array-read-between c = search needs
+mul-and-inside-2 : tie.Need-mul-and-inside-2 Inv-loop μ-loop
+mul-and-inside-2 c = search needs
 
-mul-between-2 : tie.Need-mul-between-2 Inv-loop μ-loop
-mul-between-2 c = search needs
+array-read-and-inside-2 : tie.Need-array-read-and-inside-2 Inv-loop μ-loop
+array-read-and-inside-2 c = search needs
 
-array-read-between-2 : tie.Need-array-read-between-2 Inv-loop μ-loop
-array-read-between-2 c = search needs
+mul-and-inside-3 : tie.Need-mul-and-inside-3 Inv-loop μ-loop
+mul-and-inside-3 c = search needs
 
-mul-between-3 : tie.Need-mul-between-3 Inv-loop μ-loop
-mul-between-3 c = search needs
+element-copy-out-and-inside : tie.Need-element-copy-out-and-inside Inv-loop μ-loop
+element-copy-out-and-inside c = search needs
 
-element-copy-out-between : tie.Need-element-copy-out-between Inv-loop μ-loop
-element-copy-out-between c = search needs
-
-between-requires : tie.Need-between-requires Inv-loop μ-loop
-between-requires c κs = search needs
-
-returns-2 : tie.Need-returns-2 Inv-loop μ-loop
-returns-2 c = sym (every-fails _ _ (c .before .before .before .before .before .loop .i) (omega arith) (sym (c .before .between .ensures) ∙ not-true _ (c .if2 .taken)))
+and-inside-requires : tie.Need-and-inside-requires Inv-loop μ-loop
+and-inside-requires c κs = search needs
 
 add-i : tie.Need-add-i Inv-loop μ-loop
 add-i c = search needs
@@ -56,15 +48,28 @@ loop-less : tie.Need-loop-less Inv-loop μ-loop
 loop-less c = search needs
 
 loop-again : tie.Need-loop-again Inv-loop μ-loop
-loop-again c = (omega arith, omega arith, every-next _ _ ∙ rw (c .before .before .before .before .before .loop .inv .2) (sym (c .before .between .ensures) ∙ not-false _ (c .if2 .left)))
+loop-again c = (omega arith, rw (every-among, c .and-inside .ensures, c .before .before .before .loop .inv .1))
 
-returns-3 : tie.Need-returns-3 Inv-loop μ-loop
-returns-3 c =
-    let e : min (c .before .before .before .before .args .dimensions) 8 ≡ c .before .loop .i = omega arith in
-    rw e (sym (c .before .loop .inv .2))
+returns : tie.Need-returns Inv-loop μ-loop
+returns c =
+    let e : c .before .loop .i ≡ 8 = omega arith in
+    c .before .loop .inv .1 ∙ rw e
 
 pub strictly-contains-spec : {M : Type 1} → statement M
 strictly-contains-spec =
     tie.close
-    (tie.spec Inv-loop μ-loop loop-holds returns mul-between array-read-between mul-between-2 array-read-between-2 mul-between-3 element-copy-out-between between-requires returns-2
-    add-i loop-less loop-again returns-3)
+    (tie.spec
+    Inv-loop
+    μ-loop
+    loop-holds
+    mul-and-inside
+    array-read-and-inside
+    mul-and-inside-2
+    array-read-and-inside-2
+    mul-and-inside-3
+    element-copy-out-and-inside
+    and-inside-requires
+    add-i
+    loop-less
+    loop-again
+    returns)
