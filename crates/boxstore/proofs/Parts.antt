@@ -16,7 +16,7 @@ use Rattle.wholetree.specs.Whole.{whole}
 use Rattle.layout.specs.Slots.{lowOf, highOf}
 use Rattle.layout.specs.Stands.{Once}
 use Rattle.boxstore.specs.Boxed.{sideIn, Boxed, SomeBoxed}
-use Rattle.boxstore.specs.Grown.{lowWith, highWith, GrownBy, SidesBox, BoxOf}
+use Rattle.boxstore.specs.Grown.{lowWith, highWith, EndsGrownBy, GrownBy, SidesBox, BoxOf}
 use Rattle.boxstore.proofs.Ends.{tab-same, least-end, most-end, least-ends, most-ends, row-ends}
 use Rattle.boxstore.proofs.Depths.{deep, depth, depth-few, deep-is}
 
@@ -52,12 +52,12 @@ module _ (c k node : ℕ) (nodes : List (List ℕ)) (points lows highs : List (L
   cached-ends h m d (branch b x g l r) e B = rw (← e) (sym (B .cached .low .0 (omega arith)), sym (B .cached .high .0 (omega arith)))
 
   pub record Row (X Y : List Float) : Type 0 where
-    pub grown : (b r : BoundingBox) → r .«min_values» ≡ joined leastFloat (b .«min_values») X → r .«max_values» ≡ joined greatestFloat (b .«max_values») Y → GrownBy c k node nodes points lows highs b r
+    pub grown : (low high low′ high′ : List Float) → low′ ≡ joined leastFloat low X → high′ ≡ joined greatestFloat high Y → EndsGrownBy c k node nodes points lows highs low high low′ high′
     pub whole-box : (r : BoundingBox) → r .«min_values» ≡ X → r .«max_values» ≡ Y → BoxOf c k node nodes points lows highs r
 
   row : (X Y : List Float) → Ends X Y → Row X Y
   row X Y E = record {
-    grown = λ b r p q d t f g e B m n. let w = E d t e B in (rw (p, m, ← (w .0)) (least-ends d f (lo (whole d) t)), rw (q, n, ← (w .1)) (most-ends d g (hi (whole d) t)));
+    grown = λ low high low′ high′ p q d t f g e B m n. let w = E d t e B in (rw (p, m, ← (w .0)) (least-ends d f (lo (whole d) t)), rw (q, n, ← (w .1)) (most-ends d g (hi (whole d) t)));
     whole-box = λ r p q d t e B. let w = E d t e B in (p ∙ sym (w .0), q ∙ sym (w .1));
   }
 
@@ -116,9 +116,10 @@ module _ (c k node : ℕ) (nodes : List (List ℕ)) (points lows highs : List (L
           }
 
   -- what two calls give, one for each side
-  pub sides-grown : node < c → (b m r : BoundingBox) → GrownBy c k left nodes points lows highs b m → GrownBy c k right nodes points lows highs m r → GrownBy c k node nodes points lows highs b r
-  sides-grown h b m r F G d (leaf i q n) f g e B p s = absurd (omega arith)
-  sides-grown h b m r F G d (branch a x y u v) f g e B p s =
+  pub sides-grown : node < c → (low high low′ high′ low″ high″ : List Float) → EndsGrownBy c k left nodes points lows highs low high low′ high′ → EndsGrownBy c k right nodes points lows highs low′ high′ low″ high″
+      → EndsGrownBy c k node nodes points lows highs low high low″ high″
+  sides-grown h low high low′ high′ low″ high″ F G d (leaf i q n) f g e B p s = absurd (omega arith)
+  sides-grown h low high low′ high′ low″ high″ F G d (branch a x y u v) f g e B p s =
       let bl = left-boxed d c k nodes points lows highs B in
       let br = right-boxed d c k nodes points lows highs B in
       let one = F d u f g (rw (← e) (sym (B .links .0))) bl p s in

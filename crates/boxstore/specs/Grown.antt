@@ -24,10 +24,14 @@ highWith d f t = ends (λ (i : ℕ). most (whole d) (f i) (hi (whole d) t i))
 
 -- capacity c, k cached branches, and a node's id
 module _ (c k node : ℕ) (nodes : List (List ℕ)) (points lows highs : List (List Float)) where
-  -- r is b grown by the box of the tree below the node, whichever tree stands there, if the ends of b are numbers
+  -- low′ and high′ are the ends low and high moved out to hold the box of the tree below the node, whichever tree stands there, if low and high are numbers
+  abbrev pub EndsGrownBy : List Float → List Float → List Float → List Float → Type 0
+  EndsGrownBy low high low′ high′ = (d : ℕ) (t : Tree (whole d)) (f g : ℕ → Number) → id (whole d) c t ≡ node → Boxed d c k nodes points lows highs t
+      → low ≡ ends f → high ≡ ends g → (low′ ≡ lowWith d f t) × (high′ ≡ highWith d g t)
+
+  -- r is b grown by that box
   abbrev pub GrownBy : BoundingBox → BoundingBox → Type 0
-  GrownBy b r = (d : ℕ) (t : Tree (whole d)) (f g : ℕ → Number) → id (whole d) c t ≡ node → Boxed d c k nodes points lows highs t
-      → b .«min_values» ≡ ends f → b .«max_values» ≡ ends g → (r .«min_values» ≡ lowWith d f t) × (r .«max_values» ≡ highWith d g t)
+  GrownBy b r = EndsGrownBy (b .«min_values») (b .«max_values») (r .«min_values») (r .«max_values»)
 
   -- r is the box around the two sides of a branch, whichever trees stand there: no matter what is cached for the branch itself
   abbrev pub SidesBox : BoundingBox → Type 0

@@ -11,7 +11,7 @@ ghost use Rattle.layout.specs.Layout.{noEnds};
 ghost use Rattle.boxstore.specs.Boxed.{sideIn, SomeBoxed};
 ghost use Rattle.boundingbox.specs.Contained.{contains};
 ghost use Rattle.boxstore.specs.Written.{written};
-ghost use Rattle.boxstore.specs.Grown.{GrownBy, BoxOf, SomeSides, SidesBox, Rebuilt};
+ghost use Rattle.boxstore.specs.Grown.{EndsGrownBy, GrownBy, BoxOf, SomeSides, SidesBox, Rebuilt};
 ghost use Rattle.boxstore.specs.Edited.{GrownAbove, SomeForgotten, RepairedAbove};
 
 fn wide(x: u16) -> usize
@@ -59,7 +59,77 @@ fn grown(b: BoundingBox, x: BoundingBox) -> BoundingBox
     grown.bounding_box
 }
 
-// The box grown by that of a node. A branch that is not cached grows it by its left side, then its right.
+// Ends moved out to other ends, in place.
+fn widen(low: &mut [f32; 8], high: &mut [f32; 8], lower: &[f32; 8], upper: &[f32; 8])
+    ensures lower { λ _. ⌜ now (low .exit) ≡ joined least (now (low .entry)) (now (lower .entry)) ⌝ }
+    ensures upper { λ _. ⌜ now (high .exit) ≡ joined greatest (now (high .entry)) (now (upper .entry)) ⌝ }
+{
+    let b = BoundingBox {
+        min_values: *low,
+        max_values: *high,
+    };
+    let grown = b.add_two_arrays(lower, upper);
+    let moved = grown.bounding_box;
+    let min_values = moved.min_values;
+    let max_values = moved.max_values;
+    *low = min_values;
+    *high = max_values;
+}
+
+// Ends moved out to hold the box of a node, in place: a box handed from call to call would be copied in each. A branch that is not cached
+// moves them by its left side, then its right.
+// Rules out one side moved by twice, and a branch that is not cached left out.
+fn grow_ends(
+    low: &mut [f32; 8],
+    high: &mut [f32; 8],
+    node: usize,
+    nodes: &[[u16; 4]; 255],
+    points: &[[f32; 8]; 1024],
+    lows: &[[f32; 8]; 255],
+    highs: &[[f32; 8]; 255],
+    capacity: usize,
+    cached: usize,
+)
+    requires few { ⌜ capacity ≤ 256 ⌝ }
+    requires stands { ⌜ SomeBoxed capacity cached node (now nodes) (now points) (now lows) (now highs) ⌝ }
+    ensures { λ _. ⌜ EndsGrownBy capacity cached node (now (nodes .entry)) (now (points .entry)) (now (lows .entry)) (now (highs .entry)) (now (low .entry)) (now (high .entry)) (now (low .exit)) (now (high .exit)) ⌝ }
+{
+    if capacity <= node {
+        let index = node - capacity;
+        widen(low, high, &points[index], &points[index]);
+        return;
+    }
+    if node < cached {
+        widen(low, high, &lows[node], &highs[node]);
+        return;
+    }
+    let left = side_of(nodes, node, 0);
+    let right = side_of(nodes, node, 1);
+    grow_ends(
+        low,
+        high,
+        left,
+        nodes,
+        points,
+        lows,
+        highs,
+        capacity,
+        cached,
+    );
+    grow_ends(
+        low,
+        high,
+        right,
+        nodes,
+        points,
+        lows,
+        highs,
+        capacity,
+        cached,
+    );
+}
+
+// The box grown by that of a node.
 // Rules out one side grown by twice, and a branch that is not cached left out.
 pub fn grow_node_box(
     b: BoundingBox,
@@ -81,10 +151,23 @@ pub fn grow_node_box(
     if node < cached {
         return grown(b, box_from_data(lows, highs, node));
     }
-    let left = side_of(nodes, node, 0);
-    let right = side_of(nodes, node, 1);
-    let half = grow_node_box(b, left, nodes, points, lows, highs, capacity, cached);
-    grow_node_box(half, right, nodes, points, lows, highs, capacity, cached)
+    let mut low = b.min_values;
+    let mut high = b.max_values;
+    grow_ends(
+        &mut low,
+        &mut high,
+        node,
+        nodes,
+        points,
+        lows,
+        highs,
+        capacity,
+        cached,
+    );
+    BoundingBox {
+        min_values: low,
+        max_values: high,
+    }
 }
 
 // The box of a node. That of a branch that is not cached is its left side's, grown by its right side.

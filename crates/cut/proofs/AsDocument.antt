@@ -125,18 +125,28 @@ module _ (lo hi p : List Float) (n : ℕ) (R : Readings lo hi p n) where
   point-is = ap (λ (x : Float). eq x nought) (range-exact lo hi p n R) ∙ eq-zero B B-le
 
   module _ (w : ℕ) (W : w < 2 ^ 64) where
-    -- the two float sums add up to the sum of the sides, and the product is rounded once
+    -- the sum of the sides times the factor is rounded once
+    pub product-is : mul binary64 (ofInt binary64 (pos S)) (factorOf w) ≡ numberOf (lowEnd lo p) (highEnd hi p) n w
+    unfolding numberOf
+    product-is = mul-value binary64 (ofInt binary64 (pos S)) (factorOf w) S 1 (w / 2 ^ 11) (2 ^ 53) (zero-lt-suc 0) (pow-pos 53) (ofInt-value binary64 S S-le) (factor-value w W)
+
+    -- the two float sums add up to the sum of the sides
     pub number-is : rangeOf lo hi p n w ≡ numberOf (lowEnd lo p) (highEnd hi p) n w
-    unfolding rangeOf numberOf
+    unfolding rangeOf
     number-is =
         ap (λ (x : Float). mul binary64 x (factorOf w))
         (rw (outside-exact lo hi p n R, range-exact lo hi p n R) (ofInt-add binary64 A B A-le B-le ∙ ap (λ (k : ℕ). ofInt binary64 (pos k)) (sum-stretched lo hi p n R)))
-        ∙ mul-value binary64 (ofInt binary64 (pos S)) (factorOf w) S 1 (w / 2 ^ 11) (2 ^ 53) (zero-lt-suc 0) (pow-pos 53) (ofInt-value binary64 S S-le) (factor-value w W)
+        ∙ product-is
 
     -- outside the box, the loop ends in document 01's channel, with document 01's rest
     pub side-drawn : contains lo hi p p n ≡ false → sideFrom (sideOf lo hi p) n 0 (rangeOf lo hi p n w) ≡ At (channelOf (lowEnd lo p) (highEnd hi p) n w) (restOf (lowEnd lo p) (highEnd hi p) n w)
     side-drawn o = rw number-is (side-is (lowEnd lo p) (highEnd hi p) n (stretched lo hi p n R) w W (sideOf lo hi p) (side-exact lo hi p n R) (some-side o))
 
+    -- so that is the cut that is drawn
+    pub separation-is : contains lo hi p p n ≡ false → separation n lo hi p w ≡ drawnAt lo hi p (At (channelOf (lowEnd lo p) (highEnd hi p) n w) (restOf (lowEnd lo p) (highEnd hi p) n w))
+    unfolding separation
+    separation-is o = rw (outside-is, o, side-drawn o) refl
+
 pub as-document : AsDocument
 unfolding separation documentCut cutOf drawnAt
-as-document n lo hi p w R W = rw (outside-is lo hi p n R) (by-test (contains lo hi p p n) (λ t. rw t refl) (λ t. rw (t, side-drawn lo hi p n R w W t) refl))
+as-document n lo hi p w R W = by-test (contains lo hi p p n) (λ t. rw (outside-is lo hi p n R, t) refl) (λ t. rw (t, separation-is lo hi p n R w W t) refl)

@@ -16,26 +16,11 @@ use Rattle.boundingbox.proofs.Sums.{sumTo-next}
 use Rattle.cut.specs.Paper.{falls, first, channelAt, restAt}
 use Rattle.cut.specs.Document.{numberOf, channelOf, restOf, cutOf}
 use Rattle.cut.specs.Laws.{InProportion, AsPaper}
-use Rattle.cut.proofs.First.{falls-wide}
+use Rattle.cut.proofs.First.{sum-more, falls-wide}
 use Rattle.cut.proofs.Going.{expo, den-is}
 use Rattle.cut.proofs.Number.{number-most, own}
 
 -- ---- in proportion
-sum-more : (g : ℕ → ℕ) (i j : ℕ) → i ≤ j → sumTo g i ≤ sumTo g j
-unfolding sumTo
-sum-more g i zero h = le-of-eq (ap (sumTo g) (none i h))
-  where
-    none : (i : ℕ) → i ≤ 0 → i ≡ 0
-    none i h = omega arith
-sum-more g i (suc j) h = go (eq-or-lt-of-le h) (λ l. sum-more g i j l)
-  where
-    back : i < suc j → i ≤ j
-    back l = omega arith
-
-    go : (i ≡ suc j) ⊎ (i < suc j) → (i ≤ j → sumTo g i ≤ sumTo g j) → sumTo g i ≤ sumTo g j + g j
-    go (inl e) ih = le-of-eq (ap (sumTo g) e)
-    go (inr l) ih = omega (arith, ih (back l))
-
 module _ (g : ℕ → ℕ) (q c : ℕ) where
   finds : (n i k : ℕ) → i ≤ k → k < i + n → ((j : ℕ) → j < k → falls g q c j ≡ false) → falls g q c k ≡ true → first g q c n i ≡ k
   unfolding first

@@ -2,23 +2,48 @@
 use mathlib.Core.Path.{_≡_, refl, sym, ap, _∙_, subst}
 use mathlib.Core.Logic.{_⊎_, inl, inr}
 use Prim.Native.Nat.{ℕ, zero, suc, _+_, _*_, _≤_, _<_}
-use native.Mathlib.Nat.{eq-zero-or-pos, lt-irrefl}
+use native.Mathlib.Nat.{le-trans, le-of-eq, lt-of-le-of-lt, lt-of-lt-of-le, mul-le-mul-right, eq-zero-or-pos, eq-or-lt-of-le, lt-irrefl}
 use native.Mathlib.Omega.{arith}
-use mathlib.Core.Bool.{Bool, true, false, _&&_, cond}
-use lib.Dec.{leb, ltb, nleb→lt}
-use Rattle.readings.proofs.Tests.{leb-yes, no}
+use mathlib.Core.Bool.{Bool, true, false, not, _&&_, cond}
+use lib.Dec.{T, leb, ltb, leb→le, nleb→lt, ltb→lt, nltb→le}
+use lib.Ieee.Fits.{and-l, and-r}
+use Rattle.readings.proofs.Tests.{leb-yes, yes, no, split}
 use Rattle.boundingbox.specs.Wholes.{sumTo}
-use Rattle.boundingbox.proofs.Sums.{sumTo-next}
+use Rattle.boundingbox.proofs.Sums.{sumTo-next, sum-pos}
 use Rattle.cut.specs.Paper.{falls, first}
 
 pub by-test : {A : Type 0} (b : Bool) → (b ≡ true → A) → (b ≡ false → A) → A
 by-test true f g = f refl
 by-test false f g = g refl
 
+-- the running sums do not fall
+pub sum-more : (g : ℕ → ℕ) (i j : ℕ) → i ≤ j → sumTo g i ≤ sumTo g j
+unfolding sumTo
+sum-more g i zero h = le-of-eq (ap (sumTo g) (none i h))
+  where
+    none : (i : ℕ) → i ≤ 0 → i ≡ 0
+    none i h = omega arith
+sum-more g i (suc j) h = go (eq-or-lt-of-le h) (λ l. sum-more g i j l)
+  where
+    back : i < suc j → i ≤ j
+    back l = omega arith
+
+    go : (i ≡ suc j) ⊎ (i < suc j) → (i ≤ j → sumTo g i ≤ sumTo g j) → sumTo g i ≤ sumTo g j + g j
+    go (inl e) ih = le-of-eq (ap (sumTo g) e)
+    go (inr l) ih = omega (arith, ih (back l))
+
 module _ (g : ℕ → ℕ) (q c : ℕ) where
   -- the sides before channel i don't reach the number
   abbrev pub Short : ℕ → Type 0
   Short i = (sumTo g i ≡ 0) ⊎ (sumTo g i * c < q)
+
+  -- nor do fewer of them
+  short-less : (i j : ℕ) → i ≤ j → Short j → Short i
+  short-less i j h (inl z) = inl (none (sumTo g i) (sumTo g j) (sum-more g i j h) z)
+    where
+      none : (a b : ℕ) → a ≤ b → b ≡ 0 → a ≡ 0
+      none a b h z = omega arith
+  short-less i j h (inr l) = inr (lt-of-le-of-lt (mul-le-mul-right c (sum-more g i j h)) l)
 
   pub falls-wide : (i : ℕ) → 0 < g i → falls g q c i ≡ leb q (sumTo g (i + 1) * c)
   unfolding falls
@@ -27,6 +52,10 @@ module _ (g : ℕ → ℕ) (q c : ℕ) where
   pub falls-thin : (i : ℕ) → g i ≡ 0 → falls g q c i ≡ false
   unfolding falls
   falls-thin i z = ap (λ (x : ℕ). ltb 0 x && leb q (sumTo g (i + 1) * c)) z
+
+  pub falls-says : (i : ℕ) → falls g q c i ≡ true → (0 < g i) × (q ≤ sumTo g (i + 1) * c)
+  unfolding falls
+  falls-says i f = (ltb→lt 0 (g i) (and-l (ltb 0 (g i)) (leb q (sumTo g (i + 1) * c)) (yes f)), leb→le q (sumTo g (i + 1) * c) (and-r (ltb 0 (g i)) (leb q (sumTo g (i + 1) * c)) (yes f)))
 
   pub short-next : (i : ℕ) → Short i → falls g q c i ≡ false → Short (i + 1)
   short-next i s f = go (eq-zero-or-pos (g i))
@@ -47,6 +76,7 @@ module _ (g : ℕ → ℕ) (q c : ℕ) where
 
   pub record Found (n i k : ℕ) : Type 0 where
     pub within : k < i + n
+    pub short-there : Short k
     pub falls-there : falls g q c k ≡ true
 
   pub first-found : (n i : ℕ) → Short i → q ≤ sumTo g (i + n) * c → 0 < sumTo g (i + n) → Found n i (first g q c n i)
@@ -67,7 +97,28 @@ module _ (g : ℕ → ℕ) (q c : ℕ) where
       less′ i n k h = omega arith
 
       here : falls g q c i ≡ true → Found (suc n) i (cond (falls g q c i) i (first g q c n (i + 1)))
-      here f = rw f (record { within = less i n; falls-there = f })
+      here f = rw f (record { within = less i n; short-there = s; falls-there = f })
 
       later : falls g q c i ≡ false → Found n (i + 1) (first g q c n (i + 1)) → Found (suc n) i (cond (falls g q c i) i (first g q c n (i + 1)))
-      later f w = rw f (record { within = less′ i n (first g q c n (i + 1)) (w .within); falls-there = w .falls-there })
+      later f w = rw f (record { within = less′ i n (first g q c n (i + 1)) (w .within); short-there = w .short-there; falls-there = w .falls-there })
+
+  -- so the sides up to j don't reach the number exactly where j lies before the channel found
+  module _ (n i k : ℕ) (F : Found n i k) (j : ℕ) where
+    pub before-found : j < k → Short (j + 1)
+    before-found h = short-less (j + 1) k (omega arith) (F .short-there)
+
+    pub short-before : Short (j + 1) → j < k
+    short-before s = go (split (ltb j k))
+      where
+        go : T (ltb j k) ⊎ T (not (ltb j k)) → j < k
+        go (inl t) = ltb→lt j k t
+        go (inr t) =
+            let f = falls-says k (F .falls-there) in
+            let m : sumTo g (k + 1) ≤ sumTo g (j + 1) = sum-more g (k + 1) (j + 1) (up (nltb→le j k t)) in
+            absurd (never (j + 1) s (le-trans (f .1) (mul-le-mul-right c m)) (lt-of-lt-of-le (sum-pos g (k + 1) k (last k) (f .0)) m))
+          where
+            up : k ≤ j → k + 1 ≤ j + 1
+            up h = omega arith
+
+            last : (k : ℕ) → k < k + 1
+            last k = omega arith

@@ -152,7 +152,7 @@ module _ (g : ℕ → ℕ) (q k : ℕ) where
             let e : q - sumTo g i * 2 ^ k - g i * 2 ^ k ≡ q - sumTo g (i + 1) * 2 ^ k = minus (sumTo g i * 2 ^ k) (g i * 2 ^ k) ∙ ap (λ (x : ℕ). q - x) (sym (after i)) in
             record {
               range = subst (λ (x : ℕ). Range (sub binary64 r f) x k) e (off-exact r (q - sumTo g i * 2 ^ k) k (g i) (G .range) w L h);
-              is = off-is r (q - sumTo g i * 2 ^ k) k (g i) (G .range) w L ∙ sum-minus binary64 (q - sumTo g i * 2 ^ k) (g i * 2 ^ k) (2 ^ k) (le-of-lt h) ∙ ap (λ (x : ℕ). round binary64 false x (2 ^ k)) e;
+              is = off-is r (q - sumTo g i * 2 ^ k) k (g i) (G .range) L ∙ sum-minus binary64 (q - sumTo g i * 2 ^ k) (g i * 2 ^ k) (2 ^ k) (le-of-lt h) ∙ ap (λ (x : ℕ). round binary64 false x (2 ^ k)) e;
               short = short;
             }
 

@@ -8,3 +8,5 @@ pub mod Within
 pub mod AsPaper
 pub mod Padding
 pub mod Turns
+pub mod Sums
+pub mod Counted

@@ -79,7 +79,7 @@ first-pad g q c k (suc d) i f = ap (λ (m : ℕ). first g q c m i) (next d k) �
     move i d x h = omega arith
 
     later : falls g q c i ≡ false → Found g q c (suc d) i (cond (falls g q c i) i (first g q c d (i + 1))) → Found g q c d (i + 1) (first g q c d (i + 1))
-    later t f = let h = rw t at f in record { within = move i d (first g q c d (i + 1)) (h .within); falls-there = h .falls-there }
+    later t f = let h = rw t at f in record { within = move i d (first g q c d (i + 1)) (h .within); short-there = h .short-there; falls-there = h .falls-there }
 
 -- ---- the cut
 nought-stays : stays nought nought nought nought ≡ true

@@ -27,17 +27,19 @@ pub record Range (r : Float) (q k : ℕ) : Type 0 where
   pub small : q ≤ 2 ^ 53
   pub fine : k ≤ 1074
 
+-- a whole number, over the range's denominator
+pub whole-over : (g k : ℕ) → g ≤ 2 ^ 53 → HasValue (ofInt binary64 (pos g)) false (g * 2 ^ k) (2 ^ k)
+whole-over g k L = subst (λ (c : ℕ). HasValue (ofInt binary64 (pos g)) false (g * 2 ^ k) c) (one-mul (2 ^ k)) (scale-up (ofInt binary64 (pos g)) false g 1 (2 ^ k) (ofInt-value binary64 g L))
+
+-- the range less a whole number, which may be 0
+pub off-is : (r : Float) (q k g : ℕ) → Range r q k → g ≤ 2 ^ 53 → sub binary64 r (ofInt binary64 (pos g)) ≡ sum binary64 false q true (g * 2 ^ k) (2 ^ k)
+off-is r q k g R L = sub-value binary64 r (ofInt binary64 (pos g)) false false q (g * 2 ^ k) (2 ^ k) (pow-pos k) (R .value) (whole-over g k L)
+
 -- a whole side g comes off exactly, and the test says whether something is left
 module _ (r : Float) (q k g : ℕ) (R : Range r q k) (G : 0 < g) (L : g ≤ 2 ^ 53) where
-  side-value : HasValue (ofInt binary64 (pos g)) false (g * 2 ^ k) (2 ^ k)
-  side-value = subst (λ (c : ℕ). HasValue (ofInt binary64 (pos g)) false (g * 2 ^ k) c) (one-mul (2 ^ k)) (scale-up (ofInt binary64 (pos g)) false g 1 (2 ^ k) (ofInt-value binary64 g L))
-
-  pub off-is : sub binary64 r (ofInt binary64 (pos g)) ≡ sum binary64 false q true (g * 2 ^ k) (2 ^ k)
-  off-is = sub-value binary64 r (ofInt binary64 (pos g)) false false q (g * 2 ^ k) (2 ^ k) (pow-pos k) (R .value) side-value
-
   pub off-exact : g * 2 ^ k < q → Range (sub binary64 r (ofInt binary64 (pos g))) (q - g * 2 ^ k) k
   off-exact h = record {
-    value = subst (λ (x : Float). HasValue x false (q - g * 2 ^ k) (2 ^ k)) (sym (off-is ∙ sum-minus binary64 q (g * 2 ^ k) (2 ^ k) (le-of-lt h))) (scaled-exact (q - g * 2 ^ k) k (lt' (g * 2 ^ k) (mul-pos G (pow-pos k)) h (R .small)) (R .fine));
+    value = subst (λ (x : Float). HasValue x false (q - g * 2 ^ k) (2 ^ k)) (sym (off-is r q k g R L ∙ sum-minus binary64 q (g * 2 ^ k) (2 ^ k) (le-of-lt h))) (scaled-exact (q - g * 2 ^ k) k (lt' (g * 2 ^ k) (mul-pos G (pow-pos k)) h (R .small)) (R .fine));
     small = le-trans (sub-le q (g * 2 ^ k)) (R .small);
     fine = R .fine;
   }
@@ -52,9 +54,9 @@ module _ (r : Float) (q k g : ℕ) (R : Range r q k) (G : 0 < g) (L : g ≤ 2 ^ 
       go (inl t) = low (eq-or-lt-of-le (leb→le q (g * 2 ^ k) t)) ∙ sym (is-true (leb q (g * 2 ^ k)) t)
         where
           low : (q ≡ g * 2 ^ k) ⊎ (q < g * 2 ^ k) → le (sub binary64 r (ofInt binary64 (pos g))) nought ≡ true
-          low (inr l) = ap (λ (x : Float). le x nought) (off-is ∙ sum-under binary64 q (g * 2 ^ k) (2 ^ k) l) ∙ round-under binary64 (g * 2 ^ k - q) (2 ^ k)
+          low (inr l) = ap (λ (x : Float). le x nought) (off-is r q k g R L ∙ sum-under binary64 q (g * 2 ^ k) (2 ^ k) l) ∙ round-under binary64 (g * 2 ^ k - q) (2 ^ k)
           low (inl e) =
-              ap (λ (x : Float). le x nought) (off-is ∙ sum-minus binary64 q (g * 2 ^ k) (2 ^ k) (le-of-eq (sym e)) ∙ ap (λ (z : ℕ). round binary64 false z (2 ^ k)) (none q (g * 2 ^ k) e))
+              ap (λ (x : Float). le x nought) (off-is r q k g R L ∙ sum-minus binary64 q (g * 2 ^ k) (2 ^ k) (le-of-eq (sym e)) ∙ ap (λ (z : ℕ). round binary64 false z (2 ^ k)) (none q (g * 2 ^ k) e))
               ∙ le-value (round binary64 false 0 (2 ^ k)) nought 0 0 (2 ^ k) (pow-pos k) (scaled-exact 0 k (pow-pos 53) (R .fine)) (zero-value (2 ^ k))
             where
               none : (a b : ℕ) → a ≡ b → a - b ≡ 0

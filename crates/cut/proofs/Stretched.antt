@@ -14,7 +14,7 @@ use Rattle.readings.proofs.Ranks.{lt-rank, rank-le}
 use Rattle.boundingbox.proofs.Order.{by-rank, least-place, greatest-place, least-keeps, greatest-keeps}
 use Rattle.boundingbox.proofs.Sums.{gap-exact, total-whole, total-exact}
 use Rattle.boundingbox.specs.Ends.{channel}
-use Rattle.boundingbox.specs.Sides.{gapOf, rangeSum}
+use Rattle.boundingbox.specs.Sides.{gapOf, total, rangeSum}
 use Rattle.boundingbox.specs.Wholes.{Box, side, sumTo}
 use Rattle.cut.specs.Draw.{outsideOf, outsideSum, lowEnd, highEnd, sideOf}
 use Rattle.cut.specs.Laws.{Readings}
@@ -106,6 +106,11 @@ module _ (lo hi p : List Float) (n : ℕ) (R : Readings lo hi p n) where
 
   pub range-exact : rangeSum lo hi n ≡ ofInt binary64 (pos (sumTo (side (channel lo) (channel hi)) n))
   range-exact = total-exact (channel lo) (channel hi) n (R .box) n (le-refl n)
+
+  -- and so are the sums of the first sides of the box with the point in it
+  pub sides-exact : (m : ℕ) → m ≤ n → total (sideOf lo hi p) m ≡ ofInt binary64 (pos (sumTo (side (lowEnd lo p) (highEnd hi p)) m))
+  unfolding sideOf
+  sides-exact = total-exact (lowEnd lo p) (highEnd hi p) n stretched
 
   -- what lies outside, and the box's own sides, make up the sides of the box with the point in it
   pub sum-stretched : sumTo out n + sumTo (side (channel lo) (channel hi)) n ≡ sumTo (side (lowEnd lo p) (highEnd hi p)) n

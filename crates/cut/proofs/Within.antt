@@ -6,10 +6,10 @@ use Prim.Native.Nat.{ℕ, zero, suc, _+_, _-_, _*_, _^_, _≤_, _<_}
 use native.Mathlib.Nat.{le-of-eq, zero-add, eq-zero-or-pos, lt-irrefl}
 use native.Mathlib.Omega.{arith}
 use mathlib.Core.Bool.{Bool, true, false, not, _&&_, _||_, cond, true≢false}
-use lib.Dec.{T, leb, ltb, eqb, leb→le, le→leb, ltb→lt, lt→ltb, eqb→eq}
+use lib.Dec.{T, leb, ltb, eqb, le→leb, lt→ltb, eqb→eq}
 use lib.Ieee.{Float, binary32, lt, le, eq, fits}
 use lib.Ieee.Bits.{is-true}
-use lib.Ieee.Fits.{and-l, and-r, add-fits}
+use lib.Ieee.Fits.{add-fits}
 use lib.Ieee.Positive.{num, den}
 use Rattle.readings.specs.Coordinate.{isCoordinate, rank}
 use Rattle.readings.specs.Narrow.{narrowed}
@@ -20,11 +20,11 @@ use Rattle.boundingbox.specs.Ends.{channel, least, greatest}
 use Rattle.boundingbox.specs.Contained.{contains}
 use Rattle.boundingbox.specs.Wholes.{Box, side, sumTo}
 use Rattle.boundingbox.proofs.Sums.{sum-pos}
-use Rattle.cut.specs.Paper.{falls, channelAt}
+use Rattle.cut.specs.Paper.{channelAt}
 use Rattle.cut.specs.Draw.{lowEnd, highEnd, moved, placed, parts, partsAt}
 use Rattle.cut.specs.Document.{numberOf, channelOf, restOf, cutOf}
 use Rattle.cut.specs.Laws.{Readings, Within, CutWithin, LeafParts, strays, seeded17, NeverSeeded17}
-use Rattle.cut.proofs.First.{by-test, Found, first-found}
+use Rattle.cut.proofs.First.{by-test, falls-says, Found, first-found}
 use Rattle.cut.proofs.Stretched.{stretched}
 use Rattle.cut.proofs.Number.{number-most}
 use Rattle.cut.proofs.AsDocument.{outside-is, some-side, point-is, side-drawn}
@@ -69,10 +69,6 @@ module _ (lo hi rest : Float) (L : T (isCoordinate lo)) (H : T (isCoordinate hi)
   placed-num = placed-cases Num lo hi rest (λ a b. between-num lo (moved lo rest) hi (coordinate-num lo L) (coordinate-num hi H) (moved-fits lo rest) (lt→le lo (moved lo rest) a) b) (coordinate-num lo L)
 
 -- ---- the cut within its side
-falls-says : (g : ℕ → ℕ) (q c i : ℕ) → falls g q c i ≡ true → (0 < g i) × (q ≤ sumTo g (i + 1) * c)
-unfolding falls
-falls-says g q c i f = (ltb→lt 0 (g i) (and-l (ltb 0 (g i)) (leb q (sumTo g (i + 1) * c)) (yes f)), leb→le q (sumTo g (i + 1) * c) (and-r (ltb 0 (g i)) (leb q (sumTo g (i + 1) * c)) (yes f)))
-
 module _ (lo hi : ℕ → Float) (n : ℕ) (B : Box lo hi n) (w : ℕ) (W : w < 2 ^ 64) (P : 0 < sumTo (side lo hi) n) where
   abbrev d : ℕ
   d = channelOf lo hi n w
@@ -81,8 +77,8 @@ module _ (lo hi : ℕ → Float) (n : ℕ) (B : Box lo hi n) (w : ℕ) (W : w < 
   unfolding channelOf channelAt sumTo
   channel-found = first-found (side lo hi) (num (numberOf lo hi n w)) (den (numberOf lo hi n w)) n 0 (inl refl) (rw zero-add (number-most lo hi n B w W)) (rw zero-add P)
 
-  within : d < n
-  within = subst (λ (x : ℕ). channelOf lo hi n w < x) (zero-add n) (channel-found .within)
+  pub channel-below : channelOf lo hi n w < n
+  channel-below = subst (λ (x : ℕ). channelOf lo hi n w < x) (zero-add n) (channel-found .within)
 
   wide : 0 < side lo hi d
   wide = falls-says (side lo hi) (num (numberOf lo hi n w)) (den (numberOf lo hi n w)) d (channel-found .falls-there) .0
@@ -95,15 +91,15 @@ module _ (lo hi : ℕ → Float) (n : ℕ) (B : Box lo hi n) (w : ℕ) (W : w < 
 
   pub cut-num : Num (cutOf lo hi n w .value)
   unfolding cutOf
-  cut-num = placed-num (lo d) (hi d) (restOf lo hi n w) (B .lower d within) (B .upper d within) ordered
+  cut-num = placed-num (lo d) (hi d) (restOf lo hi n w) (B .lower d channel-below) (B .upper d channel-below) ordered
 
   pub within-side : Within lo hi n (cutOf lo hi n w)
   unfolding cutOf
   within-side = record {
-    channel-below = within;
+    channel-below = channel-below;
     side-wide = wide;
-    at-or-above = placed-above (lo d) (hi d) (restOf lo hi n w) (B .lower d within) (B .upper d within) ordered;
-    below = placed-below (lo d) (hi d) (restOf lo hi n w) (B .lower d within) (B .upper d within) ordered;
+    at-or-above = placed-above (lo d) (hi d) (restOf lo hi n w) (B .lower d channel-below) (B .upper d channel-below) ordered;
+    below = placed-below (lo d) (hi d) (restOf lo hi n w) (B .lower d channel-below) (B .upper d channel-below) ordered;
   }
 
 pub cut-within : CutWithin

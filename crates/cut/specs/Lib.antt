@@ -1,4 +1,5 @@
 pub mod Draw
+pub mod Sums
 pub mod Document
 pub mod Paper
 pub mod Laws

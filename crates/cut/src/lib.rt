@@ -2,9 +2,14 @@
 use boundingbox::BoundingBox;
 ghost use mathlib.Core.Path.{_≡_};
 ghost use Rattle.boundingbox.specs.Ends.{least, greatest};
-ghost use Rattle.boundingbox.specs.Sides.{gapOf};
-ghost use Prim.Native.Nat.{_<_};
+ghost use Rattle.boundingbox.specs.Sides.{gapOf, total};
+ghost use Prim.Native.Nat.{ℕ, _+_, _<_};
+ghost use mathlib.Core.Bool.{cond};
+ghost use lib.ListN.{getD};
+ghost use lib.Ieee.{nan, lt};
+ghost use Rattle.cut.specs.Laws.{Readings};
 ghost use Rattle.cut.specs.Draw.{outsideOf, outsideSum, sideOf, reaches, leftOf, sideFrom, placed, between, parts, drawnAt, separation};
+ghost use Rattle.cut.specs.Sums.{atLeastOne, countBelow};
 
 // A cut: a channel and an f32 value, handed about as one record (document 01, 'Which form goes where').
 pub struct Cut {
@@ -151,6 +156,68 @@ impl Cut {
             Side::At(dimension, rest) => drawn(bounding_box, point, dimension, rest),
         }
     }
+
+    // The same cut, of a box and a point of coordinates. Their sides are whole numbers, and the sums of these are exact; so each sum by
+    // itself tells whether it reaches the range, where `side_cut` waits for one subtraction after another and leaves its loop at any turn.
+    // Rules out a side told by a sum that falls short of the range, and a rest from the sum with the side in it.
+    pub fn whole_cut_and_separation(
+        bounding_box: BoundingBox,
+        word: u64,
+        point: &[f32; 8],
+    ) -> Separation
+        requires { ⌜ Readings («bounding_box» .«min_values») («bounding_box» .«max_values») (now point) 8 ⌝ }
+        ensures { λ r. ⌜ r ≡ separation 8 («bounding_box» .«min_values») («bounding_box» .«max_values») (now (point .entry)) word ⌝ }
+    {
+        if bounding_box.contains(point) {
+            return Separation::NoCut;
+        }
+        let sums = running_sums(bounding_box, point);
+        let range = sums[8] * readings::factor(word);
+        let dimension = sums_below(sums, at_least_one(range));
+        drawn(bounding_box, point, dimension, range - sums[dimension])
+    }
+}
+
+// The sums of the first 0 to 8 sides of the box with the point in it.
+fn running_sums(bounding_box: BoundingBox, point: &[f32; 8]) -> [f64; 9]
+    ensures { λ r. ⌜ ((i : ℕ) → i < 9 → getD r i nan ≡ total (sideOf («bounding_box» .«min_values») («bounding_box» .«max_values») (now (point .entry))) i) ⌝ }
+{
+    let low = bounding_box.min_values;
+    let high = bounding_box.max_values;
+    let mut sums = [0.0f64; 9];
+    let mut i: usize = 0;
+    while i < 8 {
+        sums[i + 1] = sums[i] + side_with(low[i], high[i], point[i]);
+        i += 1;
+    }
+    sums
+}
+
+// 1 where x lies below the bound, else 0. A number and no branch, so that none has to be guessed.
+fn below(x: f64, bound: f64) -> usize
+    ensures { λ r. ⌜ r ≡ cond (lt x bound) 1 0 ⌝ }
+{
+    if x < bound { 1 } else { 0 }
+}
+
+// How many of the sums of 1 to 8 sides lie below the bound.
+fn sums_below(sums: [f64; 9], bound: f64) -> usize
+    ensures { λ r. ⌜ r ≡ countBelow (λ (i : ℕ). getD sums (i + 1) nan) bound 8 ⌝ }
+{
+    let mut count: usize = 0;
+    let mut i: usize = 0;
+    while i < 8 {
+        count = count + below(sums[i + 1], bound);
+        i += 1;
+    }
+    count
+}
+
+// A whole sum lies below x, or is 0, exactly where it lies below this.
+fn at_least_one(x: f64) -> f64
+    ensures { λ r. ⌜ r ≡ atLeastOne x ⌝ }
+{
+    if x < 1.0 { 1.0 } else { x }
 }
 
 // The cut on the side of a channel, and whether it parts the point from the box.

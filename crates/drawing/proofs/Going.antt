@@ -1,6 +1,6 @@
 -- The loop before the node of height m: what it keeps and the box it has, whichever tree stands in the arrays; and each way on or out of it. Assumes nothing.
-use mathlib.Core.Path.{_≡_, refl, sym, ap, _∙_, subst}
-use mathlib.Core.Bool.{Bool, true, false, true≢false, false≢true}
+use mathlib.Core.Path.{_≡_, sym, ap, _∙_, subst}
+use mathlib.Core.Bool.{Bool, cond}
 use mathlib.Core.List.{List, []}
 use Prim.Native.Nat.{ℕ, suc, _+_, _-_, _^_, _≤_, _<_}
 use native.Mathlib.Numerals.{add-one}
@@ -11,21 +11,24 @@ use Rattle.boundingbox.specs.Ends.{least, greatest, joined}
 use Rattle.boundingbox.proofs.Joined.{joined-same}
 use Rattle.boundingbox.proofs.Order.{least-same, greatest-same}
 use Rattle.boundingbox.specs.declared.BoundingBox.{BoundingBox}
+use Rattle.cut.specs.declared.Cut.{Cut}
 use Rattle.cut.specs.declared.Separation.{Separation}
 use Rattle.cut.specs.declared.Separation.the-variants.{NoCut, Drawn}
 use Rattle.cut.specs.Draw.{separation}
+use Rattle.cut.specs.Laws.{Readings}
 use Rattle.cuttree.specs.Tree.{Tree, id, height}
-use Rattle.cuttree.specs.Walk.{sibling}
+use Rattle.cuttree.specs.Walk.{sub, sibling}
 use Rattle.wholetree.specs.Number.{zero as zeroNumber}
 use Rattle.wholetree.specs.Reading.{Reading}
 use Rattle.wholetree.specs.Whole.{whole}
+use Rattle.wholetree.proofs.Boxes.{tree-box}
+use Rattle.wholetree.proofs.Draws.{are-readings}
 use Rattle.layout.specs.Stands.{trail}
 use Rattle.layout.proofs.Trails.{path-sibling}
 use Rattle.boxstore.specs.Boxed.{SomeBoxed}
 use Rattle.boxstore.specs.Grown.{GrownBy}
 use Rattle.drawing.specs.declared.Highest.{Highest}
-use Rattle.drawing.specs.declared.Draw.{Draw}
-use Rattle.drawing.specs.Drawing.{drawnBy, Drawing, SomeDrawing, Kept}
+use Rattle.drawing.specs.Drawing.{Drawing, SomeDrawing, Kept}
 use Rattle.drawing.proofs.Siblings.{At, some-sibling, grow-up}
 use Rattle.drawing.proofs.Keeping.{keeps-nothing, keeps-held, keeps-drawn}
 
@@ -48,65 +51,53 @@ module _ (c k : ℕ) (nodes : List (List ℕ)) (points lows highs : List (List F
         (K, record { low = K .low; high = K .high });
   }
 
-  -- the draw of the node of height m
-  module _ (m : ℕ) (b : BoundingBox) (r : Highest) (G : Going m b r) (W : getD words m 0 < 2 ^ 64) (x : Draw) (X : x ≡ drawnBy (separation 8 (b .«min_values») (b .«max_values») point (getD words m 0)) r b m) where
-    -- by what is drawn
-    by-draw : {P : Type 0} → ((s : Separation) → separation 8 (b .«min_values») (b .«max_values») point (getD words m 0) ≡ s → x ≡ drawnBy s r b m → P) → P
-    by-draw f = f (separation 8 (b .«min_values») (b .«max_values») point (getD words m 0)) refl X
+  -- at the node of height m
+  module _ (m : ℕ) (b : BoundingBox) (r : Highest) (G : Going m b r) where
+    -- the box and the point are coordinates, as the draw asks
+    pub going-readings : SomeDrawing c k nodes points lows highs path len leaf words point → Readings (b .«min_values») (b .«max_values») point 8
+    going-readings s =
+        let D = s .drawing in
+        let A = G .keeps (s .channels) (s .tree) (s .reading) D .1 in
+        rw (A .low, A .high, D .row) (are-readings (tree-box (s .channels) (sub (whole (s .channels)) (s .tree) m (s .reading))) (s .reading))
 
-    module _ (d : ℕ) (t : Tree (whole d)) (p : Reading) (D : In d t p) where
-      below : m ≤ height (whole d) t p
-      below = omega (arith, G .within, D .count)
-
-      drawn-in : (s : Separation) → separation 8 (b .«min_values») (b .«max_values») point (getD words m 0) ≡ s → separation 8 (b .«min_values») (b .«max_values») (p .row) (getD words m 0) ≡ s
-      drawn-in s e = ap (λ (y : List Float). separation 8 (b .«min_values») (b .«max_values») y (getD words m 0)) (sym (D .row)) ∙ e
-
-      abbrev K : Kept d c t p words m r
-      K = G .keeps d t p D .0
-
-      abbrev A : At d c k nodes points lows highs p t m b
-      A = G .keeps d t p D .1
-
-      pub kept-held : x .held ≡ true → Kept d c t p words len (x .kept)
-      kept-held h = by-draw go
-        where
-          go : (s : Separation) → separation 8 (b .«min_values») (b .«max_values») point (getD words m 0) ≡ s → x ≡ drawnBy s r b m → Kept d c t p words len (x .kept)
-          go NoCut e z = subst (λ (y : Draw). Kept d c t p words len (y .kept)) (sym z) (subst (λ (n : ℕ). Kept d c t p words n r) (sym (D .count)) (keeps-held d c t p words m r K b (A .low) (A .high) W below (drawn-in NoCut e)))
-          go (Drawn q a) e z = absurd (false≢true (sym (ap (λ (y : Draw). y .held) z) ∙ h))
-
-      pub kept-on : x .held ≡ false → Kept d c t p words (suc m) (x .kept)
-      kept-on h = by-draw go
-        where
-          go : (s : Separation) → separation 8 (b .«min_values») (b .«max_values») point (getD words m 0) ≡ s → x ≡ drawnBy s r b m → Kept d c t p words (suc m) (x .kept)
-          go NoCut e z = absurd (true≢false (sym (ap (λ (y : Draw). y .held) z) ∙ h))
-          go (Drawn q a) e z = subst (λ (y : Draw). Kept d c t p words (suc m) (y .kept)) (sym z) (keeps-drawn d c t p words m r K b (A .low) (A .high) W q a (drawn-in (Drawn q a) e))
-
-      -- the root's: held or not
-      pub kept-last : len ≤ m + 1 → Kept d c t p words len (x .kept)
-      kept-last h = go (x .held) refl
-        where
-          last : suc m ≡ len
-          last = omega (arith, G .within)
-
-          go : (a : Bool) → x .held ≡ a → Kept d c t p words len (x .kept)
-          go true e = kept-held e
-          go false e = subst (λ (n : ℕ). Kept d c t p words n (x .kept)) last (kept-on e)
-
-      -- the id of the node's sibling
-      sibling-is : m + 1 < len → getD (getD path (len - 1 - m) []) 1 0 ≡ id (whole d) c (sibling (whole d) t m p)
-      sibling-is h =
-          let i = len - 1 - m - 1 in
-          let e : suc i + m ≡ height (whole d) t p = omega (arith, D .count) in
-          let f : len - 1 - m ≡ suc i = omega arith in
-          ap (λ (y : ℕ). getD (getD path y []) 1 0) f ∙ path-sibling d c p path t (subst (λ (n : ℕ). take n path ≡ trail d c t p) (D .count) (D .is-trail)) i m e
+    -- the id of the node's sibling
+    sibling-is : (d : ℕ) (t : Tree (whole d)) (p : Reading) → In d t p → m + 1 < len → getD (getD path (len - 1 - m) []) 1 0 ≡ id (whole d) c (sibling (whole d) t m p)
+    sibling-is d t p D h =
+        let i = len - 1 - m - 1 in
+        let e : suc i + m ≡ height (whole d) t p = omega (arith, D .count) in
+        let f : len - 1 - m ≡ suc i = omega arith in
+        ap (λ (y : ℕ). getD (getD path y []) 1 0) f ∙ path-sibling d c p path t (subst (λ (n : ℕ). take n path ≡ trail d c t p) (D .count) (D .is-trail)) i m e
 
     pub some-side : SomeDrawing c k nodes points lows highs path len leaf words point → m + 1 < len → (node : ℕ) → node ≡ getD (getD path (len - 1 - m) []) 1 0 → SomeBoxed c k node nodes points lows highs
     some-side s h node e =
         let D = s .drawing in
         some-sibling (s .channels) c k nodes points lows highs (s .reading) m (s .tree) (omega (arith, D .count)) (D .boxed) (D .once) node (e ∙ sibling-is (s .channels) (s .tree) (s .reading) D h)
 
-    pub going-on : m + 1 < len → x .held ≡ false → (node : ℕ) → node ≡ getD (getD path (len - 1 - m) []) 1 0 → (b′ : BoundingBox) → GrownBy c k node nodes points lows highs b b′ → Going (m + 1) b′ (x .kept)
-    going-on h n node e b′ g = record {
-      within = h;
-      keeps = λ d t p D. rw (add-one m) (kept-on d t p D n, grow-up d c k nodes points lows highs p m t (omega (arith, D .count)) (D .boxed) node (e ∙ sibling-is d t p D h) b b′ (A d t p D) g);
-    }
+    -- its draw
+    module _ (W : getD words m 0 < 2 ^ 64) (s : Separation) (X : s ≡ separation 8 (b .«min_values») (b .«max_values») point (getD words m 0)) where
+      drawn-in : (d : ℕ) (t : Tree (whole d)) (p : Reading) → In d t p → separation 8 (b .«min_values») (b .«max_values») (p .row) (getD words m 0) ≡ s
+      drawn-in d t p D = rw (← D .row) (sym X)
+
+      pub kept-held : s ≡ NoCut → (d : ℕ) (t : Tree (whole d)) (p : Reading) → In d t p → Kept d c t p words len r
+      kept-held e d t p D =
+          let g = G .keeps d t p D in
+          rw (D .count) (keeps-held d c t p words m r (g .0) b (g .1 .low) (g .1 .high) W (omega (arith, G .within, D .count)) (drawn-in d t p D ∙ e))
+
+      -- what is kept on: the cut where it parts
+      module _ (q : Cut) (a : Bool) (e : s ≡ Drawn q a) (y : Highest) (Y : y ≡ cond a (record { height = m; cut = q; «bounding_box» = b }) r) where
+        kept-on : (d : ℕ) (t : Tree (whole d)) (p : Reading) → In d t p → Kept d c t p words (suc m) y
+        kept-on d t p D =
+            let g = G .keeps d t p D in
+            rw Y (keeps-drawn d c t p words m r (g .0) b (g .1 .low) (g .1 .high) W q a (drawn-in d t p D ∙ e))
+
+        -- at the root
+        pub kept-last : len ≤ m + 1 → (d : ℕ) (t : Tree (whole d)) (p : Reading) → In d t p → Kept d c t p words len y
+        kept-last h d t p D =
+            let last : len ≡ suc m = omega (arith, G .within) in
+            rw last (kept-on d t p D)
+
+        pub going-on : m + 1 < len → (node : ℕ) → node ≡ getD (getD path (len - 1 - m) []) 1 0 → (b′ : BoundingBox) → GrownBy c k node nodes points lows highs b b′ → Going (m + 1) b′ y
+        going-on h node f b′ g = record {
+          within = h;
+          keeps = λ d t p D. rw (add-one m) (kept-on d t p D, grow-up d c k nodes points lows highs p m t (omega (arith, D .count)) (D .boxed) node (f ∙ sibling-is d t p D h) b b′ (G .keeps d t p D .1) g);
+        }

@@ -1,13 +1,9 @@
--- The loop from the leaf to the root: what one node's draw keeps, and what all of them keep. Definitions.
+-- The loop from the leaf to the root: what it draws in, and what it keeps. Definitions.
 use mathlib.Core.Path.{_≡_}
-use mathlib.Core.Bool.{true, false, cond}
 use mathlib.Core.List.{List, []}
 use Prim.Native.Nat.{ℕ, _≤_, _<_}
 use lib.ListN.{length, getD, take}
 use lib.Ieee.{Float}
-use Rattle.boundingbox.specs.declared.BoundingBox.{BoundingBox}
-use Rattle.cut.specs.declared.Separation.{Separation}
-use Rattle.cut.specs.declared.Separation.the-variants.{NoCut, Drawn}
 use Rattle.cuttree.specs.Setting.{Cut}
 use Rattle.cuttree.specs.Tree.{Tree, walk, ending}
 use Rattle.cuttree.specs.Walk.{sub, kept}
@@ -18,12 +14,6 @@ use Rattle.layout.specs.Slots.{lowOf, highOf}
 use Rattle.layout.specs.Stands.{Once, trail}
 use Rattle.boxstore.specs.Boxed.{Boxed}
 use Rattle.drawing.specs.declared.Highest.{Highest}
-use Rattle.drawing.specs.declared.Draw.{Draw}
-
--- one node's draw: no cut where the box holds the point, else the cut kept if it parts
-abbrev pub drawnBy : Separation → Highest → BoundingBox → ℕ → Draw
-drawnBy NoCut h b n = record { held = true; kept = h }
-drawnBy (Drawn k p) h b n = record { held = false; kept = cond p (record { height = n; cut = k; «bounding_box» = b }) h }
 
 -- stands for the cut before any is kept
 abbrev pub noCut : (d : ℕ) → ℕ × Cut (whole d)

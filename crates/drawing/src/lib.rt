@@ -6,47 +6,16 @@ ghost use mathlib.Core.Path.{_≡_};
 ghost use mathlib.Core.List.{List, []};
 ghost use Prim.Native.Nat.{ℕ, _+_, _-_, _≤_, _<_};
 ghost use lib.ListN.{length, getD, take};
-ghost use Rattle.cut.specs.Draw.{separation};
 ghost use Rattle.cuttree.specs.Tree.{Tree};
 ghost use Rattle.wholetree.specs.Reading.{Reading};
 ghost use Rattle.wholetree.specs.Whole.{whole};
-ghost use Rattle.drawing.specs.Drawing.{drawnBy, Drawing, SomeDrawing, Kept};
+ghost use Rattle.drawing.specs.Drawing.{Drawing, SomeDrawing, Kept};
 
 // The cut that is kept: the height of its node on the walk, the leaf's being 0; the cut; and the box of the node, without the new point.
 pub struct Highest {
     pub height: usize,
     pub cut: Cut,
     pub bounding_box: BoundingBox,
-}
-
-// A node's draw: whether its box holds the point, and the cut that is kept then.
-pub struct Draw {
-    pub held: bool,
-    pub kept: Highest,
-}
-
-// The draw of a node of that height. A cut that parts is kept, since it is higher than any before.
-fn draw_at(kept: Highest, current: BoundingBox, word: u64, point: &[f32; 8], height: usize) -> Draw
-    ensures { λ r. ⌜ r ≡ drawnBy (separation 8 (current .«min_values») (current .«max_values») (now (point .entry)) word) kept current height ⌝ }
-{
-    let s = Cut::random_cut_and_separation(current, word, point);
-    match s {
-        Separation::NoCut => Draw { held: true, kept },
-        Separation::Drawn(cut, parts) => {
-            if parts {
-                let next = Highest {
-                    height,
-                    cut,
-                    bounding_box: current,
-                };
-                return Draw {
-                    held: false,
-                    kept: next,
-                };
-            }
-            Draw { held: false, kept }
-        }
-    }
 }
 
 // The sibling of the node of height m on a walk of len nodes.
@@ -96,10 +65,20 @@ pub fn highest_cut(
     };
     let mut m: usize = 0;
     while m + 1 < len {
-        let drawn = draw_at(kept, current, words[m], point, m);
-        kept = drawn.kept;
-        if drawn.held {
-            return kept;
+        let drawn = Cut::whole_cut_and_separation(current, words[m], point);
+        match drawn {
+            Separation::NoCut => {
+                return kept;
+            }
+            Separation::Drawn(cut, parts) => {
+                if parts {
+                    kept = Highest {
+                        height: m,
+                        cut,
+                        bounding_box: current,
+                    };
+                }
+            }
         }
         let sibling = sibling_at(path, len, m);
         current = boxstore::grow_node_box(
@@ -114,6 +93,18 @@ pub fn highest_cut(
         );
         m += 1;
     }
-    let last = draw_at(kept, current, words[m], point, m);
-    last.kept
+    let last = Cut::whole_cut_and_separation(current, words[m], point);
+    match last {
+        Separation::NoCut => kept,
+        Separation::Drawn(cut, parts) => {
+            if parts {
+                return Highest {
+                    height: m,
+                    cut,
+                    bounding_box: current,
+                };
+            }
+            kept
+        }
+    }
 }

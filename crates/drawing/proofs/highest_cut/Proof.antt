@@ -1,10 +1,11 @@
 -- `highest_cut` meets its contract: before the node of height m it keeps what the tree keeps of the m nodes below. Assumes nothing.
 use native.Mathlib.Omega.{arith}
 use mathlib.Core.Path.{refl}
+use mathlib.Core.Logic.{⊎-elim}
 use Prim.Native.Nat.{_-_}
 use lib.Ieee.{ofBits}
 use Rattle.wholetree.specs.Number.{zero}
-use Rattle.drawing.proofs.Going.{Going, going-starts, kept-held, kept-last, some-side, going-on}
+use Rattle.drawing.proofs.Going.{Going, going-starts, going-readings, kept-held, kept-last, some-side, going-on}
 use borrow.Author.Needs.{needs}
 use Rattle.drawing.proofs.highest_cut.Statement.{statement}
 use Rattle.drawing.proofs.highest_cut.Tie as tie
@@ -37,44 +38,69 @@ loop-holds c = going-starts _ _ _ _ _ _ _ _ _ _ _ (c .before .before .before .be
 add-loop : tie.Need-add-loop Inv-loop μ-loop
 add-loop c = omega (arith, c .loop .inv .within)
 
-mul-draw-at : tie.Need-mul-draw-at Inv-loop μ-loop
-mul-draw-at c = search needs
+mul-whole-cut-and-separation : tie.Need-mul-whole-cut-and-separation Inv-loop μ-loop
+mul-whole-cut-and-separation c = search needs
 
-shared-slice-read-draw-at : tie.Need-shared-slice-read-draw-at Inv-loop μ-loop
-shared-slice-read-draw-at c = omega (arith, c .before .before .loop .inv .within, c .before .before .before .before .before .before .before .pre .1 .drawing .enough)
+shared-slice-read-whole-cut-and-separation : tie.Need-shared-slice-read-whole-cut-and-separation Inv-loop μ-loop
+shared-slice-read-whole-cut-and-separation c = omega (arith, c .before .before .loop .inv .within, c .before .before .before .before .before .before .before .pre .1 .drawing .enough)
 
-draw-at-requires : tie.Need-draw-at-requires Inv-loop μ-loop
-draw-at-requires c κs = search needs
+whole-cut-and-separation-requires : tie.Need-whole-cut-and-separation-requires Inv-loop μ-loop
+whole-cut-and-separation-requires c κs = going-readings _ _ _ _ _ _ _ _ _ _ _ _ _ _ (c .before .before .loop .inv) (c .before .before .before .before .before .before .before .pre .1)
+
+enum-told : tie.Need-enum-told Inv-loop μ-loop
+enum-told c = search needs
 
 returns : tie.Need-returns Inv-loop μ-loop
-returns c = λ d t p D. kept-held _ _ _ _ _ _ _ _ _ _ _ _ _ _ (c .before .before .before .before .before .loop .inv) (omega (arith, c .before .before .before .shared-slice-known2 .given (c .before .before .before .before .before .loop .m))) _ (c .before .before .draw-at .ensures) d t p D (c .if1 .taken)
+returns c = kept-held _ _ _ _ _ _ _ _ _ _ _ _ _ _ (c .before .before .before .before .before .loop .inv) (omega (arith, c .before .before .before .shared-slice-known2 .given (c .before .before .before .before .before .loop .m))) _ (c .before .before .whole-cut-and-separation .ensures) (c .enum-told .given .1)
+
+enum-known-drawn : tie.Need-enum-known-drawn Inv-loop μ-loop
+enum-known-drawn c = search needs
 
 sibling-at-requires : tie.Need-sibling-at-requires Inv-loop μ-loop
-sibling-at-requires c κs = (omega arith, c .before .before .before .before .before .before .before .before .before .before .pre .1 .drawing .most)
+sibling-at-requires c κs = (omega arith, c .before .before .before .before .before .before .before .before .before .before .before .before .pre .1 .drawing .most)
 
 grow-node-box-requires : tie.Need-grow-node-box-requires Inv-loop μ-loop
-grow-node-box-requires c κs = (c .before .before .before .before .before .before .before .before .before .before .before .pre .0, some-side _ _ _ _ _ _ _ _ _ _ _ _ _ _ (c .before .before .before .before .before .before .loop .inv) (omega (arith, c .before .before .before .before .shared-slice-known2 .given (c .before .before .before .before .before .before .loop .m))) _ (c .before .before .before .draw-at .ensures) (c .before .before .before .before .before .before .before .before .before .before .before .pre .1) (c .before .before .before .before .before .loop-test .taken) _ (c .sibling-at .ensures))
+grow-node-box-requires c κs = (c .before .before .before .before .before .before .before .before .before .before .before .before .before .pre .0, some-side _ _ _ _ _ _ _ _ _ _ _ _ _ _ (c .before .before .before .before .before .before .before .before .loop .inv) (c .before .before .before .before .before .before .before .before .before .before .before .before .before .pre .1) (c .before .before .before .before .before .before .before .loop-test .taken) _ (c .sibling-at .ensures))
 
 add-m : tie.Need-add-m Inv-loop μ-loop
-add-m c = omega (arith, c .before .before .before .before .before .before .loop-test .taken, c .before .before .before .before .before .before .before .before .before .before .before .before .pre .1 .drawing .most)
+add-m c = omega (arith, c .before .before .before .before .before .before .before .before .loop-test .taken, c .before .before .before .before .before .before .before .before .before .before .before .before .before .before .pre .1 .drawing .most)
 
 loop-less : tie.Need-loop-less Inv-loop μ-loop
-loop-less c = omega (arith, c .before .before .before .before .before .before .loop-test .taken)
+loop-less c = omega (arith, c .before .before .before .before .before .before .before .before .loop-test .taken)
 
 loop-again : tie.Need-loop-again Inv-loop μ-loop
-loop-again c = going-on _ _ _ _ _ _ _ _ _ _ _ _ _ _ (c .before .before .before .before .before .before .before .loop .inv) (omega (arith, c .before .before .before .before .before .shared-slice-known2 .given (c .before .before .before .before .before .before .before .loop .m))) _ (c .before .before .before .before .draw-at .ensures) (c .before .before .before .before .before .before .loop-test .taken) (c .before .before .if1 .left) _ (c .before .sibling-at .ensures) _ (c .grow-node-box .ensures)
+loop-again c =
+    going-on _ _ _ _ _ _ _ _ _ _ _ _ _ _ (c .before .before .before .before .before .before .before .before .before .loop .inv) (omega (arith, c .before .before .before .before .before .before .before .shared-slice-known2 .given (c .before .before .before .before .before .before .before .before .before .loop .m))) _ (c .before .before .before .before .before .before .whole-cut-and-separation .ensures)
+    _ _ (c .before .before .before .before .drawn .given .1) _ (⊎-elim (λ w. rw (w .0 .taken) (w .1)) (λ w. rw (w .0 .left) (w .1)) (c .before .before .if1 .came))
+    (c .before .before .before .before .before .before .before .before .loop-test .taken) _ (c .before .sibling-at .ensures) _ (c .grow-node-box .ensures)
 
-mul-draw-at-2 : tie.Need-mul-draw-at-2 Inv-loop μ-loop
-mul-draw-at-2 c = search needs
+mul-whole-cut-and-separation-2 : tie.Need-mul-whole-cut-and-separation-2 Inv-loop μ-loop
+mul-whole-cut-and-separation-2 c = search needs
 
-shared-slice-read-draw-at-2 : tie.Need-shared-slice-read-draw-at-2 Inv-loop μ-loop
-shared-slice-read-draw-at-2 c = omega (arith, c .before .before .loop .inv .within, c .before .before .before .before .before .before .before .pre .1 .drawing .enough)
+shared-slice-read-whole-cut-and-separation-2 : tie.Need-shared-slice-read-whole-cut-and-separation-2 Inv-loop μ-loop
+shared-slice-read-whole-cut-and-separation-2 c = omega (arith, c .before .before .loop .inv .within, c .before .before .before .before .before .before .before .pre .1 .drawing .enough)
 
-draw-at-requires-2 : tie.Need-draw-at-requires-2 Inv-loop μ-loop
-draw-at-requires-2 c κs = search needs
+whole-cut-and-separation-requires-2 : tie.Need-whole-cut-and-separation-requires-2 Inv-loop μ-loop
+whole-cut-and-separation-requires-2 c κs = going-readings _ _ _ _ _ _ _ _ _ _ _ _ _ _ (c .before .before .loop .inv) (c .before .before .before .before .before .before .before .pre .1)
+
+enum-told-2 : tie.Need-enum-told-2 Inv-loop μ-loop
+enum-told-2 c = search needs
+
+enum-known-last : tie.Need-enum-known-last Inv-loop μ-loop
+enum-known-last c = search needs
 
 returns-2 : tie.Need-returns-2 Inv-loop μ-loop
-returns-2 c = λ d t p D. kept-last _ _ _ _ _ _ _ _ _ _ _ _ _ _ (c .before .before .before .before .loop .inv) (omega (arith, c .before .before .shared-slice-known3 .given (c .before .before .before .before .loop .m))) _ (c .before .draw-at2 .ensures) d t p D (c .before .before .before .loop-test .left)
+returns-2 c =
+    kept-last _ _ _ _ _ _ _ _ _ _ _ _ _ _ (c .before .before .before .before .before .before .before .loop .inv) (omega (arith, c .before .before .before .before .before .shared-slice-known3 .given (c .before .before .before .before .before .before .before .loop .m))) _ (c .before .before .before .before .whole-cut-and-separation2 .ensures)
+    _ _ (c .before .before .last .given .1) _ (rw (c .if2 .taken)) (c .before .before .before .before .before .before .loop-test .left)
+
+returns-3 : tie.Need-returns-3 Inv-loop μ-loop
+returns-3 c = kept-held _ _ _ _ _ _ _ _ _ _ _ _ _ _ (c .before .before .before .before .before .loop .inv) (omega (arith, c .before .before .before .shared-slice-known3 .given (c .before .before .before .before .before .loop .m))) _ (c .before .before .whole-cut-and-separation2 .ensures) (c .enum-told2 .given .1)
+
+returns-4 : tie.Need-returns-4 Inv-loop μ-loop
+returns-4 c =
+    kept-last _ _ _ _ _ _ _ _ _ _ _ _ _ _ (c .before .before .before .before .before .before .before .loop .inv) (omega (arith, c .before .before .before .before .before .shared-slice-known3 .given (c .before .before .before .before .before .before .before .loop .m))) _ (c .before .before .before .before .whole-cut-and-separation2 .ensures)
+    _ _ (c .before .before .last .given .1) _ (rw (c .if2 .left)) (c .before .before .before .before .before .before .loop-test .left)
 
 pub highest-cut-spec : {M : Type 1} → statement M
 highest-cut-spec =
@@ -89,16 +115,22 @@ highest-cut-spec =
     new-requires
     loop-holds
     add-loop
-    mul-draw-at
-    shared-slice-read-draw-at
-    draw-at-requires
+    mul-whole-cut-and-separation
+    shared-slice-read-whole-cut-and-separation
+    whole-cut-and-separation-requires
+    enum-told
     returns
+    enum-known-drawn
     sibling-at-requires
     grow-node-box-requires
     add-m
     loop-less
     loop-again
-    mul-draw-at-2
-    shared-slice-read-draw-at-2
-    draw-at-requires-2
-    returns-2)
+    mul-whole-cut-and-separation-2
+    shared-slice-read-whole-cut-and-separation-2
+    whole-cut-and-separation-requires-2
+    enum-told-2
+    enum-known-last
+    returns-2
+    returns-3
+    returns-4)
