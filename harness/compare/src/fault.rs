@@ -1,6 +1,7 @@
 //! Faults made on purpose, each in some runs, to show that the comparison notices them.
 use crate::inputs::Source;
 use crate::judge::{Answers, Judge};
+use command::{Faults, Shows, Tries};
 use oracle::Words;
 use port::{Called, Lending};
 use runs::{decode, Call};
@@ -102,27 +103,19 @@ impl Faulty {
 /// Tries every fault; an error if one goes unnoticed.
 pub fn run(seed: u64) -> Result<(), String> {
     let source = Source::new(seed);
-    let mut unnoticed = Vec::new();
+    let mut faults = Faults::default();
     for fault in FAULTS {
-        let (made, noticed) = try_fault(fault, &source);
-        println!("fault {fault:?}: made in {made} runs, noticed in {noticed}");
-        let enough = match fault {
-            Fault::Word => noticed > 0,
-            _ => noticed == made && made > 0,
+        let shows = match fault {
+            Fault::Word => Shows::Sometimes,
+            _ => Shows::Always,
         };
-        if !enough {
-            unnoticed.push(format!("{fault:?}"));
-        }
+        faults.tell(fault, "runs", try_fault(fault, &source), shows);
     }
-    match unnoticed.is_empty() {
-        true => Ok(()),
-        false => Err(format!("not noticed: {}", unnoticed.join(", "))),
-    }
+    faults.finish()
 }
 
-/// In how many runs the fault was made, and in how many of those the comparison saw it.
-fn try_fault(fault: Fault, source: &Source) -> (usize, usize) {
-    let (mut made, mut noticed) = (0, 0);
+fn try_fault(fault: Fault, source: &Source) -> Tries {
+    let mut tries = Tries::default();
     for n in 0..RUNS {
         let inputs = source.draw_short(n);
         let mut judge = Judge::new(Faulty {
@@ -133,11 +126,11 @@ fn try_fault(fault: Fault, source: &Source) -> (usize, usize) {
         });
         judge.loud = false;
         judge.look(&inputs);
-        made += usize::from(judge.answers.done);
-        noticed += usize::from(judge.answers.done && judge.tally.differing > 0);
-        if made == TRIES {
+        tries.made += usize::from(judge.answers.done);
+        tries.noticed += usize::from(judge.answers.done && judge.tally.differing > 0);
+        if tries.made == TRIES {
             break;
         }
     }
-    (made, noticed)
+    tries
 }

@@ -17,6 +17,7 @@ mod inputs;
 mod judge;
 mod replay;
 
+use command::number;
 use inputs::Source;
 use judge::{Judge, Plain};
 use std::process::ExitCode;
@@ -32,15 +33,7 @@ enum Until {
 }
 
 fn main() -> ExitCode {
-    let arguments: Vec<String> = std::env::args().skip(1).collect();
-    let arguments: Vec<&str> = arguments.iter().map(String::as_str).collect();
-    match ask(&arguments) {
-        Ok(()) => ExitCode::SUCCESS,
-        Err(why) => {
-            eprintln!("compare: {why}");
-            ExitCode::FAILURE
-        }
-    }
+    command::main("compare", ask)
 }
 
 fn ask(arguments: &[&str]) -> Result<(), String> {
@@ -53,11 +46,6 @@ fn ask(arguments: &[&str]) -> Result<(), String> {
         [until, seed] => compare(until_of(until)?, number(seed)?),
         _ => Err("usage: compare RUNS|SECONDSs|--only N|--fault|--replay [SEED]".into()),
     }
-}
-
-fn number(text: &str) -> Result<u64, String> {
-    let number = text.parse();
-    number.map_err(|_| format!("{text} is no whole number"))
 }
 
 fn numbered(text: &str) -> Result<Until, String> {

@@ -1,5 +1,6 @@
 //! Faults made on purpose, to show that the comparison notices them.
 use crate::program::{Printed, Program};
+use command::{Faults, Shows, Tries};
 use oracle::Words;
 use texts::generate::{nth, FIRST_DRAWN};
 use texts::printed;
@@ -36,28 +37,20 @@ const FAULTS: [Fault; 6] = [
 /// Tries every fault; an error if one goes unnoticed.
 pub fn run(seed: u64) -> Result<(), String> {
     let program = Program::find()?;
-    let mut unnoticed = Vec::new();
+    let mut faults = Faults::default();
     for fault in FAULTS {
-        let (made, noticed) = try_fault(fault, seed, &program)?;
-        println!("fault {fault:?}: made in {made} texts, noticed in {noticed}");
-        let enough = match fault {
-            Fault::Row => noticed > 0,
-            _ => noticed == made && made > 0,
+        let shows = match fault {
+            Fault::Row => Shows::Sometimes,
+            _ => Shows::Always,
         };
-        if !enough {
-            unnoticed.push(format!("{fault:?}"));
-        }
+        faults.tell(fault, "texts", try_fault(fault, seed, &program)?, shows);
     }
-    match unnoticed.is_empty() {
-        true => Ok(()),
-        false => Err(format!("not noticed: {}", unnoticed.join(", "))),
-    }
+    faults.finish()
 }
 
-/// In how many texts the fault was made, and in how many of those it was seen. Texts whose output
-/// differs without a fault are for the comparison itself and are left out.
-fn try_fault(fault: Fault, seed: u64, program: &Program) -> Result<(usize, usize), String> {
-    let (mut made, mut noticed) = (0, 0);
+/// Texts whose output differs without a fault are for the comparison itself and are left out.
+fn try_fault(fault: Fault, seed: u64, program: &Program) -> Result<Tries, String> {
+    let mut tries = Tries::default();
     for n in 0..TEXTS {
         let mut words = Words::new(n as u64);
         // those before are almost all out of form
@@ -74,13 +67,13 @@ fn try_fault(fault: Fault, seed: u64, program: &Program) -> Result<(usize, usize
             _ if equal => spoil(fault, &mut expected, &mut got, &mut words),
             _ => continue,
         }
-        made += 1;
-        noticed += usize::from(got.differs(&expected));
-        if made == TRIES {
+        tries.made += 1;
+        tries.noticed += usize::from(got.differs(&expected));
+        if tries.made == TRIES {
             break;
         }
     }
-    Ok((made, noticed))
+    Ok(tries)
 }
 
 fn spoil(fault: Fault, expected: &mut Vec<u8>, got: &mut Printed, words: &mut Words) {

@@ -17,6 +17,7 @@ mod fault;
 mod judge;
 mod program;
 
+use command::number;
 use judge::Judge;
 use program::Program;
 use std::io::{Read, Write};
@@ -26,15 +27,7 @@ use texts::generate::nth;
 const SEED: u64 = 20;
 
 fn main() -> ExitCode {
-    let arguments: Vec<String> = std::env::args().skip(1).collect();
-    let arguments: Vec<&str> = arguments.iter().map(String::as_str).collect();
-    match ask(&arguments) {
-        Ok(()) => ExitCode::SUCCESS,
-        Err(why) => {
-            eprintln!("texts: {why}");
-            ExitCode::FAILURE
-        }
-    }
+    command::main("texts", ask)
 }
 
 fn ask(arguments: &[&str]) -> Result<(), String> {
@@ -49,11 +42,6 @@ fn ask(arguments: &[&str]) -> Result<(), String> {
         [count, seed] => compare(0..number(count)? as usize, number(seed)?),
         _ => Err("usage: texts COUNT|--only N|--text N|--fault|--replay [SEED]".into()),
     }
-}
-
-fn number(text: &str) -> Result<u64, String> {
-    let number = text.parse();
-    number.map_err(|_| format!("{text} is no whole number"))
 }
 
 fn one(text: &str) -> Result<std::ops::Range<usize>, String> {

@@ -1,0 +1,65 @@
+//! What the comparing programs share: how they are asked, and what they say of faults made on purpose.
+#![forbid(unsafe_code)]
+
+use std::fmt::Debug;
+use std::process::ExitCode;
+
+/// Hands the arguments on; an error is said in the program's name and ends it with a failure.
+pub fn main(name: &str, ask: fn(&[&str]) -> Result<(), String>) -> ExitCode {
+    let arguments: Vec<String> = std::env::args().skip(1).collect();
+    let arguments: Vec<&str> = arguments.iter().map(String::as_str).collect();
+    match ask(&arguments) {
+        Ok(()) => ExitCode::SUCCESS,
+        Err(why) => {
+            eprintln!("{name}: {why}");
+            ExitCode::FAILURE
+        }
+    }
+}
+
+pub fn number(text: &str) -> Result<u64, String> {
+    let number = text.parse();
+    number.map_err(|_| format!("{text} is no whole number"))
+}
+
+/// In how many inputs a fault was made, and in how many of those the comparison saw it.
+#[derive(Clone, Copy, Default)]
+pub struct Tries {
+    pub made: usize,
+    pub noticed: usize,
+}
+
+/// How often a fault that was made has to be noticed.
+#[derive(Clone, Copy)]
+pub enum Shows {
+    Always,
+    /// It may change nothing; but once it has to be seen.
+    Sometimes,
+}
+
+/// The faults that went unnoticed.
+#[derive(Default)]
+pub struct Faults {
+    unnoticed: Vec<String>,
+}
+
+impl Faults {
+    pub fn tell(&mut self, fault: impl Debug, inputs: &str, tries: Tries, shows: Shows) {
+        let Tries { made, noticed } = tries;
+        println!("fault {fault:?}: made in {made} {inputs}, noticed in {noticed}");
+        let enough = match shows {
+            Shows::Sometimes => noticed > 0,
+            Shows::Always => noticed == made && made > 0,
+        };
+        if !enough {
+            self.unnoticed.push(format!("{fault:?}"));
+        }
+    }
+
+    pub fn finish(self) -> Result<(), String> {
+        match self.unnoticed.is_empty() {
+            true => Ok(()),
+            false => Err(format!("not noticed: {}", self.unnoticed.join(", "))),
+        }
+    }
+}
