@@ -8,7 +8,6 @@ use native.Mathlib.Numerals.{add-one}
 use native.Mathlib.Omega.{arith}
 use lib.IntN.{pos}
 use lib.Dec.{T, eqb, leb→le}
-use lib.Pow.{pow-mono}
 use lib.Ieee.{Float, nan, inf, fin, binary32, binary64, up, down, sub, lt, eq, ofInt}
 use lib.Ieee.Fits.{down-pos}
 use lib.Ieee.Exact.{HasValue}

@@ -10,13 +10,14 @@ use lib.ListN.{getD}
 use borrow.Author.Tests.{ltb-true, ltb-false}
 use lib.Ieee.{Float, nan}
 use Rattle.boundingbox.specs.Ends.{channel, joined}
-use Rattle.cuttree.specs.Setting.{Cut, below}
+use Rattle.cuttree.specs.Setting.{below}
 use Rattle.cuttree.specs.Tree.{Tree, branch, height, end}
 use Rattle.cuttree.specs.Walk.{sub, sibling, replace}
 use Rattle.cuttree.proofs.Tests.{by-test, cond-true, cond-false}
-use Rattle.cuttree.proofs.Steps.{toward, aside, rejoin, along}
-use Rattle.cuttree.proofs.Orders.{End, end-comm, end-swap}
-use Rattle.cuttree.proofs.Heights.{sub-top, replace-top, sub-down, replace-down, by-height, height-sub, end-up}
+use Rattle.cuttree.proofs.Steps.{toward, rejoin, along}
+use Rattle.cuttree.proofs.Orders.{End, end-swap}
+use Rattle.cuttree.proofs.Boxes.{end-rejoin}
+use Rattle.cuttree.proofs.Heights.{sub-top, replace-top, sub-down, replace-down, by-height, end-up}
 use Rattle.wholetree.specs.Number.{Number}
 use Rattle.wholetree.specs.Reading.{Reading, coordinate}
 use Rattle.wholetree.specs.Whole.{whole, ends}
@@ -24,10 +25,11 @@ use Rattle.wholetree.proofs.Numbers.{same-number}
 use Rattle.wholetree.proofs.Readings.{tab-at}
 use Rattle.layout.specs.Layout.{boxIn, noEnds}
 use Rattle.layout.specs.Stands.{Once}
+use Rattle.layout.proofs.Slots.{slot-node}
+use Rattle.layout.proofs.Replaced.{in-sub, uses-sub, slot-above}
 use Rattle.boxstore.specs.Written.{written}
 use Rattle.boxstore.proofs.Ends.{row-ends}
 use Rattle.boxstore.proofs.Written.{written-other, written-length, written-here, written-there}
-use Rattle.boxstore.proofs.Slots.{slot-in, sub-in, sub-branch, in-replace, replaced}
 use Rattle.boxstore.proofs.Rows.{at, Partly, partly-next}
 
 module _ (d c : ℕ) (p : Reading) where
@@ -52,14 +54,11 @@ module _ (d c : ℕ) (p : Reading) where
     kept u m = cond (ltb (at d c t p m) k) (f u) noEnds
 
     pub old-at : Once d c t → (m : ℕ) → 0 < m → m ≤ height (whole d) t p → boxIn d c k f (some t) (at d c t p m) ≡ kept (sub (whole d) t m p) m
-    old-at o m a e = ap (λ x. cond (ltb (at d c t p m) k) x noEnds) (slot-in d c f noEnds (sub (whole d) t m p) t (sub-branch d c p (sub (whole d) t m p) (omega (arith, height-sub (whole d) m p t e))) (sub-in d c p m t e) o)
+    old-at o m a e = ap (λ x. cond (ltb (at d c t p m) k) x noEnds) (slot-node d c f noEnds (sub (whole d) t m p) o (in-sub d c m p t e) (uses-sub d c m p t a e))
 
     pub new-at : (h : ℕ) (s : Tree (whole d)) → Once d c (replace (whole d) t h p s) → (m : ℕ) → h < m → m ≤ height (whole d) t p
         → boxIn d c k f (some (replace (whole d) t h p s)) (at d c t p m) ≡ kept (replace (whole d) (sub (whole d) t m p) h p s) m
-    new-at h s o m a e =
-        let w = replaced d c p h s (sub (whole d) t m p) (omega (arith, height-sub (whole d) m p t e)) in
-        let z = slot-in d c f noEnds (replace (whole d) (sub (whole d) t m p) h p s) (replace (whole d) t h p s) (w .0) (in-replace d c p h s m t (omega arith) e) o in
-        ap (λ x. cond (ltb (at d c t p m) k) x noEnds) (rw (w .1) at z)
+    new-at h s o m a e = ap (λ x. cond (ltb (at d c t p m) k) x noEnds) (slot-above d c f noEnds h m p s t o a e)
 
     -- a turn: the row of height n + 1 written, if its branch is cached
     pub partly-turn : k ≤ 255 → Once d c t → (h : ℕ) (s : Tree (whole d)) → Once d c (replace (whole d) t h p s) → (rows : List (List Float)) (row : List Float) (n : ℕ) → h ≤ n → suc n ≤ height (whole d) t p
@@ -81,9 +80,6 @@ module _ (d c : ℕ) (p : Reading) where
 
   -- ---- the ends, lower or upper
   module _ {m : Number → Number → Number} {to : Number → Number → Bool} (E : End (whole d) m to) where
-    end-rejoin : (b : ℕ) (k : Cut (whole d)) (g : Bool) (l r x : Tree (whole d)) (i : ℕ) → end (whole d) m (rejoin (whole d) b k g l r p x) i ≡ m (end (whole d) m x i) (end (whole d) m (aside (whole d) k p l r) i)
-    end-rejoin b k g l r x i = by-test (below (whole d) k p) (λ e. rw e) (λ e. rw e (end-comm (whole d) E (end (whole d) m l i) (end (whole d) m x i)))
-
     -- what tells two trees' ends apart tells the ends apart of every box above them
     pub end-replaced : (h i : ℕ) (φ : Number → Number) → ((x y : Number) → m (φ x) y ≡ φ (m x y)) → (s u : Tree (whole d)) → end (whole d) m s i ≡ φ (end (whole d) m u i) → (t : Tree (whole d)) → h ≤ height (whole d) t p
         → end (whole d) m (replace (whole d) t h p s) i ≡ φ (end (whole d) m (replace (whole d) t h p u) i)
@@ -91,7 +87,7 @@ module _ (d c : ℕ) (p : Reading) where
         (λ j q n e. w)
         (λ b k g l r ih e. by-height (whole d) b k g l r p h e
         (λ z. rw (z, replace-top (whole d) (branch b k g l r) p s, replace-top (whole d) (branch b k g l r) p u) w)
-        (λ n. rw (replace-down (whole d) b k g l r p h s n, replace-down (whole d) b k g l r p h u n, end-rejoin b k g l r (replace (whole d) (toward (whole d) k p l r) h p s) i, end-rejoin b k g l r (replace (whole d) (toward (whole d) k p l r) h p u) i, ih n)
+        (λ n. rw (replace-down (whole d) b k g l r p h s n, replace-down (whole d) b k g l r p h u n, end-rejoin (whole d) E b k g l r p (replace (whole d) (toward (whole d) k p l r) h p s) i, end-rejoin (whole d) E b k g l r p (replace (whole d) (toward (whole d) k p l r) h p u) i, ih n)
         (out _ _)))
 
     abbrev pub endsOf : Tree (whole d) → List Float

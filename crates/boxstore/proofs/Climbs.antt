@@ -7,7 +7,6 @@ use Prim.Native.Nat.{ℕ, suc, _-_, _≤_, _<_}
 use native.Mathlib.Omega.{arith}
 use lib.Dec.{T, ltb}
 use lib.ListN.{getD}
-use lib.Seq.{getD-take}
 use lib.Ieee.{Float}
 use lib.Ieee.Fits.{and-l, and-r}
 use lib.Ieee.Bits.{is-true}
@@ -28,10 +27,10 @@ use Rattle.wholetree.specs.Whole.{whole}
 use Rattle.wholetree.proofs.Numbers.{number-num, same-key}
 use Rattle.wholetree.proofs.Readings.{tab-length, tab-at, coordinate-is}
 use Rattle.layout.specs.Slots.{lowOf, highOf}
+use Rattle.layout.proofs.Trails.{path-node}
 use Rattle.boxstore.specs.Written.{written}
 use Rattle.boxstore.specs.Edited.{Walked, Grafted, GrownAbove}
 use Rattle.boxstore.proofs.Ends.{least-end, most-end, least-ends, most-ends}
-use Rattle.boxstore.proofs.Slots.{trail-at}
 use Rattle.boxstore.proofs.Rows.{at, Partly, partly-all}
 use Rattle.boxstore.proofs.Changes.{old-at, Still, still-is}
 use Rattle.boxstore.proofs.Grafts.{graft-start, graft-turn, graft-stop}
@@ -53,11 +52,7 @@ module _ (d c : ℕ) (p : Reading) (u : Tree (whole d)) where
 
 -- ---- the number in a row of the path is that of the walk's node
 pub index-is : (path : List (List ℕ)) (point : List Float) (r : ℕ) (d c : ℕ) (t : Tree (whole d)) (p : Reading) → Walked d c path point t p → r ≤ height (whole d) t p → getD (getD path r []) 0 0 ≡ at d c t p (height (whole d) t p - r)
-index-is path point r d c t p W h =
-    let z : height (whole d) t p - (height (whole d) t p - r) ≡ r = omega arith in
-    let l : r < suc (height (whole d) t p) = omega arith in
-    ap (λ (x : List ℕ). getD x 0 0) (sym (getD-take _ path r [] l) ∙ ap (λ (x : List (List ℕ)). getD x r []) (W .rows))
-    ∙ rw z at (trail-at d c p (height (whole d) t p - r) t 65535 (omega arith))
+index-is path point r d c t p W h = path-node d c p path t (W .rows) r (height (whole d) t p - r) (omega arith)
 
 -- ---- the loop
 module _ (k n : ℕ) (path : List (List ℕ)) (point : List Float) (lows highs : List (List Float)) where

@@ -7,10 +7,10 @@ use Prim.Native.Nat.{ℕ, _-_, _≤_, _<_}
 use native.Mathlib.Omega.{arith}
 use lib.Dec.{ltb}
 use lib.Ieee.{Float}
-use Rattle.cuttree.specs.Tree.{Tree, ending, height, end, addCopy, forget}
+use Rattle.cuttree.specs.Tree.{Tree, is, ending, height, end, addCopy, forget}
 use Rattle.cuttree.specs.Walk.{sub, replace}
 use Rattle.cuttree.proofs.Orders.{End}
-use Rattle.cuttree.proofs.Heights.{sub-sub, sub-leaf}
+use Rattle.cuttree.proofs.Heights.{sub-sub, sub-leaf, sum-replace}
 use Rattle.cuttree.proofs.Edits.{leafWith, copy-replace, less-replace}
 use Rattle.wholetree.specs.Number.{Number}
 use Rattle.wholetree.specs.Reading.{Reading}
@@ -19,9 +19,9 @@ use Rattle.wholetree.proofs.Readings.{tab-length, tab-at}
 use Rattle.layout.specs.Slots.{uses}
 use Rattle.layout.specs.Layout.{boxIn, noEnds}
 use Rattle.layout.specs.Stands.{Once}
+use Rattle.layout.proofs.Replaced.{none-above, slot-other}
 use Rattle.boxstore.specs.Edited.{lowsOf, highsOf}
 use Rattle.boxstore.proofs.Ends.{tab-same, least-end, most-end}
-use Rattle.boxstore.proofs.Slots.{slot-none, uses-replace, slot-replace}
 use Rattle.boxstore.proofs.Rows.{at, Partly, partly-rest, partly-all}
 use Rattle.boxstore.proofs.Changes.{replace-same, old-at, new-at, end-replaced}
 
@@ -35,7 +35,7 @@ module _ (d c k : ℕ) (t : Tree (whole d)) (p : Reading) (o : Once d c t) where
     leaf-uses j = ap (λ x. uses d c x j) (sub-leaf (whole d) p t)
 
     copied-once : Once d c (replace (whole d) t 0 p copied)
-    copied-once j = omega (arith, uses-replace d c p 0 copied j t (omega arith), leaf-uses j, o j)
+    copied-once j = omega (arith, sum-replace (whole d) (λ i q n. 0) (λ b. is b j) 0 p copied t (omega arith), leaf-uses j, o j)
 
     module _ {m : Number → Number → Number} {to : Number → Number → Bool} (E : End (whole d) m to) where
       abbrev f : Tree (whole d) → List Float
@@ -53,7 +53,7 @@ module _ (d c k : ℕ) (t : Tree (whole d)) (p : Reading) (o : Once d c t) where
         size = tab-length 255 (boxIn d c k f (some t));
         todo = λ g a l s. tab-at 255 (boxIn d c k f (some t)) (at d c t p g) [] s;
         done = λ j s none. tab-at 255 (boxIn d c k f (some t)) j [] s
-            ∙ ap (λ x. cond (ltb j k) x noEnds) (sym (slot-replace d c p 0 copied f noEnds j t (omega arith) (slot-none d c f noEnds copied j refl ∙ sym (slot-none d c f noEnds (sub (whole d) t 0 p) j (leaf-uses j))) (sym (leaf-uses j)) none));
+            ∙ ap (λ x. cond (ltb j k) x noEnds) (sym (slot-other d c f noEnds 0 p copied j refl t (omega arith) (none-above d c 0 p j t (omega arith) none) (leaf-uses j)));
       }
 
       copied-rows : tab 255 (boxIn d c k f (some (replace (whole d) t 0 p copied))) ≡ tab 255 (boxIn d c k f (some t))

@@ -9,25 +9,27 @@ use lib.Dec.{eqb, ltb}
 use lib.ListN.{length, getD}
 use lib.Ieee.{Float}
 use borrow.Author.Tests.{eqb-true, eqb-false, ne-eqb, ltb-true, ltb-false}
-use Rattle.cuttree.specs.Setting.{below}
-use Rattle.cuttree.specs.Tree.{Tree, id, is, height, ending, found, end}
+use Rattle.cuttree.specs.Tree.{Tree, is, height, ending, found, end}
 use Rattle.cuttree.specs.Walk.{sub, sibling, replace}
 use Rattle.cuttree.proofs.Tests.{by-test, cond-false}
 use Rattle.cuttree.proofs.Intervals.{is-same}
 use Rattle.cuttree.proofs.Orders.{End, end-comm, end-swap, end-before-it}
-use Rattle.cuttree.proofs.Heights.{height-sub, sub-sub, sub-leaf, end-up}
+use Rattle.cuttree.proofs.Nodes.{here}
+use Rattle.cuttree.proofs.Heights.{height-sub, sub-sub, sub-leaf, sum-replace, end-up}
 use Rattle.wholetree.specs.Number.{Number}
 use Rattle.wholetree.specs.Reading.{Reading, coordinate}
 use Rattle.wholetree.specs.Whole.{whole, tab, ends}
 use Rattle.wholetree.proofs.Readings.{tab-length, tab-at, same-is}
-use Rattle.layout.specs.Slots.{uses, slot}
+use Rattle.layout.specs.Slots.{uses}
 use Rattle.layout.specs.Layout.{boxIn, noEnds}
 use Rattle.layout.specs.Stands.{Once}
+use Rattle.layout.proofs.Slots.{slot-none}
+use Rattle.layout.proofs.Replaced.{none-above, slot-kept}
+use Rattle.layout.proofs.Forks.{sum-fork, in-sibling}
 use Rattle.boxstore.specs.Written.{written}
 use Rattle.boxstore.proofs.Ends.{tab-same}
 use Rattle.boxstore.proofs.Written.{written-other, written-length, written-here, written-there}
-use Rattle.boxstore.proofs.Slots.{slot-none, slot-leaf-left, slot-leaf-right, Sides, sub-sides, sub-apart, uses-replace, slot-replace}
-use Rattle.boxstore.proofs.Rows.{at, Partly, partly-rest}
+use Rattle.boxstore.proofs.Rows.{at, at-apart, Partly, partly-rest}
 use Rattle.boxstore.proofs.Changes.{replace-same, replace-replace, old-at, new-at, end-replaced}
 
 -- the tree before, and p's walk in it, which ends below a branch
@@ -40,27 +42,10 @@ module _ (d c : ℕ) (t : Tree (whole d)) (p : Reading) (o : Once d c t) (e : 1 
 
   -- ---- the parent is a branch above the leaf and its sibling
   parent-uses : (j : ℕ) → uses d c (sub (whole d) t 1 p) j ≡ is (at d c t p 1) j + uses d c rest j
-  parent-uses j = go (sub-sides d c p 0 t e)
-    where
-      go : Sides d c p 0 t → uses d c (sub (whole d) t 1 p) j ≡ is (at d c t p 1) j + uses d c rest j
-      go w =
-          let none : uses d c (sub (whole d) t 0 p) j ≡ 0 = ap (λ x. uses d c x j) (sub-leaf (whole d) p t) in
-          rw (w .is-branch) (by-test (below (whole d) (w .cut) p)
-          (λ x. let a = ap (λ y. uses d c y j) (rw x at (w .near)) in let f = ap (λ y. uses d c y j) (rw x at (w .far)) in omega (arith, a, f, none))
-          (λ x. let a = ap (λ y. uses d c y j) (rw x at (w .near)) in let f = ap (λ y. uses d c y j) (rw x at (w .far)) in omega (arith, a, f, none)))
-
-  parent-slot : {A : Type 0} (f : Tree (whole d) → A) (z : A) (j : ℕ) → (at d c t p 1 ≡ j → ⊥) → slot d c f z rest j ≡ slot d c f z (sub (whole d) t 1 p) j
-  parent-slot f z j n = go (sub-sides d c p 0 t e)
-    where
-      go : Sides d c p 0 t → slot d c f z rest j ≡ slot d c f z (sub (whole d) t 1 p) j
-      go w =
-          let n′ : w .number ≡ j → ⊥ = λ q. n (ap (id (whole d) c) (w .is-branch) ∙ q) in
-          rw (w .is-branch) (by-test (below (whole d) (w .cut) p)
-          (λ x. rw (rw x at (w .near) ∙ sub-leaf (whole d) p t) (ap (λ y. slot d c f z y j) (sym (rw x at (w .far))) ∙ sym (slot-leaf-left d c f z j (w .number) (w .cut) (w .lag) _ _ _ (w .r) n′)))
-          (λ x. rw (rw x at (w .near) ∙ sub-leaf (whole d) p t) (ap (λ y. slot d c f z y j) (sym (rw x at (w .far))) ∙ sym (slot-leaf-right d c f z j (w .number) (w .cut) (w .lag) _ _ _ (w .l) n′))))
+  parent-uses j = omega (arith, sum-fork d (λ i q n. 0) (λ b. is b j) c p t e)
 
   after-uses : (j : ℕ) → uses d c after j + is (at d c t p 1) j ≡ uses d c t j
-  after-uses j = omega (arith, uses-replace d c p 1 rest j t e, parent-uses j)
+  after-uses j = omega (arith, sum-replace (whole d) (λ i q n. 0) (λ b. is b j) 1 p rest t e, parent-uses j)
 
   pub forget-once : Once d c after
   forget-once j = omega (arith, after-uses j, o j)
@@ -70,11 +55,11 @@ module _ (d c : ℕ) (t : Tree (whole d)) (p : Reading) (o : Once d c t) (e : 1 
     pub forget-start : Partly d c k f t after p (written k (at d c t p 1) noEnds (tab 255 (boxIn d c k f (some t)))) 1
     forget-start = record {
       size = written-length k i noEnds rows ∙ long;
-      todo = λ n a l s. written-there k i noEnds rows (at d c t p n) (sub-apart d c p 1 n t (omega arith) a l o) ∙ tab-at 255 (boxIn d c k f (some t)) (at d c t p n) [] s;
+      todo = λ n a l s. written-there k i noEnds rows (at d c t p n) (at-apart d c 1 n t p (omega arith) a l o) ∙ tab-at 255 (boxIn d c k f (some t)) (at d c t p n) [] s;
       done = λ j s none. by-test (eqb i j)
-          (λ x. subst (λ n. n < 255 → getD (written k i noEnds rows) n [] ≡ boxIn d c k f (some after) n) (eqb-true i j x) here s)
+          (λ x. subst (λ n. n < 255 → getD (written k i noEnds rows) n [] ≡ boxIn d c k f (some after) n) (eqb-true i j x) cleared s)
           (λ x. let n = eqb-false i j x in written-there k i noEnds rows j n ∙ tab-at 255 (boxIn d c k f (some t)) j [] s
-          ∙ ap (λ x. cond (ltb j k) x noEnds) (sym (slot-replace d c p 1 rest f noEnds j t e (parent-slot f noEnds j n) (other j n) none)));
+          ∙ ap (λ x. cond (ltb j k) x noEnds) (sym (slot-kept d c f noEnds 1 p rest t rest j o forget-once e (in-sibling d p t e) here (none-above d c 1 p j t e none) (λ z. (sym (other j n) ∙ z, z)))));
     }
       where
         i : ℕ
@@ -92,8 +77,8 @@ module _ (d c : ℕ) (t : Tree (whole d)) (p : Reading) (o : Once d c t) (e : 1 
         gone : boxIn d c k f (some after) i ≡ noEnds
         gone = by-test (ltb i k) (λ x. rw x (slot-none d c f noEnds after i (omega (arith, after-uses i, o i, is-same i)))) (λ x. rw x)
 
-        here : i < 255 → getD (written k i noEnds rows) i [] ≡ boxIn d c k f (some after) i
-        here s = by-test (ltb i k)
+        cleared : i < 255 → getD (written k i noEnds rows) i [] ≡ boxIn d c k f (some after) i
+        cleared s = by-test (ltb i k)
             (λ x. written-here k i noEnds rows (ltb-true i k x) (omega (arith, long)) ∙ sym gone)
             (λ x. ap (λ l. getD l i []) (written-other k i noEnds rows (ltb-false i k x)) ∙ tab-at 255 (boxIn d c k f (some t)) i [] s ∙ cond-false _ _ _ x ∙ sym gone)
 

@@ -14,10 +14,12 @@ use Rattle.cuttree.specs.Setting.{Cut, below}
 use Rattle.cuttree.specs.Tree.{Tree, id, is, height, end, above}
 use Rattle.cuttree.specs.Walk.{sub, replace}
 use Rattle.cuttree.proofs.Tests.{by-cond, by-test, cond-true, cond-false}
+use Rattle.cuttree.proofs.Intervals.{is-same}
 use Rattle.cuttree.proofs.Sums.{sum-above}
-use Rattle.cuttree.proofs.Orders.{End, end-comm, end-swap}
-use Rattle.cuttree.proofs.Heights.{replace-top, height-sub, sub-sub}
-use Rattle.cuttree.proofs.Nodes.{In}
+use Rattle.cuttree.proofs.Orders.{End, end-swap}
+use Rattle.cuttree.proofs.Boxes.{end-above}
+use Rattle.cuttree.proofs.Heights.{height-sub, sub-sub, sum-replace}
+use Rattle.cuttree.proofs.Nodes.{In, here, left, right}
 use Rattle.wholetree.specs.Number.{Number}
 use Rattle.wholetree.specs.Reading.{Reading, coordinate}
 use Rattle.wholetree.specs.Whole.{whole, tab, ends}
@@ -25,21 +27,19 @@ use Rattle.wholetree.proofs.Readings.{tab-length, tab-at}
 use Rattle.layout.specs.Slots.{uses, slot}
 use Rattle.layout.specs.Layout.{boxIn, noEnds}
 use Rattle.layout.specs.Stands.{Once}
+use Rattle.layout.proofs.Slots.{slot-node}
+use Rattle.layout.proofs.Replaced.{upper-uses, upper-at, none-above, in-sub, in-new, slot-kept}
 use Rattle.boxstore.specs.Written.{written}
 use Rattle.boxstore.proofs.Ends.{tab-same}
 use Rattle.boxstore.proofs.Written.{written-other, written-length, written-here, written-there}
-use Rattle.boxstore.proofs.Slots.{IsBranch, slot-in, slot-none, slot-leaf-left, slot-leaf-right, sub-in, sub-branch, in-replace, uses-replace, slot-replace}
 use Rattle.boxstore.proofs.Rows.{at, Partly, partly-rest}
 use Rattle.boxstore.proofs.Changes.{replace-same, old-at, new-at, partly-turn, end-replaced, Still, still-up, joined-row}
 
 -- ---- the new branch's box: that of the node below it, with the point in it
 module _ (d c : ℕ) {m : Number → Number → Number} {to : Number → Number → Bool} (E : End (whole d) m to) (b i : ℕ) (cut : Cut (whole d)) (p : Reading) (u : Tree (whole d)) where
-  end-above : (n : ℕ) → end (whole d) m (above (whole d) b cut i p u) n ≡ m (end (whole d) m u n) (coordinate p n)
-  end-above n = by-cond (λ x. end (whole d) m x n ≡ m (end (whole d) m u n) (coordinate p n)) (below (whole d) cut p) _ _ (λ _. end-comm (whole d) E (coordinate p n) (end (whole d) m u n)) (λ _. refl)
-
   pub box-above : (j : Float → Float → Float) → ((f g : ℕ → Number) → joined j (ends f) (ends g) ≡ ends (λ (i : ℕ). m (f i) (g i)))
       → joined j (ends (λ (i : ℕ). end (whole d) m u i)) (p .row) ≡ ends (λ (n : ℕ). end (whole d) m (above (whole d) b cut i p u) n)
-  box-above j J = joined-row d c p E j J u ∙ tab-same 8 _ _ (λ n _. ap (λ (x : Number). x .value) (sym (end-above n)))
+  box-above j J = joined-row d c p E j J u ∙ tab-same 8 _ _ (λ n _. ap (λ (x : Number). x .value) (sym (end-above (whole d) E b cut i p u n)))
 
 -- ---- the tree before, p's walk in it, and the new branch above the walk's node of height h
 module _ (d c : ℕ) (t : Tree (whole d)) (p : Reading) (o : Once d c t) (b i h : ℕ) (cut : Cut (whole d)) (e : h ≤ height (whole d) t p) (fresh : uses d c t b ≡ 0) where
@@ -54,35 +54,24 @@ module _ (d c : ℕ) (t : Tree (whole d)) (p : Reading) (o : Once d c t) (b i h 
 
   pub graft-once : Once d c after
   graft-once j =
-      let w = uses-replace d c p h new j t e in
+      let w = sum-replace (whole d) (λ i q n. 0) (λ b. is b j) h p new t e in
       let v = uses-above j in
       by-test (eqb b j)
       (λ x. let z : is b j ≡ 1 = rw x in let y : uses d c t j ≡ 0 = subst (λ n. uses d c t n ≡ 0) (eqb-true b j x) fresh in omega arith)
       (λ x. let z : is b j ≡ 0 = rw x in omega (arith, o j))
 
-  slot-above : {A : Type 0} (f : Tree (whole d) → A) (z : A) (j : ℕ) → (b ≡ j → ⊥) → slot d c f z new j ≡ slot d c f z (sub (whole d) t h p) j
-  slot-above f z j n = by-cond (λ x. slot d c f z x j ≡ slot d c f z (sub (whole d) t h p) j) (below (whole d) cut p) _ _ (λ _. slot-leaf-left d c f z j b cut _ i p 1 _ n) (λ _. slot-leaf-right d c f z j b cut _ i p 1 _ n)
-
   new-slot : {A : Type 0} (f : Tree (whole d) → A) (z : A) → slot d c f z after b ≡ f new
-  new-slot f z = subst (λ j. slot d c f z after j ≡ f new) (is-new .1) (slot-in d c f z new after (is-new .0) inside graft-once)
+  new-slot f z = subst (λ j. slot d c f z after j ≡ f new) is-new (slot-node d c f z new graft-once (in-new d c h p new t e) (rw is-new (omega (arith, uses-above b, is-same b))))
     where
-      is-new : IsBranch d c new × (id (whole d) c new ≡ b)
-      is-new = by-cond (λ x. IsBranch d c x × (id (whole d) c x ≡ b)) (below (whole d) cut p) _ _ (λ _. (tt, refl)) (λ _. (tt, refl))
+      is-new : id (whole d) c new ≡ b
+      is-new = by-cond (λ x. id (whole d) c x ≡ b) (below (whole d) cut p) _ _ (λ _. refl) (λ _. refl)
 
-      top : replace (whole d) (sub (whole d) t h p) h p new ≡ new
-      top = ap (λ n. replace (whole d) (sub (whole d) t h p) n p new) (sym (height-sub (whole d) h p t e)) ∙ replace-top (whole d) (sub (whole d) t h p) p new
-
-      inside : In (whole d) new after
-      inside = subst (λ x. In (whole d) x after) top (in-replace d c p h new h t (omega arith) e)
+  -- what the new branch stands above stays
+  inside : In (whole d) (sub (whole d) t h p) new
+  inside = by-cond (λ x. In (whole d) (sub (whole d) t h p) x) (below (whole d) cut p) _ _ (λ _. right here) (λ _. left here)
 
   apart : (n : ℕ) → 0 < n → n ≤ height (whole d) t p → b ≡ at d c t p n → ⊥
-  apart n a l z =
-      let x = slot-none d c one 0 t b fresh in
-      let y = slot-in d c one 0 (sub (whole d) t n p) t (sub-branch d c p (sub (whole d) t n p) (omega (arith, height-sub (whole d) n p t l))) (sub-in d c p n t l) o in
-      omega (arith, x, y, ap (slot d c one 0 t) z)
-    where
-      one : Tree (whole d) → ℕ
-      one u = 1
+  apart n a l z = omega (arith, fresh, ap (uses d c t) z, upper-at d c 0 n p a t l, upper-uses d c 0 p (at d c t p n) t (omega arith))
 
   module _ (k : ℕ) (few : k ≤ 255) (f : Tree (whole d) → List Float) where
     -- before the first turn: the tree's boxes, and the new branch's
@@ -91,9 +80,9 @@ module _ (d c : ℕ) (t : Tree (whole d)) (p : Reading) (o : Once d c t) (b i h 
       size = written-length k b (f new) rows ∙ tab-length 255 (boxIn d c k f (some t));
       todo = λ n a l s. written-there k b (f new) rows (at d c t p n) (apart n (omega arith) l) ∙ tab-at 255 (boxIn d c k f (some t)) (at d c t p n) [] s;
       done = λ j s none. by-test (eqb b j)
-          (λ x. subst (λ n. n < 255 → getD (written k b (f new) rows) n [] ≡ boxIn d c k f (some after) n) (eqb-true b j x) here s)
+          (λ x. subst (λ n. n < 255 → getD (written k b (f new) rows) n [] ≡ boxIn d c k f (some after) n) (eqb-true b j x) added s)
           (λ x. written-there k b (f new) rows j (eqb-false b j x) ∙ tab-at 255 (boxIn d c k f (some t)) j [] s
-          ∙ ap (λ x. cond (ltb j k) x noEnds) (sym (slot-replace d c p h new f noEnds j t e (slot-above f noEnds j (eqb-false b j x)) (other j (eqb-false b j x)) none)));
+          ∙ ap (λ x. cond (ltb j k) x noEnds) (sym (slot-kept d c f noEnds h p new t (sub (whole d) t h p) j o graft-once e (in-sub d c h p t e) inside (none-above d c h p j t e none) (λ z. (z, other j (eqb-false b j x) ∙ z)))));
     }
       where
         rows : List (List Float)
@@ -105,8 +94,8 @@ module _ (d c : ℕ) (t : Tree (whole d)) (p : Reading) (o : Once d c t) (b i h 
         other : (j : ℕ) → (b ≡ j → ⊥) → uses d c new j ≡ uses d c (sub (whole d) t h p) j
         other j n = let z : is b j ≡ 0 = rw (ne-eqb b j n) in omega (arith, uses-above j)
 
-        here : b < 255 → getD (written k b (f new) rows) b [] ≡ boxIn d c k f (some after) b
-        here s = by-test (ltb b k)
+        added : b < 255 → getD (written k b (f new) rows) b [] ≡ boxIn d c k f (some after) b
+        added s = by-test (ltb b k)
             (λ x. written-here k b (f new) rows (ltb-true b k x) (omega (arith, long)) ∙ sym (cond-true _ _ _ x ∙ new-slot f noEnds))
             (λ x. ap (λ l. getD l b []) (written-other k b (f new) rows (ltb-false b k x)) ∙ tab-at 255 (boxIn d c k f (some t)) b [] s ∙ cond-false _ _ _ x ∙ sym (cond-false _ _ _ x))
 
@@ -121,7 +110,7 @@ module _ (d c : ℕ) (t : Tree (whole d)) (p : Reading) (o : Once d c t) (b i h 
         let u = sub (whole d) t n p in
         let g : h ≤ height (whole d) u p = omega (arith, height-sub (whole d) n p t l) in
         let same : replace (whole d) u h p (sub (whole d) t h p) ≡ u = ap (replace (whole d) u h p) (sym (sub-sub (whole d) h n p a t l)) ∙ replace-same d c p h u g in
-        tab-same 8 _ _ (λ ch _. ap (λ (x : Number). x .value) (sym (end-replaced d c p E h ch (λ x. m x (coordinate p ch)) (λ x y. end-swap (whole d) E x (coordinate p ch) y) new (sub (whole d) t h p) (end-above d c E b i cut p (sub (whole d) t h p) ch) u g ∙ ap (λ x. m (end (whole d) m x ch) (coordinate p ch)) same)))
+        tab-same 8 _ _ (λ ch _. ap (λ (x : Number). x .value) (sym (end-replaced d c p E h ch (λ x. m x (coordinate p ch)) (λ x y. end-swap (whole d) E x (coordinate p ch) y) new (sub (whole d) t h p) (end-above (whole d) E b cut i p (sub (whole d) t h p) ch) u g ∙ ap (λ x. m (end (whole d) m x ch) (coordinate p ch)) same)))
 
     -- a turn: one box more is grown
     pub graft-turn : (rows : List (List Float)) (n : ℕ) → h ≤ n → suc n ≤ height (whole d) t p → Partly d c k f t after p rows n

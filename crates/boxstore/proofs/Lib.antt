@@ -2,7 +2,6 @@ pub mod Ends
 pub mod Depths
 pub mod Parts
 pub mod Written
-pub mod Slots
 pub mod Standing
 pub mod Rows
 pub mod Changes

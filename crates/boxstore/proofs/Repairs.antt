@@ -15,6 +15,7 @@ use Rattle.boundingbox.specs.Ends.{channel}
 use Rattle.boundingbox.specs.Contained.{strictlyContains}
 use Rattle.boundingbox.specs.Padding.{Padded}
 use Rattle.boundingbox.proofs.Held.{strictly-between}
+use Rattle.cuttree.specs.Setting.{Cut}
 use Rattle.cuttree.specs.Tree.{Tree, leaf, branch, id, height, least, most, end, lo, hi, All, OfTree}
 use Rattle.cuttree.specs.Walk.{sub, sibling, replace}
 use Rattle.cuttree.proofs.Tests.{by-test, cond-true}
@@ -28,16 +29,18 @@ use Rattle.wholetree.specs.Reading.{Reading, coordinate}
 use Rattle.wholetree.specs.Whole.{whole, ends}
 use Rattle.wholetree.proofs.Numbers.{same-number, not-le}
 use Rattle.wholetree.proofs.Readings.{tab-at, coordinate-is}
-use Rattle.layout.specs.Slots.{lowOf, highOf, slot}
+use Rattle.layout.specs.Slots.{lowOf, highOf, uses, slot}
 use Rattle.layout.specs.Layout.{noEnds}
 use Rattle.layout.specs.Stands.{Once}
+use Rattle.layout.proofs.Slots.{slot-in, laid-below-by}
+use Rattle.layout.proofs.Replaced.{in-sub, in-replace, id-replace, slot-above}
+use Rattle.layout.proofs.Ranges.{range-node}
 use Rattle.boxstore.specs.Boxed.{sideIn, Boxed}
 use Rattle.boxstore.specs.Grown.{SomeSides, Rebuilt}
 use Rattle.boxstore.specs.Edited.{Walked, lifted, Forgotten, SomeForgotten, RepairedAbove}
 use Rattle.boxstore.proofs.Ends.{least-end, most-end}
 use Rattle.boxstore.proofs.Depths.{depth}
-use Rattle.boxstore.proofs.Standing.{depth-in, uses-in, links-in, range-in, laid-below}
-use Rattle.boxstore.proofs.Slots.{IsBranch, slot-in, sub-in, in-replace, replaced}
+use Rattle.boxstore.proofs.Standing.{depth-in, once-in, links-in}
 use Rattle.boxstore.proofs.Rows.{at, Partly, partly-all}
 use Rattle.boxstore.proofs.Changes.{old-at, partly-turn}
 use Rattle.boxstore.proofs.Forgets.{forget-once, forget-start, Same, end-stays, forget-stop}
@@ -81,10 +84,10 @@ module _ (d c k n dimensions : ℕ) (path : List (List ℕ)) (point : List Float
       u = sub (whole d) t g p
 
       old : In (whole d) u t
-      old = sub-in d c p g t l
+      old = in-sub d c g p t l
 
       new : In (whole d) (without g) (lifted d t p)
-      new = in-replace d c p 1 (sibling (whole d) t 0 p) g t a l
+      new = in-replace d c 1 g p (sibling (whole d) t 0 p) a t l
 
       low-at : (i : ℕ) → i < 8 → channel (lowOf d c u) i ≡ lo (whole d) u i .value
       low-at i q = tab-at 8 (λ (j : ℕ). lo (whole d) u j .value) i nan q
@@ -118,44 +121,41 @@ module _ (d c k n dimensions : ℕ) (path : List (List ℕ)) (point : List Float
     once = forget-once d c t p (W .once) above-one
 
     -- what stands below that branch has another number than it and those above it
-    apart : (v w : Tree (whole d)) → IsBranch d c w → In (whole d) w v → In (whole d) v (lifted d t p) → depth d c v < depth d c (without (suc g))
-        → (n : ℕ) → g < n → n ≤ height (whole d) t p → at d c t p n ≡ id (whole d) c w → ⊥
-    apart v w b i j less n y z q =
-        let r = replaced d c p 1 (sibling (whole d) t 0 p) (sub (whole d) t n p) (omega (arith, height-sub (whole d) n p t z)) in
-        let x = slot-in d c (depth d c) 0 (without n) (lifted d t p) (r .0) (in-replace d c p 1 (sibling (whole d) t 0 p) n t (omega arith) z) once in
-        let y′ = slot-in d c (depth d c) 0 w (lifted d t p) b (in-trans (whole d) i j) once in
-        let up : In (whole d) (without (suc g)) (without n) =
-        subst (λ s. In (whole d) (replace (whole d) s 1 p (sibling (whole d) t 0 p)) (without n)) (sub-sub (whole d) (suc g) n p y t z)
-        (in-replace d c p 1 (sibling (whole d) t 0 p) (suc g) (sub (whole d) t n p) (omega arith) (omega (arith, height-sub (whole d) n p t z))) in
-        omega (arith, x, y′, ap (slot d c (depth d c) 0 (lifted d t p)) (r .1 ∙ q), depth-in d c up, depth-in d c i)
+    module _ {v l r : Tree (whole d)} {b : ℕ} {x : Cut (whole d)} {y : Bool} (i : In (whole d) (branch b x y l r) v) (j : In (whole d) v (lifted d t p)) (less : depth d c v < depth d c (without (suc g))) where
+      apart : (n : ℕ) → g < n → n ≤ height (whole d) t p → at d c t p n ≡ b → ⊥
+      apart n m z q =
+          let above = slot-above d c (depth d c) 0 1 n p (sibling (whole d) t 0 p) t once (omega arith) z in
+          let own = slot-in d c (depth d c) 0 once (in-trans (whole d) i j) in
+          let up : In (whole d) (without (suc g)) (without n) =
+          subst (λ s. In (whole d) (replace (whole d) s 1 p (sibling (whole d) t 0 p)) (without n)) (sub-sub (whole d) (suc g) n p m t z)
+          (in-replace d c 1 (suc g) p (sibling (whole d) t 0 p) (omega arith) (sub (whole d) t n p) (omega (arith, height-sub (whole d) n p t z))) in
+          omega (arith, above, own, ap (slot d c (depth d c) 0 (lifted d t p)) q, depth-in d c up, depth-in d c i)
 
-    row-at : (f : Tree (whole d) → List Float) (rows : List (List Float)) → Partly d c k f t (lifted d t p) p rows g → (v w : Tree (whole d)) → IsBranch d c w → In (whole d) w v → In (whole d) v (lifted d t p)
-        → depth d c v < depth d c (without (suc g)) → id (whole d) c w < k → getD rows (id (whole d) c w) [] ≡ f w
-    row-at f rows R v w b i j less h =
-        R .done (id (whole d) c w) (omega arith) (apart v w b i j less) ∙ cond-true _ _ _ (lt-ltb (id (whole d) c w) k h) ∙ slot-in d c f noEnds w (lifted d t p) b (in-trans (whole d) i j) once
+      row-at : (f : Tree (whole d) → List Float) (rows : List (List Float)) → Partly d c k f t (lifted d t p) p rows g → b < k → getD rows b [] ≡ f (branch b x y l r)
+      row-at f rows R h = R .done b (omega arith) apart ∙ cond-true _ _ _ (lt-ltb b k h) ∙ slot-in d c f noEnds once (in-trans (whole d) i j)
 
     boxed : (v : Tree (whole d)) → In (whole d) v (lifted d t p) → depth d c v < depth d c (without (suc g)) → Boxed d c k nodes points L H v
     boxed v j less = record {
       links = links-in d c nodes j (G .links);
       leaves = all-in (whole d) _ j (G .leaves);
-      in-range = range-in d c j (G .in-range);
+      in-range = range-node d c j (G .in-range);
       cached = record {
-        low = laid-below d c k (lowOf d c) L v (λ w b i. row-at (lowOf d c) L P v w b i j less);
-        high = laid-below d c k (highOf d c) H v (λ w b i. row-at (highOf d c) H Q v w b i j less);
+        low = laid-below-by d c (lowOf d c) (λ n. getD L n []) k v (λ b x y l r i. row-at i j less (lowOf d c) L P);
+        high = laid-below-by d c (highOf d c) (λ n. getD H n []) k v (λ b x y l r i. row-at i j less (highOf d c) H Q);
       };
     }
 
     pub turn : Turn L H g
-    turn = go (without (suc g)) refl (r .0) (r .1) (in-replace d c p 1 (sibling (whole d) t 0 p) (suc g) t (omega arith) e)
+    turn = go (without (suc g)) refl (r .0) (r .1) (in-replace d c 1 (suc g) p (sibling (whole d) t 0 p) (omega arith) t e)
       where
-        r : IsBranch d c (without (suc g)) × (id (whole d) c (without (suc g)) ≡ at d c t p (suc g))
-        r = replaced d c p 1 (sibling (whole d) t 0 p) (sub (whole d) t (suc g) p) (omega (arith, height-sub (whole d) (suc g) p t e))
+        r : (id (whole d) c (without (suc g)) ≡ at d c t p (suc g)) × (0 < uses d c (without (suc g)) (at d c t p (suc g)))
+        r = id-replace d c 1 p (sibling (whole d) t 0 p) (sub (whole d) t (suc g) p) (omega (arith, height-sub (whole d) (suc g) p t e))
 
-        go : (v : Tree (whole d)) → without (suc g) ≡ v → IsBranch d c v → id (whole d) c v ≡ at d c t p (suc g) → In (whole d) v (lifted d t p) → Turn L H g
-        go (leaf i q n) z b y j = absurd b
-        go (branch x cut lag l u) z b y j =
+        go : (v : Tree (whole d)) → without (suc g) ≡ v → id (whole d) c v ≡ at d c t p (suc g) → 0 < uses d c v (at d c t p (suc g)) → In (whole d) v (lifted d t p) → Turn L H g
+        go (leaf i q n) z y b j = absurd (omega arith)
+        go (branch x cut lag l u) z y b j =
             let links = links-in d c nodes j (G .links) in
-            let range = range-in d c j (G .in-range) in
+            let range = range-node d c j (G .in-range) in
             let jl : In (whole d) l (lifted d t p) = in-trans (whole d) (left here) j in
             let jr : In (whole d) u (lifted d t p) = in-trans (whole d) (right here) j in
             record {
@@ -166,8 +166,8 @@ module _ (d c k n dimensions : ℕ) (path : List (List ℕ)) (point : List Float
               right-id = sym (links .1) ∙ ap (λ n. sideIn nodes n 1) y;
               left-boxed = boxed l jl (rw z (omega arith));
               right-boxed = boxed u jr (rw z (omega arith));
-              left-once = λ n. omega (arith, uses-in d c n jl, once n);
-              right-once = λ n. omega (arith, uses-in d c n jr, once n);
+              left-once = once-in d c jl once;
+              right-once = once-in d c jr once;
               low-is = ap (lowOf d c) (sym z);
               high-is = ap (highOf d c) (sym z);
             }

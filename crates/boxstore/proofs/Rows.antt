@@ -6,7 +6,6 @@ use Prim.Native.Nat.{ℕ, zero, suc, _+_, _≤_, _<_}
 use native.Mathlib.Omega.{arith}
 use lib.Dec.{eqb}
 use lib.ListN.{length, getD}
-use lib.Seq.{ext-getD}
 use lib.Ieee.{Float}
 use borrow.Author.Tests.{eqb-true, eqb-false}
 use Rattle.cuttree.specs.Tree.{Tree, id, height}
@@ -14,14 +13,21 @@ use Rattle.cuttree.specs.Walk.{sub}
 use Rattle.cuttree.proofs.Tests.{by-test}
 use Rattle.wholetree.specs.Reading.{Reading}
 use Rattle.wholetree.specs.Whole.{whole, tab}
-use Rattle.wholetree.proofs.Readings.{tab-length, tab-at}
+use Rattle.layout.specs.Slots.{uses}
 use Rattle.layout.specs.Layout.{boxIn}
 use Rattle.layout.specs.Stands.{Once}
-use Rattle.boxstore.proofs.Slots.{sub-apart}
+use Rattle.layout.proofs.Tabs.{is-tab}
+use Rattle.layout.proofs.Replaced.{upper-uses, upper-at, uses-sub}
 
 -- the number of the walk's node of height m
 abbrev pub at : (d c : ℕ) → Tree (whole d) → Reading → ℕ → ℕ
 at d c t p m = id (whole d) c (sub (whole d) t m p)
+
+-- two branches of the walk have two numbers
+pub at-apart : (d c m n : ℕ) (t : Tree (whole d)) (p : Reading) → 0 < m → m < n → n ≤ height (whole d) t p → Once d c t → at d c t p m ≡ at d c t p n → ⊥
+at-apart d c m n t p a b e o z =
+    let own : 0 < uses d c (sub (whole d) t m p) (at d c t p n) = subst (λ j. 0 < uses d c (sub (whole d) t m p) j) z (uses-sub d c m p t a (omega arith)) in
+    omega (arith, own, upper-at d c m n p b t e, upper-uses d c m p (at d c t p n) t (omega arith), o (at d c t p n))
 
 -- The rows of f of t' in place of t's, but that the branches on p's walk in t of a height above m still have t's.
 pub record Partly (d c k : ℕ) (f : Tree (whole d) → List Float) (t t′ : Tree (whole d)) (p : Reading) (rows : List (List Float)) (m : ℕ) : Type 0 where
@@ -36,7 +42,7 @@ module _ (d c k : ℕ) (f : Tree (whole d) → List Float) (t t′ : Tree (whole
       → ((j : ℕ) → (at d c t p (suc m) ≡ j → ⊥) → getD rows′ j [] ≡ getD rows j []) → Partly d c k f t t′ p rows′ (suc m)
   partly-next rows rows′ m e P l new old = record {
     size = l;
-    todo = λ n a b s. old (at d c t p n) (sub-apart d c p (suc m) n t (omega arith) a b o) ∙ P .todo n (omega arith) b s;
+    todo = λ n a b s. old (at d c t p n) (at-apart d c (suc m) n t p (omega arith) a b o) ∙ P .todo n (omega arith) b s;
     done = λ j s none. by-test (eqb (at d c t p (suc m)) j)
         (λ x. let z : at d c t p (suc m) ≡ j = eqb-true (at d c t p (suc m)) j x in subst (λ i. getD rows′ i [] ≡ boxIn d c k f (some t′) i) z (new (omega arith)))
         (λ x. let z = eqb-false (at d c t p (suc m)) j x in old j z ∙ P .done j s (λ n a b. other j z none n a b));
@@ -57,6 +63,4 @@ module _ (d c k : ℕ) (f : Tree (whole d) → List Float) (t t′ : Tree (whole
       (λ n a b. same n (omega arith) b)
 
   pub partly-all : (rows : List (List Float)) (m : ℕ) → height (whole d) t p ≤ m → Partly d c k f t t′ p rows m → rows ≡ tab 255 (boxIn d c k f (some t′))
-  partly-all rows m h P =
-      ext-getD [] rows (tab 255 (boxIn d c k f (some t′))) (P .size ∙ sym (tab-length 255 (boxIn d c k f (some t′))))
-      (λ i l. let s : i < 255 = subst (λ n. i < n) (P .size) l in P .done i s (λ n a b _. omega arith) ∙ sym (tab-at 255 (boxIn d c k f (some t′)) i [] s))
+  partly-all rows m h P = is-tab [] 255 (boxIn d c k f (some t′)) rows (P .size) (λ i s. P .done i s (λ n a b _. omega arith))

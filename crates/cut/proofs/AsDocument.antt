@@ -8,7 +8,7 @@ use mathlib.Core.Bool.{Bool, true, false, not, _&&_, true≢false}
 use lib.IntN.{pos}
 use lib.Dec.{T, ltb, eqb, leb→le, eqb→eq, ltb→lt, nltb→le}
 use lib.Pow.{pow-pos, pow-mono}
-use lib.Ieee.{Float, binary64, up, add, mul, eq, ofInt}
+use lib.Ieee.{Float, binary64, mul, eq, ofInt}
 use lib.Ieee.Fits.{and-i, and-l, and-r, eq→eqb}
 use Rattle.readings.specs.Coordinate.{isCoordinate, rank}
 use Rattle.readings.specs.Word.{factorOf}

@@ -7,7 +7,7 @@ use native.Mathlib.Omega.{arith}
 use mathlib.Core.Bool.{Bool, true, false, cond}
 use lib.IntN.{pos}
 use lib.Dec.{T, ltb, ltb→lt, nltb→le}
-use lib.Ieee.{Float, binary64, up, ofInt}
+use lib.Ieee.{Float, binary64, ofInt}
 use Rattle.readings.specs.Coordinate.{isCoordinate, rank}
 use Rattle.readings.proofs.Tests.{no, yes}
 use Rattle.readings.proofs.Ranks.{lt-rank, rank-le}

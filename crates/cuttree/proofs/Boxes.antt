@@ -40,10 +40,10 @@ module _ (S : Setting) where
     pub end-sides : (b : ℕ) (k : Cut S) (g : Bool) (l r : Tree S) (p : Point) (d : Chan) → end S m (branch b k g l r) d ≡ m (end S m (toward S k p l r) d) (end S m (aside S k p l r) d)
     end-sides b k g l r p d = by-test (below S k p) (λ e. rw e) (λ e. rw e (end-comm S E (end S m l d) (end S m r d)))
 
-    end-rejoin : (b : ℕ) (k : Cut S) (g : Bool) (l r : Tree S) (p : Point) (x : Tree S) (d : Chan) → end S m (rejoin S b k g l r p x) d ≡ m (end S m x d) (end S m (aside S k p l r) d)
+    pub end-rejoin : (b : ℕ) (k : Cut S) (g : Bool) (l r : Tree S) (p : Point) (x : Tree S) (d : Chan) → end S m (rejoin S b k g l r p x) d ≡ m (end S m x d) (end S m (aside S k p l r) d)
     end-rejoin b k g l r p x d = by-test (below S k p) (λ e. rw e) (λ e. rw e (end-comm S E (end S m l d) (end S m x d)))
 
-    end-above : (b : ℕ) (k : Cut S) (i : ℕ) (p : Point) (t : Tree S) (d : Chan) → end S m (above S b k i p t) d ≡ m (end S m t d) (at p d)
+    pub end-above : (b : ℕ) (k : Cut S) (i : ℕ) (p : Point) (t : Tree S) (d : Chan) → end S m (above S b k i p t) d ≡ m (end S m t d) (at p d)
     end-above b k i p t d = by-cond (λ x. end S m x d ≡ m (end S m t d) (at p d)) (below S k p) _ _ (λ _. end-comm S E (at p d) (end S m t d)) (λ _. refl)
 
     pub end-insert : (b i : ℕ) (p : Point) (w : ℕ → Word) (d : Chan) (t : Tree S) → end S m (insert S b i p w t) d ≡ m (end S m t d) (at p d)

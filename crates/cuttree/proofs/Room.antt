@@ -1,5 +1,5 @@
 -- What a sound world has room for: the numbers in use and the next one, the indices of leaves, and whether the tree is full.
-use mathlib.Core.Path.{_≡_, refl, sym, ap, _∙_, subst}
+use mathlib.Core.Path.{_≡_, refl, sym, _∙_, subst}
 use mathlib.Core.Bool.{Bool, false, cond}
 use mathlib.Core.Option.{Option, some}
 use mathlib.Core.List.{List, [], _∷_}
@@ -10,10 +10,9 @@ use lib.ListN.{length}
 use borrow.Author.Tests.{eqb-true, eq-eqb, ne-eqb, le-leb, lt-leb, lt-ltb, le-ltb, ltb-true, ltb-false}
 use Rattle.cuttree.specs.Setting.{Setting, Laws, Cut}
 use Rattle.intervalstoremanager.specs.Stack.{next, holds, sizes, Proper}
-use Rattle.cuttree.specs.Tree.{Tree, leaf, branch, is, ending, found, sum, leaves, freed}
+use Rattle.cuttree.specs.Tree.{Tree, leaf, branch, is, found, sum, leaves}
 use Rattle.cuttree.specs.Sound.{Sound}
-use Rattle.cuttree.proofs.Tests.{by-cond, by-test}
-use Rattle.cuttree.proofs.Sums.{sum-forget, numberIn}
+use Rattle.cuttree.proofs.Tests.{by-test}
 use Rattle.cuttree.proofs.Leaves.{leaves-branches}
 use Rattle.cuttree.proofs.Copies.{Filled}
 use Rattle.cuttree.proofs.Cuts.{sum-found}
@@ -40,15 +39,7 @@ module _ (S : Setting) where
   indexed-in (left j) = omega (arith, indexed-in j)
   indexed-in (right j) = omega (arith, indexed-in j)
 
-  -- a number in use is a branch's, an index in use a leaf's
-  pub find-branch : (t : Tree S) (j : ℕ) → 0 < uses t j → (k : Cut S) × (g : Bool) × (l : Tree S) × (r : Tree S) × In S (branch j k g l r) t
-  find-branch (leaf i q n) j h = absurd (omega arith)
-  find-branch (branch b k g l r) j h = by-test (eqb b j)
-      (λ e. (k, g, l, r, subst (λ x. In S (branch x k g l r) (branch b k g l r)) (eqb-true b j e) here))
-      (λ e. by-test (ltb 0 (uses l j))
-      (λ m. let (k, g, x, y, i) = find-branch l j (ltb-true 0 (uses l j) m) in (k, g, x, y, left i))
-      (λ m. let z = rw e at h in let (k, g, x, y, i) = find-branch r j (omega (arith, z, ltb-false 0 (uses l j) m)) in (k, g, x, y, right i)))
-
+  -- an index in use is a leaf's
   pub find-leaf : (t : Tree S) (j : ℕ) → 0 < indexed t j → (q : Point) × (n : ℕ) × In S (leaf j q n) t
   find-leaf (leaf i q n) j h = by-test (eqb i j)
       (λ e. (q, n, subst (λ x. In S (leaf x q n) (leaf i q n)) (eqb-true i j e) here))

@@ -1,6 +1,6 @@
 -- An add looks at no more words than the tree's capacity: with other words from there on its answer and what it leaves are the same.
 use mathlib.Core.Path.{_≡_, refl, sym, ap, _∙_}
-use mathlib.Core.Bool.{Bool, true, false, cond}
+use mathlib.Core.Bool.{cond}
 use mathlib.Core.Option.{Option, none, some}
 use mathlib.Core.List.{List}
 use Prim.Native.Nat.{ℕ, suc, _≤_, _<_}
@@ -8,7 +8,7 @@ use native.Mathlib.Omega.{arith}
 use lib.Dec.{eqb, leb, ltb}
 use lib.ListN.{length, getD}
 use borrow.Author.Tests.{leb-false}
-use Rattle.cuttree.specs.Setting.{Setting, Cut, below}
+use Rattle.cuttree.specs.Setting.{Setting, below}
 use Rattle.cuttree.specs.Tree.{Tree, leaf, branch, ending, found, height, walk, leaves, drawn, parted, above, insert, addCopy}
 use Rattle.cuttree.specs.Run.{World, Answer, added, full, fewWords, indexAbove, refuse, withPoint, withTree, totalOf, enter, add, call}
 use Rattle.intervalstoremanager.specs.Stack.{next, afterGet}

@@ -81,6 +81,12 @@ module _ (d c : ℕ) where
         is-id = ap (id (whole d) c) (sub-down (whole d) b k g l r p (u .at) (u .within)) ∙ u .is-id;
       })))
 
+  -- a number of no height above is none of theirs
+  pub none-above : (h : ℕ) (p : Reading) (j : ℕ) (t : Tree (whole d)) → h ≤ height (whole d) t p → ((m : ℕ) → h < m → m ≤ height (whole d) t p → id (whole d) c (sub (whole d) t m p) ≡ j → ⊥) → upper t h p j ≡ 0
+  none-above h p j t m n = by-test (ltb 0 (upper t h p j))
+      (λ e. let u = above-of h p j t m (ltb-true 0 (upper t h p j) e) in absurd (n (u .at) (u .higher) (u .within) (u .is-id)))
+      (λ e. omega (arith, ltb-false 0 (upper t h p j) e))
+
   pub in-sub : (m : ℕ) (p : Reading) (t : Tree (whole d)) → m ≤ height (whole d) t p → In (whole d) (sub (whole d) t m p) t
   in-sub m p = along (whole d) (λ t. m ≤ height (whole d) t p → In (whole d) (sub (whole d) t m p) t) p (λ i q n e. here)
       (λ b k g l r ih e. let t = branch b k g l r in by-height (whole d) b k g l r p m e

@@ -13,8 +13,8 @@ use borrow.Author.Tests.{eqb-true, eq-eqb, ltb-true, ltb-false, lt-ltb, le-ltb}
 use Rattle.cuttree.specs.Setting.{Cut}
 use Rattle.cuttree.specs.Tree.{Tree, leaf, branch, id}
 use Rattle.cuttree.proofs.Tests.{by-test, cond-true}
-use Rattle.cuttree.proofs.Intervals.{is-same}
 use Rattle.cuttree.proofs.Nodes.{is-zero, In, here, left, right}
+use Rattle.cuttree.proofs.Room.{uses-in as used-in}
 use Rattle.wholetree.specs.Reading.{Reading}
 use Rattle.wholetree.specs.Whole.{whole, tab}
 use Rattle.layout.specs.Slots.{uses, slot}
@@ -32,9 +32,7 @@ module _ (d c : ℕ) where
     pub inside : In (whole d) (branch j cut lag low high) t
 
   pub uses-in : {b : ℕ} {k : Cut (whole d)} {g : Bool} {l r t : Tree (whole d)} → In (whole d) (branch b k g l r) t → 0 < uses d c t b
-  uses-in {b} here = omega (arith, is-same b)
-  uses-in (left i) = omega (arith, uses-in i)
-  uses-in (right i) = omega (arith, uses-in i)
+  uses-in i = used-in (whole d) i
 
   pub branch-of : (t : Tree (whole d)) (j : ℕ) → 0 < uses d c t j → Branch t j
   branch-of (leaf i q n) j h = absurd (omega arith)
@@ -51,11 +49,6 @@ module _ (d c : ℕ) where
 
   -- LAID at every branch
   module _ {A : Type 0} (f : Tree (whole d) → A) (R : ℕ → A) where
-    pub laid-in : {b : ℕ} {k : Cut (whole d)} {g : Bool} {l r t : Tree (whole d)} → Laid d c f R t → In (whole d) (branch b k g l r) t → R b ≡ f (branch b k g l r)
-    laid-in h here = h .0
-    laid-in h (left i) = laid-in (h .1) i
-    laid-in h (right i) = laid-in (h .2) i
-
     pub laid-by : (t : Tree (whole d)) → ((b : ℕ) (k : Cut (whole d)) (g : Bool) (l r : Tree (whole d)) → In (whole d) (branch b k g l r) t → R b ≡ f (branch b k g l r)) → Laid d c f R t
     laid-by (leaf i q n) h = tt
     laid-by (branch b k g l r) h = (h b k g l r here, laid-by l (λ b k g l r i. h b k g l r (left i)), laid-by r (λ b k g l r i. h b k g l r (right i)))
@@ -63,11 +56,6 @@ module _ (d c : ℕ) where
     pub laid-below-by : (m : ℕ) (t : Tree (whole d)) → ((b : ℕ) (k : Cut (whole d)) (g : Bool) (l r : Tree (whole d)) → In (whole d) (branch b k g l r) t → b < m → R b ≡ f (branch b k g l r)) → LaidBelow d c m f R t
     laid-below-by m (leaf i q n) h = tt
     laid-below-by m (branch b k g l r) h = (h b k g l r here, laid-below-by m l (λ b k g l r i. h b k g l r (left i)), laid-below-by m r (λ b k g l r i. h b k g l r (right i)))
-
-    pub laid-below-in : {m b : ℕ} {k : Cut (whole d)} {g : Bool} {l r t : Tree (whole d)} → LaidBelow d c m f R t → In (whole d) (branch b k g l r) t → b < m → R b ≡ f (branch b k g l r)
-    laid-below-in h here = h .0
-    laid-below-in h (left i) = laid-below-in (h .1) i
-    laid-below-in h (right i) = laid-below-in (h .2) i
 
   -- THE SLOTS
   module _ {A : Type 0} (f : Tree (whole d) → A) (z : A) where

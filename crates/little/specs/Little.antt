@@ -1,8 +1,8 @@
--- Numbers in a list of bytes, the lowest byte first, and bytes written over others. Definitions.
+-- Numbers in a list of bytes, the lowest byte first. Definitions.
 use mathlib.Core.Path.{_≡_, refl}
 use mathlib.Core.List.{List, [], _∷_, _++_}
-use Prim.Native.Nat.{ℕ, suc, _+_, _*_, _/_, _%_}
-use lib.ListN.{getD, set}
+use Prim.Native.Nat.{ℕ, _+_, _*_, _/_, _%_}
+use lib.ListN.{getD}
 
 -- the number of two, four or eight bytes, from the index `at` on
 abbrev pub little16 : List ℕ → ℕ → ℕ
@@ -24,14 +24,6 @@ bytes32 x = x % 256 ∷ (x / 256) % 256 ∷ (x / 65536) % 256 ∷ (x / 16777216)
 abbrev pub bytesOf : List ℕ → List ℕ
 bytesOf [] = []
 bytesOf (x ∷ xs) = bytes32 x ++ bytesOf xs
-
--- ys with xs written over it, from the index `at` on
-abbrev pub over : ℕ → List ℕ → List ℕ → List ℕ
-over at [] ys = ys
-over at (x ∷ xs) ys = over (suc at) xs (set ys at x)
-
-written-over : over 1 (7 ∷ 8 ∷ []) (1 ∷ 2 ∷ 3 ∷ 4 ∷ []) ≡ 1 ∷ 7 ∷ 8 ∷ 4 ∷ []
-written-over = refl
 
 back-again : little32 (bytesOf (0x89ab_cdef ∷ [])) 0 ≡ 0x89ab_cdef
 back-again = refl

@@ -3,7 +3,8 @@ ghost use mathlib.Core.Path.{_≡_};
 ghost use Prim.Native.Nat.{_+_, _%_, _<_, _≤_};
 ghost use lib.ListN.{length, set};
 ghost use lib.Ieee.{binary32, binary64, ofBits, toBits};
-ghost use Rattle.little.specs.Little.{little16, little32, little64, bytes32, over};
+ghost use lib.Seq.{sets};
+ghost use Rattle.little.specs.Little.{little16, little32, little64, bytes32};
 
 // The bit of an f32's sign, and the pattern of infinity.
 const SIGN: u32 = 2147483648;
@@ -105,7 +106,7 @@ fn put_byte(bytes: &mut [u8], at: usize, x: usize)
 // Wrong here: the highest byte first; a byte written beyond the four.
 pub fn put_u32(bytes: &mut [u8], at: usize, x: usize)
     requires { ⌜ at + 4 ≤ length (now bytes) ⌝ }
-    ensures { λ _. ⌜ now (bytes .exit) ≡ over at (bytes32 x) (now (bytes .entry)) ⌝ }
+    ensures { λ _. ⌜ now (bytes .exit) ≡ sets (now (bytes .entry)) at (bytes32 x) ⌝ }
 {
     put_byte(bytes, at, x);
     put_byte(bytes, at + 1, x / 256);

@@ -7,7 +7,7 @@ ghost use mathlib.Core.List.{List, [], _∷_};
 ghost use Prim.Native.Nat.{ℕ, _+_, _-_, _*_, _<_, _≤_};
 ghost use lib.Dec.{eqb};
 ghost use lib.ListN.{length, getD, set, take, drop};
-ghost use lib.Ieee.{Float, le};
+ghost use lib.Ieee.{Float};
 ghost use Rattle.boundingbox.specs.Sides.{nought};
 ghost use Rattle.cuttree.specs.Tree.{Tree, leaf, id, ending, addCopy, forget, freed};
 ghost use Rattle.cuttree.specs.Setting.{Cut as CutOf};

@@ -11,7 +11,7 @@ use lib.ListN.{length, set, getD}
 use lib.Ieee.{Float}
 use borrow.Author.Tests.{eq-eqb, ne-eqb, le-leb, lt-leb, lt-ltb, le-ltb}
 use Rattle.readings.proofs.Tests.{yes}
-use Rattle.cuttree.specs.Tree.{Tree, is, All, OfTree}
+use Rattle.cuttree.specs.Tree.{Tree, All, OfTree}
 use Rattle.cuttree.specs.Run.{World, put, call, Answer, refused, written, isLeaf, write, Refusal, indexAbove, coordinateCount, badCoordinate, indexIsLeaf}
 use Rattle.cuttree.proofs.Room.{leaf-copies}
 use Rattle.wholetree.specs.Reading.{Reading, padded, reading}

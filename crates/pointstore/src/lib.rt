@@ -1,6 +1,8 @@
 // The readings table, which stands in for `PointStore`: a row of eight coordinates for each point index, and a mark where it is written.
 ghost use mathlib.Core.Path.{_≡_};
-ghost use Prim.Native.Nat.{ℕ, _≤_};
+ghost use Prim.Native.Nat.{ℕ};
+ghost use lib.ListN.{replicate};
+ghost use Rattle.layout.specs.Layout.{noEnds};
 ghost use Rattle.wholetree.specs.Reading.{padded};
 ghost use Rattle.wholetree.specs.Whole.{allCoordinates, whole};
 ghost use Rattle.cuttree.specs.Run.{World};
@@ -10,6 +12,22 @@ ghost use Rattle.pointstore.specs.Puts.{orNought, Tabled, PutDone};
 pub enum PutAnswer {
     Written,
     Refused(u8),
+}
+
+// The rows of a table with nothing written.
+// Rules out a row too few, and one that is not zero.
+pub fn no_points() -> [[f32; 8]; 1024]
+    ensures { λ r. ⌜ r ≡ replicate 1024 noEnds ⌝ }
+{
+    [[0.0; 8]; 1024]
+}
+
+// Its marks.
+// Rules out a mark too few, and one that is set.
+pub fn no_marks() -> [u8; 1024]
+    ensures { λ r. ⌜ r ≡ replicate 1024 0 ⌝ }
+{
+    [0; 1024]
 }
 
 // The coordinate of channel i, +0.0 beyond those given.

@@ -16,7 +16,7 @@ use Rattle.wholetree.specs.Whole.{whole, tab}
 use Rattle.wholetree.proofs.Laws.{whole-laws}
 use Rattle.layout.specs.Slots.{slot, rowOf, lowOf, highOf}
 use Rattle.layout.specs.Layout.{noRow, noEnds, pointRow, boxIn}
-use Rattle.layout.specs.Stands.{Laid, LaidBelow, Once, InRange}
+use Rattle.layout.specs.Stands.{Laid, LaidBelow, InRange}
 use Rattle.layout.proofs.Tabs.{entry-of}
 use Rattle.layout.proofs.Slots.{uses-in, range-in, laid-below-by, slot-in, tab-laid}
 use Rattle.boxstore.specs.Boxed.{Linked, Boxed}
@@ -29,12 +29,7 @@ linked : (d c : ℕ) (nodes : List (List ℕ)) (t : Tree (whole d)) → Laid d c
 linked d c nodes (leaf i q n) h = tt
 linked d c nodes (branch b k g l r) h = (ap (λ (x : List ℕ). getD x 0 0) (h .0), ap (λ (x : List ℕ). getD x 1 0) (h .0), linked d c nodes l (h .1), linked d c nodes r (h .2))
 
--- what holds below a tree holds below each of its nodes
-pub once-in : (d c : ℕ) {v t : Tree (whole d)} → In (whole d) v t → Once d c t → Once d c v
-once-in d c here o = o
-once-in d c (left i) o = once-in d c i (λ j. omega (arith, o j))
-once-in d c (right i) o = once-in d c i (λ j. omega (arith, o j))
-
+-- boxes that stand below a tree stand below each of its nodes
 pub boxed-in : (d c k : ℕ) (nodes : List (List ℕ)) (points lows highs : List (List Float)) {v t : Tree (whole d)} → In (whole d) v t → Boxed d c k nodes points lows highs t → Boxed d c k nodes points lows highs v
 boxed-in d c k nodes points lows highs here B = B
 boxed-in d c k nodes points lows highs (left i) B = boxed-in d c k nodes points lows highs i (left-boxed d c k nodes points lows highs B)

@@ -9,7 +9,6 @@ use lib.Dec.{ltb}
 use lib.ListN.{getD}
 use lib.Ieee.{Float}
 use Rattle.intervalstoremanager.specs.declared.IntervalStoreManager.{IntervalStoreManager}
-use Rattle.intervalstoremanager.specs.Stack.{holds}
 use Rattle.cuttree.specs.Tree.{Tree, ending, found, total}
 use Rattle.cuttree.specs.Run.{World, Answer, totalOf}
 use Rattle.cuttree.proofs.Freed.{freed-used, freed-below}

@@ -1,9 +1,9 @@
 -- Each world that calls leave stands in arrays, and a put keeps the state. Assumes nothing.
-use mathlib.Core.Path.{_≡_, refl, sym, ap, _∙_, subst}
+use mathlib.Core.Path.{_≡_, refl, _∙_}
 use mathlib.Core.Bool.{not}
 use mathlib.Core.Option.{Option, none, some}
 use mathlib.Core.List.{List, [], _∷_}
-use Prim.Native.Nat.{ℕ, _-_, _≤_}
+use Prim.Native.Nat.{ℕ, _-_}
 use lib.Dec.{leb}
 use lib.Ieee.{Float}
 use Rattle.cuttree.specs.Tree.{Tree}
@@ -13,8 +13,7 @@ use Rattle.wholetree.specs.Whole.{whole, tab}
 use Rattle.layout.specs.Layout.{countIn}
 use Rattle.pointstore.specs.declared.PutAnswer.{PutAnswer}
 use Rattle.pointstore.specs.Puts.{PutDone}
-use Rattle.randomcuttree.specs.declared.RCFTree.{RCFTree}
-use Rattle.randomcuttree.specs.State.{Lent, State, Reachable}
+use Rattle.randomcuttree.specs.State.{State, Reachable}
 use Rattle.randomcuttree.specs.Standing.{StatesStand, PutsKeep}
 use Rattle.randomcuttree.proofs.Reaches.{reachable-call, reachable-fresh}
 

@@ -33,7 +33,8 @@ use Rattle.randomcuttree.specs.declared.BoxAnswer.{BoxAnswer}
 use Rattle.randomcuttree.specs.State.{InRow, Lent, State}
 use Rattle.randomcuttree.specs.Queries.{copiesSay, branchSays, boxSays, noBox, CopiesTold, BranchTold, BoxTold, BoxRead, SomeBoxRead}
 use Rattle.randomcuttree.proofs.Lookups.{once, no-leaf, a-leaf, branch-below, branch-found, with-mass, without-mass, no-branch}
-use Rattle.randomcuttree.proofs.Boxings.{once-in, boxed-in, boxed}
+use Rattle.boxstore.proofs.Standing.{once-in}
+use Rattle.randomcuttree.proofs.Boxings.{boxed-in, boxed}
 
 -- ---- copies
 module _ (tree : RCFTree) (copies : List ℕ) (x : ℕ) where

@@ -3,7 +3,7 @@ use form::Row;
 use randomcuttree::RCFTree;
 ghost use mathlib.Core.Path.{_≡_};
 ghost use mathlib.Core.Option.{some};
-ghost use Prim.Native.Nat.{ℕ, min};
+ghost use Prim.Native.Nat.{min};
 ghost use lib.ListN.{length, take};
 ghost use Rattle.text.specs.Pieces.{pieces};
 ghost use Rattle.text.specs.Fields.{wordsFrom, coordinatesFrom};

@@ -7,7 +7,7 @@ use Prim.Native.Nat.{ℕ, _+_, _/_}
 use lib.Dec.{leb}
 use lib.ListN.{length}
 use Rattle.cuttree.specs.Run.{Call}
-use Rattle.cuttree.proofs.Tests.{by-test, cond-true, cond-false, nonsense}
+use Rattle.cuttree.proofs.Tests.{cond-true, cond-false, nonsense}
 use Rattle.wholetree.specs.Whole.{whole}
 use Rattle.randomcuttree.specs.Making.{madeBy}
 use Rattle.runlayout.specs.declared.Checked.{Checked}

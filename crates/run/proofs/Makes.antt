@@ -3,14 +3,14 @@ use mathlib.Core.Path.{_≡_, refl, sym, ap, _∙_}
 use mathlib.Core.Bool.{Bool, true, false}
 use mathlib.Core.Option.{none}
 use mathlib.Core.List.{List, [], _∷_}
-use Prim.Native.Nat.{ℕ, _+_, _*_, _/_, _≤_, _<_}
+use Prim.Native.Nat.{ℕ, _+_, _/_, _≤_, _<_}
 use native.Mathlib.Omega.{arith}
 use lib.ListN.{length, replicate}
 use lib.Ieee.{Float}
 use borrow.Author.Tests.{leb-true, leb-false}
-use Rattle.cuttree.specs.Run.{Call, fresh}
+use Rattle.cuttree.specs.Run.{fresh}
 use Rattle.wholetree.specs.Whole.{whole}
-use Rattle.layout.specs.Layout.{noEnds, Table, tableOf}
+use Rattle.layout.specs.Layout.{noEnds, tableOf}
 use Rattle.layout.proofs.Tabs.{constant}
 use Rattle.randomcuttree.specs.declared.RCFTree.{RCFTree}
 use Rattle.randomcuttree.specs.declared.Made.{Made}

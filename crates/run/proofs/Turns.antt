@@ -2,18 +2,18 @@
 use mathlib.Core.Path.{_≡_, refl, sym, ap, _∙_}
 use mathlib.Core.Bool.{true}
 use mathlib.Core.Option.{Option, some}
-use mathlib.Core.List.{List, [], _∷_, _++_}
+use mathlib.Core.List.{List, [], _∷_}
 use Prim.Native.Nat.{ℕ, zero, suc, _+_, _*_, _≤_, _<_}
 use native.Mathlib.Omega.{arith}
 use lib.ListN.{length, take}
 use lib.Ieee.{Float}
-use Rattle.little.specs.Little.{bytesOf, over}
-use Rattle.little.proofs.Over.{over-append, length-over, length-bytes, bytes-append}
+use lib.Seq.{sets, length-sets}
+use Rattle.little.specs.Little.{bytesOf}
+use Rattle.little.proofs.Stored.{sets-append, length-bytes, bytes-append}
 use Rattle.cuttree.specs.Run.{World, Call, put, add, delete, query, copiesOf, branchOf, boxOf, call}
-use Rattle.cuttree.proofs.Tests.{nonsense}
 use Rattle.wholetree.specs.Whole.{whole}
 use Rattle.randomcuttree.specs.declared.RCFTree.{RCFTree}
-use Rattle.randomcuttree.specs.State.{Lent, State, SomeState}
+use Rattle.randomcuttree.specs.State.{Lent, SomeState}
 use Rattle.calls.specs.Said.{filled, said, saidFrom}
 use Rattle.calls.specs.Done.{Done, Does}
 use Rattle.runlayout.specs.Layout.{size, number, widthAt, standsAt, callAt, restFrom}
@@ -55,7 +55,7 @@ module _ (run : List ℕ) (p out : ℕ) (tree : RCFTree) (a : Lent) (points : Li
   pub last : p ≡ size run → (out ≡ count) × (answers ≡ final)
   last e =
       let z : R .calls ≡ [] = ended (restFrom run (R .channels) p) refl (ap (λ (n : ℕ). restFrom run (R .channels) n) e ∙ rest-end run (R .channels)) in
-      (omega (arith, R .numbers, ap (widths (R .channels)) z), ap (λ (cs : List (Call (whole (R .channels)))). over (4 * out) (bytesOf (saidFrom (R .channels) (R .capacity) (R .cached) (R .world) cs)) answers) (sym z) ∙ R .finish)
+      (omega (arith, R .numbers, ap (widths (R .channels)) z), ap (λ (cs : List (Call (whole (R .channels)))). sets answers (4 * out) (bytesOf (saidFrom (R .channels) (R .capacity) (R .cached) (R .world) cs))) (sym z) ∙ R .finish)
 
   module _ (h : p < size run) where
     begun : Begun run (R .channels) p (R .calls)
@@ -106,13 +106,13 @@ module _ (run : List ℕ) (p out : ℕ) (tree : RCFTree) (a : Lent) (points : Li
             ap (λ (n : ℕ). take n reply) (sym told-width) ∙ ap (λ (l : List ℕ). take (length told) l) (done .reply-is)
             ∙ take-filled 17 told (omega (arith, told-width, fits .0))
 
-        pub answers-length : (answers′ : List ℕ) → answers′ ≡ over (4 * out) (bytesOf (take w reply)) answers → length answers′ ≡ length answers
-        answers-length answers′ f = ap length f ∙ length-over (4 * out) (bytesOf (take w reply)) answers
+        pub answers-length : (answers′ : List ℕ) → answers′ ≡ sets answers (4 * out) (bytesOf (take w reply)) → length answers′ ≡ length answers
+        answers-length answers′ f = ap length f ∙ length-sets answers (4 * out) (bytesOf (take w reply))
 
         -- the run at the next call
-        pub turn : (answers′ : List ℕ) (next : ℕ) → answers′ ≡ over (4 * out) (bytesOf (take w reply)) answers → next ≡ p + widthAt run p → Running run next (out + w) tree′ a′ points′ marks′ answers′ final count
+        pub turn : (answers′ : List ℕ) (next : ℕ) → answers′ ≡ sets answers (4 * out) (bytesOf (take w reply)) → next ≡ p + widthAt run p → Running run next (out + w) tree′ a′ points′ marks′ answers′ final count
         turn answers′ next f g =
-            let z : answers′ ≡ over (4 * out) (bytesOf told) answers = f ∙ ap (λ (l : List ℕ). over (4 * out) (bytesOf l) answers) first-told in
+            let z : answers′ ≡ sets answers (4 * out) (bytesOf told) = f ∙ ap (λ (l : List ℕ). sets answers (4 * out) (bytesOf l)) first-told in
             let others = saidFrom (R .channels) (R .capacity) (R .cached) after (begun .rest) in
             let place : 4 * (out + w) ≡ 4 * out + length (bytesOf told) = omega (arith, length-bytes told, told-width) in
             record {
@@ -126,7 +126,7 @@ module _ (run : List ℕ) (p out : ℕ) (tree : RCFTree) (a : Lent) (points : Li
               room = omega (arith, R .room, answers-length answers′ f);
               numbers = omega (arith, R .numbers, rest-width);
               finish =
-                  ap (λ (n : ℕ). over n (bytesOf others) answers′) place ∙ ap (λ (l : List ℕ). over (4 * out + length (bytesOf told)) (bytesOf others) l) z
-                  ∙ sym (over-append (4 * out) (bytesOf told) (bytesOf others) answers) ∙ ap (λ (l : List ℕ). over (4 * out) l answers) (sym (bytes-append told others))
-                  ∙ ap (λ (cs : List (Call (whole (R .channels)))). over (4 * out) (bytesOf (saidFrom (R .channels) (R .capacity) (R .cached) (R .world) cs)) answers) (sym (begun .is)) ∙ R .finish;
+                  ap (λ (n : ℕ). sets answers′ n (bytesOf others)) place ∙ ap (λ (l : List ℕ). sets l (4 * out + length (bytesOf told)) (bytesOf others)) z
+                  ∙ sym (sets-append answers (4 * out) (bytesOf told) (bytesOf others)) ∙ ap (λ (l : List ℕ). sets answers (4 * out) l) (sym (bytes-append told others))
+                  ∙ ap (λ (cs : List (Call (whole (R .channels)))). sets answers (4 * out) (bytesOf (saidFrom (R .channels) (R .capacity) (R .cached) (R .world) cs))) (sym (begun .is)) ∙ R .finish;
             }

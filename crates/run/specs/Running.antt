@@ -7,7 +7,8 @@ use Prim.Native.Nat.{ℕ, _+_, _*_, _/_, _≤_}
 use lib.Dec.{leb}
 use lib.ListN.{length}
 use lib.Ieee.{Float}
-use Rattle.little.specs.Little.{bytesOf, over}
+use lib.Seq.{sets}
+use Rattle.little.specs.Little.{bytesOf}
 use Rattle.cuttree.specs.Run.{World, Call}
 use Rattle.wholetree.specs.Whole.{whole}
 use Rattle.randomcuttree.specs.declared.RCFTree.{RCFTree}
@@ -29,7 +30,7 @@ pub record Running (run : List ℕ) (p out : ℕ) (tree : RCFTree) (a : Lent) (p
   pub rest : restFrom run channels p ≡ some calls
   pub room : 4 * count ≤ length answers
   pub numbers : out + widths channels calls ≡ count
-  pub finish : over (4 * out) (bytesOf (saidFrom channels capacity cached world calls)) answers ≡ final
+  pub finish : sets answers (4 * out) (bytesOf (saidFrom channels capacity cached world calls)) ≡ final
 
 -- what a step asks: that there is such an end
 pub record SomeRunning (run : List ℕ) (p out : ℕ) (tree : RCFTree) (a : Lent) (points : List (List Float)) (marks answers : List ℕ) : Type 0 where

@@ -4,20 +4,17 @@ use randomcuttree::RCFTree;
 use runlayout::Checked;
 ghost use mathlib.Core.Path.{_≡_};
 ghost use mathlib.Core.Bool.{true};
-ghost use mathlib.Core.Option.{some};
 ghost use mathlib.Core.List.{List, [], _∷_};
 ghost use Prim.Native.Nat.{ℕ, _+_, _*_, _/_, _<_, _≤_};
-ghost use lib.Dec.{leb};
-ghost use lib.ListN.{length, take, replicate};
-ghost use Rattle.little.specs.Little.{bytesOf, over};
+ghost use lib.ListN.{length, take};
+ghost use lib.Seq.{sets};
+ghost use Rattle.little.specs.Little.{bytesOf};
 ghost use Rattle.cuttree.specs.Run.{World, Call};
 ghost use Rattle.wholetree.specs.Whole.{whole};
-ghost use Rattle.layout.specs.Layout.{noEnds};
 ghost use Rattle.randomcuttree.specs.State.{lent};
 ghost use Rattle.randomcuttree.specs.Making.{madeBy};
 ghost use Rattle.calls.specs.Said.{saidFrom};
-ghost use Rattle.runlayout.specs.Layout.{size, number, isMaking, channels, capacity, share, restFrom, widthAt, standsAt};
-ghost use Rattle.runlayout.specs.Check.{widths};
+ghost use Rattle.runlayout.specs.Layout.{isMaking, channels, capacity, share};
 ghost use Rattle.run.specs.Outcome.{given, answered, outcome};
 ghost use Rattle.run.specs.Running.{Running, SomeRunning, Started, SomeStarted, Checks};
 
@@ -30,7 +27,7 @@ fn wide(x: u8) -> usize
 // Writes the first n numbers of a reply, from the answer number `out` on.
 fn write_reply(answers: &mut [u8], out: usize, reply: &[usize], n: usize)
     requires { ⌜ (n ≤ length (now reply)) × (4 * (out + n) ≤ length (now answers)) ⌝ }
-    ensures { λ _. ⌜ now (answers .exit) ≡ over (4 * out) (bytesOf (take n (now (reply .entry)))) (now (answers .entry)) ⌝ }
+    ensures { λ _. ⌜ now (answers .exit) ≡ sets (now (answers .entry)) (4 * out) (bytesOf (take n (now (reply .entry)))) ⌝ }
 {
     let mut i: usize = 0;
     while i < n {
@@ -135,19 +132,6 @@ fn run_tree(
         )
 }
 
-// A table with nothing written.
-fn no_points() -> [[f32; 8]; 1024]
-    ensures { λ r. ⌜ r ≡ replicate 1024 noEnds ⌝ }
-{
-    [[0.0; 8]; 1024]
-}
-
-fn no_marks() -> [u8; 1024]
-    ensures { λ r. ⌜ r ≡ replicate 1024 0 ⌝ }
-{
-    [0; 1024]
-}
-
 // A run in its layout, with what its calls' answers need lent or not.
 fn run_made(run: &[u8], answers: &mut [u8], enough: bool) -> usize
     requires making { ⌜ isMaking (now run) ≡ true ⌝ }
@@ -161,8 +145,8 @@ fn run_made(run: &[u8], answers: &mut [u8], enough: bool) -> usize
     let mut free = [[0u16; 2]; 255];
     let mut lows = [[0.0f32; 8]; 255];
     let mut highs = [[0.0f32; 8]; 255];
-    let mut points = no_points();
-    let mut written = no_marks();
+    let mut points = pointstore::no_points();
+    let mut written = pointstore::no_marks();
     let made = RCFTree::new(
         runlayout::number_at(run, 1),
         runlayout::number_at(run, 2),

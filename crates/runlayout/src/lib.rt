@@ -1,7 +1,7 @@
 // The layout of a byte run (docs/LAYOUT.md): the numbers in it, whether all of it is in the layout, and how much its answers take.
 ghost use mathlib.Core.Path.{_≡_};
 ghost use mathlib.Core.Bool.{true, cond};
-ghost use Prim.Native.Nat.{ℕ, _+_, _*_, _/_, _<_, _≤_};
+ghost use Prim.Native.Nat.{_+_, _*_, _/_, _<_, _≤_};
 ghost use lib.Dec.{leb};
 ghost use lib.ListN.{length};
 ghost use Rattle.runlayout.specs.Layout.{size, number, double, isCall, isMaking, widthAt, standsAt, channels, restFrom};

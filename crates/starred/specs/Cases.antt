@@ -4,7 +4,7 @@ use mathlib.Core.Bool.{Bool, true, false, _&&_}
 use Prim.Native.Nat.{ℕ}
 use lib.Dec.{eqb}
 use lib.ListN.{length}
-use lib.Ieee.{Float, binary32, binary64, ofBits, toBits, round, add, sub, mul, lt, le, eq}
+use lib.Ieee.{binary32, binary64, ofBits, toBits, round, add, sub, mul, lt, le, eq}
 use Rattle.readings.specs.Word.{factorOf}
 use Rattle.readings.specs.Narrow.{narrowed}
 use Rattle.boundingbox.specs.Ends.{least, greatest}

@@ -1,13 +1,12 @@
 -- How large a number and a word can be: below 10^9 and below 2^64. Assumes nothing.
-use mathlib.Core.Path.{_≡_, refl, sym, ap, subst}
+use mathlib.Core.Path.{_≡_, ap, subst}
 use mathlib.Core.List.{List, [], _∷_}
 use mathlib.Core.Bool.{Bool, true, false, _&&_, _||_, not, cond, false≢true}
 use Prim.Native.Nat.{ℕ, suc, _+_, _*_, _^_, _≤_, _<_}
-use native.Mathlib.Nat.{add-zero, zero-add, le-trans, pow-zero, pow-le-pow-right}
+use native.Mathlib.Nat.{add-zero, zero-add, pow-zero, pow-le-pow-right}
 use native.Mathlib.Omega.{arith}
 use lib.ListN.{length, getD}
 use lib.Dec.{T, eqb, leb, ltb, lit<, lit≤, ltb→lt, eqb→eq, leb→le}
-use Rattle.text.specs.declared.Number.{Number}
 use Rattle.text.specs.declared.Number.the-variants.{Is, NoNumber}
 use Rattle.text.specs.Numbers.{digitValue, digitsFrom, numberOf, wordOf}
 use Rattle.text.specs.Fields.{numberInForm, numberOrZero}

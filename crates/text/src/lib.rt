@@ -1,7 +1,7 @@
 // The pieces of a text between separator bytes, and what stands in them: decimal numbers, words and coordinates (document 01, 'Printed tree').
 ghost use mathlib.Core.Path.{_≡_};
-ghost use Prim.Native.Nat.{ℕ, _+_, _-_, _*_, _≤_, _<_, _^_, min};
-ghost use lib.ListN.{length, take, drop, getD, set};
+ghost use Prim.Native.Nat.{_+_, _-_, _*_, _≤_, _<_, _^_, min};
+ghost use lib.ListN.{length, take, drop, set};
 ghost use lib.Seq.{sets};
 ghost use Rattle.text.specs.Pieces.{bytesBefore, piecesFrom, PieceEnds};
 ghost use Rattle.text.specs.Numbers.{digitValue, digitsFrom, numberOf, wordOf};

@@ -8,7 +8,6 @@ use Rattle.wholetree.specs.Whole.{whole}
 use Rattle.randomcuttree.specs.declared.Made.{Made}
 use Rattle.randomcuttree.specs.declared.Made.the-variants.{Tree, NotMade}
 use Rattle.randomcuttree.specs.Making.{madeBy}
-use Rattle.form.specs.Making.{Making}
 use Rattle.form.specs.Rows.{Op}
 use Rattle.form.specs.Form.{Parsed, bad, read, parsed}
 use Rattle.lines.specs.Lines.{refusedLine}

@@ -9,11 +9,10 @@ ghost use mathlib.Core.Bool.{cond};
 ghost use mathlib.Core.List.{List, []};
 ghost use Prim.Native.Nat.{ℕ, _+_, _<_, _≤_};
 ghost use lib.Dec.{eqb};
-ghost use lib.ListN.{length, replicate};
+ghost use lib.ListN.{length};
 ghost use Rattle.text.specs.Pieces.{piecesFrom};
 ghost use Rattle.cuttree.specs.Run.{World};
 ghost use Rattle.wholetree.specs.Whole.{whole};
-ghost use Rattle.layout.specs.Layout.{noEnds};
 ghost use Rattle.randomcuttree.specs.State.{lent};
 ghost use Rattle.randomcuttree.specs.Making.{madeBy};
 ghost use Rattle.form.specs.Rows.{Op};
@@ -107,19 +106,6 @@ fn run_rows(
     }
 }
 
-// A table with nothing written.
-fn no_points() -> [[f32; 8]; 1024]
-    ensures { λ r. ⌜ r ≡ replicate 1024 noEnds ⌝ }
-{
-    [[0.0; 8]; 1024]
-}
-
-fn no_marks() -> [u8; 1024]
-    ensures { λ r. ⌜ r ≡ replicate 1024 0 ⌝ }
-{
-    [0; 1024]
-}
-
 // A making and the op rows from a place of the text on.
 fn print_by(
     channels: usize,
@@ -140,8 +126,8 @@ fn print_by(
     let mut free = [[0u16; 2]; 255];
     let mut lows = [[0.0f32; 8]; 255];
     let mut highs = [[0.0f32; 8]; 255];
-    let mut points = no_points();
-    let mut written = no_marks();
+    let mut points = pointstore::no_points();
+    let mut written = pointstore::no_marks();
     let made = RCFTree::new(
         channels,
         capacity,

@@ -5,7 +5,8 @@ use mathlib.Core.Path.{_≡_, ap, _∙_}
 use mathlib.Core.List.{List}
 use Prim.Native.Nat.{ℕ, suc, _+_, _/_, _%_}
 use lib.ListN.{set}
-use Rattle.little.specs.Little.{bytes32, over}
+use lib.Seq.{sets}
+use Rattle.little.specs.Little.{bytes32}
 use Rattle.little.proofs.put_u32.Statement.{statement}
 use Rattle.little.proofs.put_u32.Tie as tie
 use Rattle.little.proofs.put_u32.Reads as reads
@@ -17,7 +18,7 @@ moved x m n v e h = h ∙ ap (λ (i : ℕ). set x i v) e
 
 -- four bytes, one after another
 four : (at x : ℕ) (e e₁ e₂ e₃ e₄ : List ℕ) → e₁ ≡ set e at (x % 256) → e₂ ≡ set e₁ (at + 1) (x / 256 % 256) → e₃ ≡ set e₂ (at + 2) (x / 65536 % 256) → e₄ ≡ set e₃ (at + 3) (x / 16777216 % 256)
-    → e₄ ≡ over at (bytes32 x) e
+    → e₄ ≡ sets e at (bytes32 x)
 four at x e e₁ e₂ e₃ e₄ a b c d =
     moved e₃ (at + 3) (suc (suc (suc at))) (x / 16777216 % 256) (omega arith) d ∙ ap (λ (l : List ℕ). set l (suc (suc (suc at))) (x / 16777216 % 256)) (moved e₂ (at + 2) (suc (suc at)) (x / 65536 % 256) (omega arith) c
     ∙ ap (λ (l : List ℕ). set l (suc (suc at)) (x / 65536 % 256)) (moved e₁ (at + 1) (suc at) (x / 256 % 256) (omega arith) b ∙ ap (λ (l : List ℕ). set l (suc at) (x / 256 % 256)) a))

@@ -1,6 +1,5 @@
 -- `run::run_tree` meets its contract. Assumes nothing.
 use borrow.Author.Needs.{needs}
-use Prim.Native.Nat.{ℕ}
 use native.Mathlib.Omega.{arith}
 use Rattle.run.proofs.Starts.{start, gives}
 use Rattle.run.proofs.run_tree.Statement.{statement}

@@ -1,10 +1,8 @@
 -- `run::sicklephlox_run` meets its contract. Assumes nothing.
 use borrow.Author.Needs.{needs}
 use borrow.Author.Tests.{not-true, not-false}
-use mathlib.Core.Path.{_≡_, refl, sym, _∙_}
-use mathlib.Core.Bool.{true, false}
+use mathlib.Core.Path.{sym, _∙_}
 use native.Mathlib.Omega.{arith}
-use Rattle.runlayout.specs.Layout.{isMaking}
 use Rattle.run.proofs.Checking.{no-making, gives, out-of-layout, too-few, enough}
 use Rattle.run.proofs.sicklephlox_run.Statement.{statement}
 use Rattle.run.proofs.sicklephlox_run.Tie as tie

@@ -1,9 +1,10 @@
 -- `run::tell_refusal` meets its contract. Assumes nothing.
 use borrow.Author.Needs.{needs}
-use mathlib.Core.Path.{_≡_, refl, ap, _∙_}
-use mathlib.Core.List.{List, [], _∷_}
+use mathlib.Core.Path.{refl, ap, _∙_}
+use mathlib.Core.List.{[], _∷_}
 use Prim.Native.Nat.{ℕ}
-use Rattle.little.specs.Little.{bytes32, over}
+use lib.Seq.{sets}
+use Rattle.little.specs.Little.{bytes32}
 use Rattle.run.proofs.Given.{given-short, given-whole}
 use Rattle.run.proofs.tell_refusal.Statement.{statement}
 use Rattle.run.proofs.tell_refusal.Tie as tie
@@ -24,7 +25,7 @@ returns-2 : tie.Need-returns-2
 returns-2 c =
     let s = c .before .before .before .before .before .before .before in
     let r = s .args .refusal in
-    given-whole (r ∷ []) (s .args .answers .now) _ 4 refl (c .before .before .before .before .before .if1 .left) (c .before .before .put-u32 .ensures ∙ ap (λ (x : ℕ). over 0 (bytes32 x) (s .args .answers .now)) (c .before .before .before .wide .ensures))
+    given-whole (r ∷ []) (s .args .answers .now) _ 4 refl (c .before .before .before .before .before .if1 .left) (c .before .before .put-u32 .ensures ∙ ap (λ (x : ℕ). sets (s .args .answers .now) 0 (bytes32 x)) (c .before .before .before .wide .ensures))
 
 pub tell-refusal-spec : {M : Type 1} → statement M
 tell-refusal-spec =

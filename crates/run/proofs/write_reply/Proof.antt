@@ -5,8 +5,9 @@ use mathlib.Core.List.{List, [], _∷_, _++_}
 use Prim.Native.Nat.{ℕ, zero, suc, _+_, _-_, _*_, _≤_, _<_}
 use native.Mathlib.Omega.{arith}
 use lib.ListN.{length, getD, take}
-use Rattle.little.specs.Little.{bytes32, bytesOf, over}
-use Rattle.little.proofs.Over.{over-append, length-over, length-bytes, bytes-append}
+use lib.Seq.{sets, length-sets}
+use Rattle.little.specs.Little.{bytes32, bytesOf}
+use Rattle.little.proofs.Stored.{sets-append, length-bytes, bytes-append}
 use Rattle.run.proofs.write_reply.Statement.{statement}
 use Rattle.run.proofs.write_reply.Tie as tie
 
@@ -20,22 +21,22 @@ take-next i [] h = absurd (omega arith)
 take-next zero (x ∷ xs) h = refl
 take-next (suc i) (x ∷ xs) h = ap {B = List ℕ} (λ l. x ∷ l) (take-next i xs (omega arith))
 
-same : (out i : ℕ) (reply e₀ e : List ℕ) → e ≡ over (4 * out) (bytesOf (take i reply)) e₀ → length e ≡ length e₀
-same out i reply e₀ e h = ap length h ∙ length-over (4 * out) (bytesOf (take i reply)) e₀
+same : (out i : ℕ) (reply e₀ e : List ℕ) → e ≡ sets e₀ (4 * out) (bytesOf (take i reply)) → length e ≡ length e₀
+same out i reply e₀ e h = ap length h ∙ length-sets e₀ (4 * out) (bytesOf (take i reply))
 
 -- one number more is written
-step : (out i : ℕ) (reply e₀ e e′ : List ℕ) → i < length reply → e ≡ over (4 * out) (bytesOf (take i reply)) e₀ → e′ ≡ over (4 * (out + i)) (bytes32 (getD reply i 0)) e
-    → e′ ≡ over (4 * out) (bytesOf (take (i + 1) reply)) e₀
+step : (out i : ℕ) (reply e₀ e e′ : List ℕ) → i < length reply → e ≡ sets e₀ (4 * out) (bytesOf (take i reply)) → e′ ≡ sets e (4 * (out + i)) (bytes32 (getD reply i 0))
+    → e′ ≡ sets e₀ (4 * out) (bytesOf (take (i + 1) reply))
 step out i reply e₀ e e′ h f g =
     let x = getD reply i 0 in
     let next : i + 1 ≡ suc i = omega arith in
     let w : 4 * (out + i) ≡ 4 * out + length (bytesOf (take i reply)) = omega (arith, length-bytes (take i reply), length-first i reply (omega arith)) in
-    g ∙ ap (λ (n : ℕ). over n (bytes32 x) e) w ∙ ap (λ (l : List ℕ). over (4 * out + length (bytesOf (take i reply))) (bytes32 x) l) f
-    ∙ sym (over-append (4 * out) (bytesOf (take i reply)) (bytes32 x) e₀)
-    ∙ ap (λ (l : List ℕ). over (4 * out) l e₀) (sym (bytes-append (take i reply) (x ∷ []))) ∙ ap (λ (l : List ℕ). over (4 * out) (bytesOf l) e₀) (sym (ap (λ (n : ℕ). take n reply) next ∙ take-next i reply h))
+    g ∙ ap (λ (n : ℕ). sets e n (bytes32 x)) w ∙ ap (λ (l : List ℕ). sets l (4 * out + length (bytesOf (take i reply))) (bytes32 x)) f
+    ∙ sym (sets-append e₀ (4 * out) (bytesOf (take i reply)) (bytes32 x))
+    ∙ ap (λ (l : List ℕ). sets e₀ (4 * out) l) (sym (bytes-append (take i reply) (x ∷ []))) ∙ ap (λ (l : List ℕ). sets e₀ (4 * out) (bytesOf l)) (sym (ap (λ (n : ℕ). take n reply) next ∙ take-next i reply h))
 
 abbrev Inv-loop : tie.InvT-loop
-Inv-loop answers₀ out reply n i₀ answers i = (i ≤ n) × (answers ≡ over (4 * out) (bytesOf (take i reply)) answers₀)
+Inv-loop answers₀ out reply n i₀ answers i = (i ≤ n) × (answers ≡ sets answers₀ (4 * out) (bytesOf (take i reply)))
 
 abbrev μ-loop : tie.MeasureT-loop
 μ-loop answers₀ out reply n i₀ answers i = n - i
@@ -85,7 +86,7 @@ returns c =
     let s = c .before .before .before .before in
     let l = c .before .loop in
     let e : l .i ≡ s .args .n = omega (arith, c .loop-test .left, l .inv .0) in
-    l .inv .1 ∙ ap (λ (i : ℕ). over (4 * s .args .out) (bytesOf (take i (s .args .reply .now))) (s .args .answers .now)) e
+    l .inv .1 ∙ ap (λ (i : ℕ). sets (s .args .answers .now) (4 * s .args .out) (bytesOf (take i (s .args .reply .now)))) e
 
 pub write-reply-spec : {M : Type 1} → statement M
 write-reply-spec =

@@ -1,8 +1,8 @@
--- `run::no_points` meets its contract. Assumes nothing.
+-- `pointstore::no_points` meets its contract. Assumes nothing.
 use mathlib.Core.Path.{refl}
 use lib.Ieee.{ofBits}
-use Rattle.run.proofs.no_points.Statement.{statement}
-use Rattle.run.proofs.no_points.Tie as tie
+use Rattle.pointstore.proofs.no_points.Statement.{statement}
+use Rattle.pointstore.proofs.no_points.Tie as tie
 
 returns : tie.Need-returns
 unfolding ofBits
