@@ -1,5 +1,5 @@
 -- Growing a box of coordinates, its ends given as functions: it stays one, and its range sum is unchanged exactly where no end moves. Assumes nothing.
-use mathlib.Core.Path.{_≡_, refl, sym, ap, _∙_, subst}
+use mathlib.Core.Path.{_≡_, refl, sym, ap, _∙_}
 use mathlib.Core.Bool.{_&&_}
 use Prim.Native.Nat.{ℕ, zero, suc, _+_, _-_, _^_, _≤_, _<_, min, max}
 use native.Mathlib.Nat.{le-trans, le-suc, le-refl, le-of-eq}
@@ -14,7 +14,7 @@ use Rattle.boundingbox.specs.Ends.{least, greatest}
 use Rattle.boundingbox.specs.Sides.{gapOf, total}
 use Rattle.boundingbox.specs.Contained.{every, stays}
 use Rattle.boundingbox.specs.Wholes.{Box, side, sumTo}
-use Rattle.boundingbox.proofs.Every.{every-at, every-from, every-same}
+use Rattle.boundingbox.proofs.Every.{every-same}
 use Rattle.boundingbox.proofs.Order.{least-keeps, greatest-keeps, by-rank, least-place, greatest-place, stays-places}
 use Rattle.boundingbox.proofs.Sums.{sum-fits, total-exact, whole-eq}
 
@@ -92,18 +92,6 @@ module _ (lo hi a b : ℕ → Float) (n : ℕ) (B : Box lo hi n) (A : (i : ℕ) 
   -- no end moves exactly where the box of ranks holds the new ends
   pub stays-ranks : (i : ℕ) → i < n → stays (lo i) (hi i) (a i) (b i) ≡ (leb (rank (lo i)) (rank (a i)) && leb (rank (b i)) (rank (hi i)))
   stays-ranks i h = stays-places _ rank by-rank (lo i) (hi i) (a i) (b i) (B .lower i h) (B .upper i h) (A i h) (C i h)
-
-  pub contains-ranks : T (every (λ i. stays (lo i) (hi i) (a i) (b i)) n) → (i : ℕ) → i < n → (rank (lo i) ≤ rank (a i)) × (rank (b i) ≤ rank (hi i))
-  contains-ranks t i h =
-      let l = leb (rank (lo i)) (rank (a i)) in
-      let u = leb (rank (b i)) (rank (hi i)) in
-      let w : T (l && u) = subst T (stays-ranks i h) (every-at (λ j. stays (lo j) (hi j) (a j) (b j)) n t i h) in
-      (leb→le (rank (lo i)) (rank (a i)) (and-l l u w), leb→le (rank (b i)) (rank (hi i)) (and-r l u w))
-
-  pub ranks-contain : ((i : ℕ) → i < n → rank (lo i) ≤ rank (a i)) → ((i : ℕ) → i < n → rank (b i) ≤ rank (hi i)) → T (every (λ i. stays (lo i) (hi i) (a i) (b i)) n)
-  ranks-contain l u =
-      every-from (λ j. stays (lo j) (hi j) (a j) (b j)) n
-      (λ i h. subst T (sym (stays-ranks i h)) (and-i (leb (rank (lo i)) (rank (a i))) (leb (rank (b i)) (rank (hi i))) (le→leb (rank (lo i)) (rank (a i)) (l i h)) (le→leb (rank (b i)) (rank (hi i)) (u i h))))
 
   side-grown : (i : ℕ) → i < n → side (λ j. least (lo j) (a j)) (λ j. greatest (hi j) (b j)) i ≡ max (rank (hi i)) (rank (b i)) - min (rank (lo i)) (rank (a i))
   side-grown i h = rw (low-rank i h, high-rank i h)

@@ -8,8 +8,8 @@ use randomcuttree::DeleteAnswer;
 use randomcuttree::RCFTree;
 ghost use mathlib.Core.Path.{_≡_};
 ghost use mathlib.Core.List.{List};
-ghost use Prim.Native.Nat.{ℕ, _≤_, min};
-ghost use lib.ListN.{length, take};
+ghost use Prim.Native.Nat.{ℕ, _≤_};
+ghost use lib.ListN.{take};
 ghost use lib.Ieee.{Float};
 ghost use Rattle.cuttree.specs.Run.{World, put, add, delete, query};
 ghost use Rattle.wholetree.specs.Whole.{whole};
@@ -155,7 +155,7 @@ pub fn put(
     reply: &mut [usize; 17],
 )
     requires { ⌜ n ≤ 9 ⌝ }
-    ensures { λ _. ⌜ ((a : Lent) (xs : List Float) → a .copies ≡ now (copies .entry) → take n (now (coordinates .entry)) ≡ take 9 xs → n ≡ min (length xs) 9
+    ensures { λ _. ⌜ ((a : Lent) (xs : List Float) → a .copies ≡ now (copies .entry) → take n (now (coordinates .entry)) ≡ take 9 xs
         → Does (λ d. put index xs) tree a (now (points .entry)) (now (written .entry)) tree a (now (points .exit)) (now (written .exit)) (now (reply .exit))) ⌝ }
 {
     let answer = put_first(
@@ -240,7 +240,7 @@ pub fn add(
     reply: &mut [usize; 17],
 ) -> RCFTree
     requires { ⌜ (n ≤ 256) × SomeState tree (lent (now nodes) (now cuts) (now copies) (now free) (now lows) (now highs)) (now points) (now written) ⌝ }
-    ensures { λ r. ⌜ ((ws : List ℕ) → take n (now (words .entry)) ≡ take 256 ws → n ≡ min (length ws) 256
+    ensures { λ r. ⌜ ((ws : List ℕ) → take n (now (words .entry)) ≡ take 256 ws
         → Does (λ d. add index ws) tree (lent (now (nodes .entry)) (now (cuts .entry)) (now (copies .entry)) (now (free .entry)) (now (lows .entry)) (now (highs .entry))) (now (points .entry)) (now (written .entry)) r (lent (now (nodes .exit)) (now (cuts .exit)) (now (copies .exit)) (now (free .exit)) (now (lows .exit)) (now (highs .exit))) (now (points .entry)) (now (written .entry)) (now (reply .exit))) ⌝ }
 {
     let answer = add_first(

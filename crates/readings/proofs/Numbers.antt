@@ -3,7 +3,7 @@ use mathlib.Core.Path.{_≡_, refl, sym, ap, _∙_, subst}
 use Prim.Native.Nat.{ℕ, zero, suc, _+_, _-_, _*_, _^_}
 use mathlib.Core.Bool.{Bool, true, false, not, _&&_, cond, Bool·beq, false≢true}
 use lib.Dec.{T, ltb}
-use lib.Ieee.{Float, nan, inf, fin, Format, binary32, binary64, prec, low, emax, up, down, odd, units, round, sum, add, sub, neg, lt, eq, le, ne, fits, isNan}
+use lib.Ieee.{Float, nan, inf, fin, Format, binary32, binary64, prec, low, emax, up, down, odd, units, round, sum, add, sub, neg, lt, eq, ne, fits, isNan}
 use lib.Ieee.Fits.{round-is, fits-widens, and-i, sub-fits}
 
 odd-number : (d : ℕ) (s : Bool) (q k l : ℕ) → isNan (odd d s q k l) ≡ false
@@ -47,28 +47,6 @@ sub-number f (fin s m e) (inf t) h = refl
 sub-number f nan (fin t n d) h = absurd (false≢true h)
 sub-number f (inf s) (fin t n d) h = refl
 sub-number f (fin s m e) (fin t n d) h = sum-number f s (m * up e * down d) (not t) (n * up d * down e) (down e * down d)
-
--- each side of a comparison that holds is a number
-pub lt-number : (x y : Float) → lt x y ≡ true → (isNan x ≡ false) × (isNan y ≡ false)
-unfolding lt isNan
-lt-number nan y h = absurd (false≢true h)
-lt-number (inf s) nan h = absurd (false≢true h)
-lt-number (inf s) (inf t) h = (refl, refl)
-lt-number (inf s) (fin t n d) h = (refl, refl)
-lt-number (fin s m e) nan h = absurd (false≢true h)
-lt-number (fin s m e) (inf t) h = (refl, refl)
-lt-number (fin s m e) (fin t n d) h = (refl, refl)
-
--- also where it is `<=`
-pub le-number : (x y : Float) → le x y ≡ true → (isNan x ≡ false) × (isNan y ≡ false)
-unfolding le lt eq isNan
-le-number nan y h = absurd (false≢true h)
-le-number (inf s) nan h = absurd (false≢true h)
-le-number (inf s) (inf t) h = (refl, refl)
-le-number (inf s) (fin t n d) h = (refl, refl)
-le-number (fin s m e) nan h = absurd (false≢true h)
-le-number (fin s m e) (inf t) h = (refl, refl)
-le-number (fin s m e) (fin t n d) h = (refl, refl)
 
 -- what `x as f64` asks of an f32
 pub wide-cast : (x : Float) → T (fits binary32 x) → isNan x ≡ false → T (fits binary64 x && not (isNan x))

@@ -6,7 +6,7 @@ use native.Mathlib.Nat.{lt-irrefl, le-antisymm, le-trans, le-of-eq, lt-of-le-of-
 use native.Mathlib.Omega.{arith}
 use mathlib.Core.Bool.{Bool, true, false, not, _&&_, cond, false≢true}
 use lib.IntN.{ℤ, pos, negsuc, negℤ, natAbs}
-use lib.Dec.{T, leb, ltb, eqb, leb→le, le→leb, ltb→lt, lt→ltb, eqb→eq, not-T}
+use lib.Dec.{T, leb, ltb, eqb, leb→le, le→leb, eqb→eq, not-T}
 use lib.Pow.{pow-add, pow-pos, pow-mono}
 use lib.Ieee.{Float, nan, inf, fin, Format, binary32, round, sum, sub, lt, le, eq, fits, ofInt}
 use lib.Ieee.Fits.{and-l, and-r, ofInt-fits, fits-widens, and-i, eq→eqb}
@@ -297,10 +297,3 @@ between-num (fin s m e) nan (fin t n d) p q f a b = absurd b
 between-num (fin s m e) (inf true) (fin t n d) p q f a b = absurd a
 between-num (fin s m e) (inf false) (fin t n d) p q f a b = absurd b
 between-num (fin s m e) (fin u l g) (fin t n d) p q f a b = num-of-fits (fin u l g) (fits-widens (fin u l g) f) tt
-
--- at most one, which is below the other
-pub le-lt-trans : (x c y : Float) → Num x → Num c → Num y → T (le x c) → T (lt c y) → T (lt x y)
-le-lt-trans x c y p r q a b = subst T (sym (lt-key x y p q)) (lt→ltb (key x) (key y) (go (leb→le (key x) (key c) (subst T (le-key x c p r) a)) (ltb→lt (key c) (key y) (subst T (lt-key c y r q) b))))
-  where
-    go : key x ≤ key c → key c < key y → key x < key y
-    go a b = omega arith

@@ -8,7 +8,7 @@ use mathlib.Core.Bool.{Bool, true, false, not, _&&_, _||_, cond, Bool·beq, true
 use lib.IntN.{pos}
 use lib.Dec.{T, leb, ltb, eqb, lt→ltb}
 use lib.Pow.{pow-add, pow-pos, pow-mono, shl-lt}
-use lib.Ieee.{Float, nan, inf, fin, Format, binary64, prec, low, up, down, round, sum, add, sub, mul, neg, lt, le, eq, emax, odd, units, isNan}
+use lib.Ieee.{Float, nan, inf, fin, Format, binary64, prec, low, up, down, round, sum, add, sub, mul, neg, lt, le, eq, emax, odd, units}
 use lib.Ieee.Fits.{down-pos, round-is}
 use lib.Ieee.Exact.{HasValue, round-exact, odd-sign}
 use lib.Ieee.Scale.{round-same}
@@ -104,13 +104,6 @@ pub scale-down : (x : Float) (s : Bool) (a c u : ℕ) → 0 < u → HasValue x s
 scale-down nan s a c u p h = absurd h
 scale-down (inf t) s a c u p h = absurd h
 scale-down (fin t m e) s a c u p h = (h .0, eq-of-mul-eq-mul-right u p (m * up e * c) (a * down e) (mul-assoc (m * up e) c u ∙ h .1 ∙ mul-right-comm a u (down e)))
-
--- what has a value is a number
-pub value-no-nan : (x : Float) (s : Bool) (a c : ℕ) → HasValue x s a c → T (not (isNan x))
-unfolding isNan
-value-no-nan nan s a c h = absurd h
-value-no-nan (inf t) s a c h = absurd h
-value-no-nan (fin t m e) s a c h = tt
 
 -- ---- two values that are not negative, over one denominator: they compare as their numerators
 pub lt-value : (x y : Float) (a b c : ℕ) → 0 < c → HasValue x false a c → HasValue y false b c → lt x y ≡ ltb a b

@@ -13,9 +13,8 @@ tell-add-requires c κs = search needs
 header-added-requires : tie.Need-header-added-requires
 header-added-requires c κs = search needs
 
--- how many words are given follows from the array's first ones
 returns : tie.Need-returns
-returns c = λ ws s _. add-does _ _ _ _ _ _ _ _ _ _ (c .before .before .before .add-first .ensures) (c .header-added .ensures) (c .before .tell-add .ensures) ws s
+returns c = add-does _ _ _ _ _ _ _ _ _ _ (c .before .before .before .add-first .ensures) (c .header-added .ensures) (c .before .tell-add .ensures)
 
 pub add-spec : {M : Type 1} → statement M
 add-spec = tie.close (tie.spec add-first-requires tell-add-requires header-added-requires returns)

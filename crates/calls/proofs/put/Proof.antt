@@ -10,9 +10,8 @@ put-first-requires c κs = search needs
 tell-put-requires : tie.Need-tell-put-requires
 tell-put-requires c κs = search needs
 
--- how many coordinates are given follows from the array's first ones
 returns : tie.Need-returns
-returns c = λ a xs e s _. put-does _ _ _ _ _ _ _ _ _ _ (c .before .before .put-first .ensures) (c .tell-put .ensures) a xs e s
+returns c = put-does _ _ _ _ _ _ _ _ _ _ (c .before .before .put-first .ensures) (c .tell-put .ensures)
 
 pub put-spec : {M : Type 1} → statement M
 put-spec = tie.close (tie.spec put-first-requires tell-put-requires returns)

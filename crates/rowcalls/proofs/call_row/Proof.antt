@@ -38,12 +38,12 @@ enum-told c = search needs
 returns : tie.Need-returns
 returns c =
     let s = c .before .before .before .before .before .before .before .before .before .before .before .before .before in
-    λ o e. does-op _ _ _ _ _ _ _ _ _ _ _ (is-put (s .args .row .now) _ (c .before .before .before .before .before .before .before .before .before .before .before .read-row .ensures) o e _ _ (c .before .before .before .before .before .before .before .before .before .index .given .1)) (c .put .ensures _ _ refl (c .before .before .before .before .before .before .first-coordinates .ensures .0) (c .before .before .before .before .before .before .first-coordinates .ensures .1))
+    λ o e. does-op _ _ _ _ _ _ _ _ _ _ _ (is-put (s .args .row .now) _ (c .before .before .before .before .before .before .before .before .before .before .before .read-row .ensures) o e _ _ (c .before .before .before .before .before .before .before .before .before .index .given .1)) (c .put .ensures _ _ refl (c .before .before .before .before .before .before .first-coordinates .ensures .0))
 
 returns-2 : tie.Need-returns-2
 returns-2 c =
     let s = c .before .before .before .before .before .before .before .before .before .before .before .before .before .before .before .before .before .before in
-    λ o e. does-op _ _ _ _ _ _ _ _ _ _ _ (is-add (s .args .row .now) _ (c .before .before .before .before .before .before .before .before .before .before .before .before .before .before .before .before .read-row .ensures) o e _ _ (c .before .before .before .before .before .before .before .before .before .before .before .before .before .before .index2 .given .1)) (c .add .ensures _ (c .before .before .before .before .before .before .before .before .before .before .before .first-words .ensures .0) (c .before .before .before .before .before .before .before .before .before .before .before .first-words .ensures .1))
+    λ o e. does-op _ _ _ _ _ _ _ _ _ _ _ (is-add (s .args .row .now) _ (c .before .before .before .before .before .before .before .before .before .before .before .before .before .before .before .before .read-row .ensures) o e _ _ (c .before .before .before .before .before .before .before .before .before .before .before .before .before .before .index2 .given .1)) (c .add .ensures _ (c .before .before .before .before .before .before .before .before .before .before .before .first-words .ensures .0))
 
 returns-3 : tie.Need-returns-3
 returns-3 c =
