@@ -15,7 +15,7 @@ pub enum PutAnswer {
 }
 
 // The rows of a table with nothing written.
-// Rules out a row too few, and one that is not zero.
+// Rules out a row that is not zero, and minus zeros, which equal zeros but are not them.
 pub fn no_points() -> [[f32; 8]; 1024]
     ensures { λ r. ⌜ r ≡ replicate 1024 noEnds ⌝ }
 {
@@ -23,7 +23,7 @@ pub fn no_points() -> [[f32; 8]; 1024]
 }
 
 // Its marks.
-// Rules out a mark too few, and one that is set.
+// Rules out a mark that is set, at the first index or the last.
 pub fn no_marks() -> [u8; 1024]
     ensures { λ r. ⌜ r ≡ replicate 1024 0 ⌝ }
 {
