@@ -1,15 +1,18 @@
 // The boxes of a random cut tree: their ends, growing, the sum of their sides, and what lies inside. After boundingbox.rs, and `check_strictly_contains` of nodestore.rs.
+use limits::CHANNELS;
+use limits::Row;
 ghost use mathlib.Core.Path.{_≡_};
 ghost use mathlib.Core.Bool.{_&&_, _||_};
 ghost use Prim.Native.Nat.{min};
+ghost use Rattle.limits.specs.Limits.{width};
 ghost use Rattle.boundingbox.specs.Ends.{least, greatest, joined};
 ghost use Rattle.boundingbox.specs.Sides.{gapOf, rangeSum};
 ghost use Rattle.boundingbox.specs.Contained.{stays, contains, inside, strictlyContains};
 
 // A box: its lower and its upper end in each channel. Channels from the tree's number on hold +0.0.
 pub struct BoundingBox {
-    pub min_values: [f32; 8],
-    pub max_values: [f32; 8],
+    pub min_values: Row,
+    pub max_values: Row,
 }
 
 // A box that was grown, and whether it held before what it was grown by: whether no end moved.
@@ -19,11 +22,9 @@ pub struct Grown {
 }
 
 impl BoundingBox {
-    pub const CHANNELS: usize = 8;
-
     // The smallest box around two points; that of one point is `new(p, p)`.
     // Rules out ends kept from the first point alone, and the two lists of ends swapped.
-    pub fn new(first_values: &[f32; 8], second_values: &[f32; 8]) -> Self
+    pub fn new(first_values: &Row, second_values: &Row) -> Self
         ensures lower { λ r. ⌜ r .«min_values» ≡ joined least (now («first_values» .entry)) (now («second_values» .entry)) ⌝ }
         ensures upper { λ r. ⌜ r .«max_values» ≡ joined greatest (now («second_values» .entry)) (now («first_values» .entry)) ⌝ }
     {
@@ -37,10 +38,10 @@ impl BoundingBox {
 
     // The box grown by a point.
     // Rules out an answer of false for a point on a face, and a box left as it was by a point outside.
-    pub fn check_contains_and_add_point(self, values: &[f32; 8]) -> Grown
+    pub fn check_contains_and_add_point(self, values: &Row) -> Grown
         ensures lower { λ r. ⌜ r .«bounding_box» .«min_values» ≡ joined least (self .«min_values») (now (values .entry)) ⌝ }
         ensures upper { λ r. ⌜ r .«bounding_box» .«max_values» ≡ joined greatest (self .«max_values») (now (values .entry)) ⌝ }
-        ensures held { λ r. ⌜ r .contained ≡ contains (self .«min_values») (self .«max_values») (now (values .entry)) (now (values .entry)) 8 ⌝ }
+        ensures held { λ r. ⌜ r .contained ≡ contains (self .«min_values») (self .«max_values») (now (values .entry)) (now (values .entry)) width ⌝ }
     {
         self.add_two_arrays(values, values)
     }
@@ -50,7 +51,7 @@ impl BoundingBox {
     pub fn add_box(self, x: BoundingBox) -> Grown
         ensures lower { λ r. ⌜ r .«bounding_box» .«min_values» ≡ joined least (self .«min_values») (x .«min_values») ⌝ }
         ensures upper { λ r. ⌜ r .«bounding_box» .«max_values» ≡ joined greatest (self .«max_values») (x .«max_values») ⌝ }
-        ensures held { λ r. ⌜ r .contained ≡ contains (self .«min_values») (self .«max_values») (x .«min_values») (x .«max_values») 8 ⌝ }
+        ensures held { λ r. ⌜ r .contained ≡ contains (self .«min_values») (self .«max_values») (x .«min_values») (x .«max_values») width ⌝ }
     {
         let minvalues = x.min_values;
         let maxvalues = x.max_values;
@@ -59,10 +60,10 @@ impl BoundingBox {
 
     // The box grown by lower and upper ends.
     // Rules out an end that moves inward, and an answer from rounded range sums, which a small side beside a large one leaves as they were.
-    pub fn add_two_arrays(self, minvalues: &[f32; 8], maxvalues: &[f32; 8]) -> Grown
+    pub fn add_two_arrays(self, minvalues: &Row, maxvalues: &Row) -> Grown
         ensures lower { λ r. ⌜ r .«bounding_box» .«min_values» ≡ joined least (self .«min_values») (now (minvalues .entry)) ⌝ }
         ensures upper { λ r. ⌜ r .«bounding_box» .«max_values» ≡ joined greatest (self .«max_values») (now (maxvalues .entry)) ⌝ }
-        ensures held { λ r. ⌜ r .contained ≡ contains (self .«min_values») (self .«max_values») (now (minvalues .entry)) (now (maxvalues .entry)) 8 ⌝ }
+        ensures held { λ r. ⌜ r .contained ≡ contains (self .«min_values») (self .«max_values») (now (minvalues .entry)) (now (maxvalues .entry)) width ⌝ }
     {
         let contained = self.unmoved(minvalues, maxvalues);
         let lower = self.min_values;
@@ -80,14 +81,14 @@ impl BoundingBox {
     }
 
     // Whether growing by `minvalues` and `maxvalues` moves no end. No turn leaves the loop, so that the channels are tested side by side.
-    fn unmoved(self, minvalues: &[f32; 8], maxvalues: &[f32; 8]) -> bool
-        ensures { λ r. ⌜ r ≡ contains (self .«min_values») (self .«max_values») (now (minvalues .entry)) (now (maxvalues .entry)) 8 ⌝ }
+    fn unmoved(self, minvalues: &Row, maxvalues: &Row) -> bool
+        ensures { λ r. ⌜ r ≡ contains (self .«min_values») (self .«max_values») (now (minvalues .entry)) (now (maxvalues .entry)) width ⌝ }
     {
         let lower = self.min_values;
         let upper = self.max_values;
         let mut held = true;
         let mut i: usize = 0;
-        while i < Self::CHANNELS {
+        while i < CHANNELS {
             held = and_stays(held, lower[i], upper[i], minvalues[i], maxvalues[i]);
             i += 1;
         }
@@ -96,8 +97,8 @@ impl BoundingBox {
 
     // Whether the point lies in the box, its faces with it.
     // Rules out a point on a face taken for outside, and a channel left out.
-    pub fn contains(self, point: &[f32; 8]) -> bool
-        ensures { λ r. ⌜ r ≡ contains (self .«min_values») (self .«max_values») (now (point .entry)) (now (point .entry)) 8 ⌝ }
+    pub fn contains(self, point: &Row) -> bool
+        ensures { λ r. ⌜ r ≡ contains (self .«min_values») (self .«max_values») (now (point .entry)) (now (point .entry)) width ⌝ }
     {
         self.unmoved(point, point)
     }
@@ -105,13 +106,13 @@ impl BoundingBox {
     // The sum of the sides, in channel order.
     // Rules out a sum over one channel fewer, and one added up in another order, which rounds otherwise.
     pub fn get_range_sum(self) -> f64
-        ensures { λ r. ⌜ r ≡ rangeSum (self .«min_values») (self .«max_values») 8 ⌝ }
+        ensures { λ r. ⌜ r ≡ rangeSum (self .«min_values») (self .«max_values») width ⌝ }
     {
         let lower = self.min_values;
         let upper = self.max_values;
         let mut sum: f64 = 0.0;
         let mut channel: usize = 0;
-        while channel < Self::CHANNELS {
+        while channel < CHANNELS {
             sum = sum + gap(lower[channel], upper[channel]);
             channel += 1;
         }
@@ -120,14 +121,14 @@ impl BoundingBox {
 
     // Whether the point lies strictly inside in each of the first `dimensions` channels: in padding nothing does. No turn leaves the loop, as in `unmoved`.
     // Rules out a point on a face taken for inside, and padding counted as a channel.
-    pub fn strictly_contains(self, point: &[f32; 8], dimensions: usize) -> bool
-        ensures { λ r. ⌜ r ≡ strictlyContains (self .«min_values») (self .«max_values») (now (point .entry)) (min dimensions 8) ⌝ }
+    pub fn strictly_contains(self, point: &Row, dimensions: usize) -> bool
+        ensures { λ r. ⌜ r ≡ strictlyContains (self .«min_values») (self .«max_values») (now (point .entry)) (min dimensions width) ⌝ }
     {
         let lower = self.min_values;
         let upper = self.max_values;
         let mut held = true;
         let mut i: usize = 0;
-        while i < Self::CHANNELS {
+        while i < CHANNELS {
             held = and_inside(held, dimensions <= i, lower[i], upper[i], point[i]);
             i += 1;
         }
@@ -163,12 +164,12 @@ pub fn greatest_of(x: f32, y: f32) -> f32
 }
 
 // Lower ends moved down to `values`.
-fn lowered(ends: [f32; 8], values: &[f32; 8]) -> [f32; 8]
+fn lowered(ends: Row, values: &Row) -> Row
     ensures { λ r. ⌜ r ≡ joined least ends (now (values .entry)) ⌝ }
 {
     let mut moved = ends;
     let mut i: usize = 0;
-    while i < BoundingBox::CHANNELS {
+    while i < CHANNELS {
         moved[i] = least_of(moved[i], values[i]);
         i += 1;
     }
@@ -176,12 +177,12 @@ fn lowered(ends: [f32; 8], values: &[f32; 8]) -> [f32; 8]
 }
 
 // Upper ends moved up to `values`.
-fn raised(ends: [f32; 8], values: &[f32; 8]) -> [f32; 8]
+fn raised(ends: Row, values: &Row) -> Row
     ensures { λ r. ⌜ r ≡ joined greatest ends (now (values .entry)) ⌝ }
 {
     let mut moved = ends;
     let mut i: usize = 0;
-    while i < BoundingBox::CHANNELS {
+    while i < CHANNELS {
         moved[i] = greatest_of(moved[i], values[i]);
         i += 1;
     }

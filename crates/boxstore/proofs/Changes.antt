@@ -9,6 +9,7 @@ use lib.Dec.{ltb}
 use lib.ListN.{getD}
 use borrow.Author.Tests.{ltb-true, ltb-false}
 use lib.Ieee.{Float, nan}
+use Rattle.limits.specs.Limits.{width, branchLimit}
 use Rattle.boundingbox.specs.Ends.{channel, joined}
 use Rattle.cuttree.specs.Setting.{below}
 use Rattle.cuttree.specs.Tree.{Tree, branch, height, end}
@@ -61,9 +62,9 @@ module _ (d c : ℕ) (p : Reading) where
     new-at h s o m a e = ap (λ x. cond (ltb (at d c t p m) k) x noEnds) (slot-above d c f noEnds h m p s t o a e)
 
     -- a turn: the row of height n + 1 written, if its branch is cached
-    pub partly-turn : k ≤ 255 → Once d c t → (h : ℕ) (s : Tree (whole d)) → Once d c (replace (whole d) t h p s) → (rows : List (List Float)) (row : List Float) (n : ℕ) → h ≤ n → suc n ≤ height (whole d) t p
+    pub partly-turn : k ≤ branchLimit → Once d c t → (h : ℕ) (s : Tree (whole d)) → Once d c (replace (whole d) t h p s) → (rows : List (List Float)) (row : List Float) (n : ℕ) → h ≤ n → suc n ≤ height (whole d) t p
         → Partly d c k f t (replace (whole d) t h p s) p rows n
-        → (ltb (at d c t p (suc n)) k ≡ true → at d c t p (suc n) < 255 → row ≡ f (replace (whole d) (sub (whole d) t (suc n) p) h p s))
+        → (ltb (at d c t p (suc n)) k ≡ true → at d c t p (suc n) < branchLimit → row ≡ f (replace (whole d) (sub (whole d) t (suc n) p) h p s))
         → Partly d c k f t (replace (whole d) t h p s) p (written k (at d c t p (suc n)) row rows) (suc n)
     partly-turn few o h s o′ rows row n a l P is =
         partly-next d c k f t (replace (whole d) t h p s) p o rows (written k i row rows) n l P (written-length k i row rows ∙ P .size)
@@ -95,7 +96,7 @@ module _ (d c : ℕ) (p : Reading) where
 
     -- ---- a box that holds the point
     abbrev pub Still : Tree (whole d) → Type 0
-    Still t = (i : ℕ) → i < 8 → m (end (whole d) m t i) (coordinate p i) ≡ end (whole d) m t i
+    Still t = (i : ℕ) → i < width → m (end (whole d) m t i) (coordinate p i) ≡ end (whole d) m t i
 
     pub still-up : (t : Tree (whole d)) (e n : ℕ) → e + n ≤ height (whole d) t p → Still (sub (whole d) t n p) → Still (sub (whole d) t (e + n) p)
     still-up t zero n h S = let z : 0 + n ≡ n = omega arith in rw z S
@@ -110,4 +111,4 @@ module _ (d c : ℕ) (p : Reading) where
       pub still-is : (t : Tree (whole d)) → joined j (endsOf t) (p .row) ≡ endsOf t → Still t
       still-is t e i l =
           same-number _ _
-          (sym (tab-at 8 (λ (i : ℕ). m (end (whole d) m t i) (coordinate p i) .value) i nan l) ∙ ap (λ (x : List Float). channel x i) (sym (joined-row t) ∙ e) ∙ tab-at 8 (λ (i : ℕ). end (whole d) m t i .value) i nan l)
+          (sym (tab-at width (λ (i : ℕ). m (end (whole d) m t i) (coordinate p i) .value) i nan l) ∙ ap (λ (x : List Float). channel x i) (sym (joined-row t) ∙ e) ∙ tab-at width (λ (i : ℕ). end (whole d) m t i .value) i nan l)

@@ -11,6 +11,7 @@ use lib.Ieee.{Float}
 use lib.Ieee.Fits.{and-l, and-r}
 use lib.Ieee.Bits.{is-true}
 use borrow.Author.Tests.{ltb-true}
+use Rattle.limits.specs.Limits.{width, branchLimit}
 use Rattle.readings.proofs.Tests.{yes}
 use Rattle.readings.proofs.Keys.{key, lt-key, le-key}
 use Rattle.boundingbox.specs.Ends.{joined, least as leastFloat, greatest as greatestFloat}
@@ -43,10 +44,10 @@ one-number : (x y : Float) → T (isNumber x) → T (isNumber y) → key x ≡ k
 one-number x y p q e = ap (λ (a : Number). a .value) (same-key (record { value = x; is-number = p }) (record { value = y; is-number = q }) e)
 
 module _ (d c : ℕ) (p : Reading) (u : Tree (whole d)) where
-  pub held-still : contains (lowOf d c u) (highOf d c u) (p .row) (p .row) 8 ≡ true → Still d c p (least-end d) u × Still d c p (most-end d) u
+  pub held-still : contains (lowOf d c u) (highOf d c u) (p .row) (p .row) width ≡ true → Still d c p (least-end d) u × Still d c p (most-end d) u
   held-still e =
-      let w = contains-unchanged (λ x. T (isNumber x)) key by-number one-number (lowOf d c u) (highOf d c u) (p .row) (p .row) 8 (tab-length 8 _) (tab-length 8 _)
-      (λ i h. subst (λ x. T (isNumber x)) (sym (tab-at 8 _ i _ h)) (lo (whole d) u i .is-number))
+      let w = contains-unchanged (λ x. T (isNumber x)) key by-number one-number (lowOf d c u) (highOf d c u) (p .row) (p .row) width (tab-length width _) (tab-length width _)
+      (λ i h. subst (λ x. T (isNumber x)) (sym (tab-at width _ i _ h)) (lo (whole d) u i .is-number))
       (λ i h. subst (λ x. T (isNumber x)) (coordinate-is p i h) (coordinate p i .is-number)) (yes e) in
       (still-is d c p (least-end d) leastFloat (least-ends d) u (w .0), still-is d c p (most-end d) greatestFloat (most-ends d) u (w .1))
 
@@ -61,13 +62,13 @@ module _ (k n : ℕ) (path : List (List ℕ)) (point : List Float) (lows highs :
   Climbed L H r = (d c : ℕ) (t : Tree (whole d)) (p : Reading) (b i h : ℕ) (cut : Cut (whole d)) → Walked d c path point t p → Grafted d c k n lows highs t p b i h cut
       → Partly d c k (lowOf d c) t (graft (whole d) b i p (h, cut) t) p L (height (whole d) t p - r) × Partly d c k (highOf d c) t (graft (whole d) b i p (h, cut) t) p H (height (whole d) t p - r)
 
-  pub climb-start : k ≤ 255 → Climbed lows highs n
+  pub climb-start : k ≤ branchLimit → Climbed lows highs n
   climb-start few d c t p b i h cut W G =
       let z : height (whole d) t p - n ≡ h = omega (arith, G .above-it) in
       let e : h ≤ height (whole d) t p = omega (arith, G .above-it) in
       rw (z, G .low, G .high) (graft-start d c t p (W .once) b i h cut e (G .fresh) k few (lowOf d c), graft-start d c t p (W .once) b i h cut e (G .fresh) k few (highOf d c))
 
-  module _ (few : k ≤ 255) (r : ℕ) (some : 0 < r) (below : r ≤ n) (L H L′ H′ : List (List Float)) (index : ℕ) (is : index ≡ getD (getD path (r - 1) []) 0 0)
+  module _ (few : k ≤ branchLimit) (r : ℕ) (some : 0 < r) (below : r ≤ n) (L H L′ H′ : List (List Float)) (index : ℕ) (is : index ≡ getD (getD path (r - 1) []) 0 0)
       (low : L′ ≡ written k index (joined leastFloat (getD L index []) point) L) (high : H′ ≡ written k index (joined greatestFloat (getD H index []) point) H) (C : Climbed L H (r)) where
     pub climb-turn : Climbed L′ H′ (r - 1)
     climb-turn d c t p b i h cut W G =
@@ -81,18 +82,18 @@ module _ (k n : ℕ) (path : List (List ℕ)) (point : List Float) (lows highs :
           graft-turn d c t p (W .once) b i h cut e (G .fresh) k few (most-end d) greatestFloat (most-ends d) H (height (whole d) t p - r) a l (P .1),
         )
 
-    pub climb-stop : (answer : Bool) → answer ≡ (ltb index k && contains (getD L index []) (getD H index []) point point 8) → answer ≡ true → GrownAbove k n path point lows highs L′ H′
+    pub climb-stop : (answer : Bool) → answer ≡ (ltb index k && contains (getD L index []) (getD H index []) point point width) → answer ≡ true → GrownAbove k n path point lows highs L′ H′
     climb-stop answer says stopped d c t p b i h cut W G =
         let held = sym says ∙ stopped in
         let N = height (whole d) t p in
         let e : h ≤ N = omega (arith, G .above-it) in
         let l : N - (r - 1) ≤ N = omega arith in
         let j : index ≡ at d c t p (N - (r - 1)) = is ∙ index-is path point (r - 1) d c t p W (omega (arith, G .above-it)) in
-        let cached : ltb index k ≡ true = is-true (ltb index k) (and-l (ltb index k) (contains (getD L index []) (getD H index []) point point 8) (yes held)) in
-        let inside : contains (getD L index []) (getD H index []) point point 8 ≡ true = is-true _ (and-r (ltb index k) (contains (getD L index []) (getD H index []) point point 8) (yes held)) in
+        let cached : ltb index k ≡ true = is-true (ltb index k) (and-l (ltb index k) (contains (getD L index []) (getD H index []) point point width) (yes held)) in
+        let inside : contains (getD L index []) (getD H index []) point point width ≡ true = is-true _ (and-r (ltb index k) (contains (getD L index []) (getD H index []) point point width) (yes held)) in
         let P = C d c t p b i h cut W G in
         let Q = climb-turn d c t p b i h cut W G in
-        let s : at d c t p (N - (r - 1)) < 255 = subst (λ x. x < 255) j (omega (arith, ltb-true index k cached)) in
+        let s : at d c t p (N - (r - 1)) < branchLimit = subst (λ x. x < branchLimit) j (omega (arith, ltb-true index k cached)) in
         let x : ltb (at d c t p (N - (r - 1))) k ≡ true = subst (λ x. ltb x k ≡ true) j cached in
         let u = sub (whole d) t (N - (r - 1)) p in
         let low′ : getD L index [] ≡ lowOf d c u = ap (λ y. getD L y []) j ∙ P .0 .todo (N - (r - 1)) (omega (arith, G .above-it)) l s ∙ old-at d c p k (lowOf d c) t (W .once) (N - (r - 1)) (omega (arith, G .above-it)) l ∙ cond-true _ _ _ x in

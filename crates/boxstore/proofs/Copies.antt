@@ -7,6 +7,7 @@ use Prim.Native.Nat.{ℕ, _-_, _≤_, _<_}
 use native.Mathlib.Omega.{arith}
 use lib.Dec.{ltb}
 use lib.Ieee.{Float}
+use Rattle.limits.specs.Limits.{width, branchLimit}
 use Rattle.cuttree.specs.Tree.{Tree, is, ending, height, end, addCopy, forget}
 use Rattle.cuttree.specs.Walk.{sub, replace}
 use Rattle.cuttree.proofs.Orders.{End}
@@ -45,21 +46,21 @@ module _ (d c k : ℕ) (t : Tree (whole d)) (p : Reading) (o : Once d c t) where
       same g a l =
           let u = sub (whole d) t g p in
           let back : replace (whole d) u 0 p (sub (whole d) t 0 p) ≡ u = ap (replace (whole d) u 0 p) (sym (sub-sub (whole d) 0 g p (omega arith) t l)) ∙ replace-same d c p 0 u (omega arith) in
-          tab-same 8 _ _ (λ i _. ap (λ (x : Number). x .value)
+          tab-same width _ _ (λ i _. ap (λ (x : Number). x .value)
           (sym (end-replaced d c p E 0 i (λ x. x) (λ x y. refl) copied (sub (whole d) t 0 p) (sym (ap (λ x. end (whole d) m x i) (sub-leaf (whole d) p t))) u (omega arith) ∙ ap (λ x. end (whole d) m x i) back)))
 
-      start : Partly d c k f t (replace (whole d) t 0 p copied) p (tab 255 (boxIn d c k f (some t))) 0
+      start : Partly d c k f t (replace (whole d) t 0 p copied) p (tab branchLimit (boxIn d c k f (some t))) 0
       start = record {
-        size = tab-length 255 (boxIn d c k f (some t));
-        todo = λ g a l s. tab-at 255 (boxIn d c k f (some t)) (at d c t p g) [] s;
-        done = λ j s none. tab-at 255 (boxIn d c k f (some t)) j [] s
+        size = tab-length branchLimit (boxIn d c k f (some t));
+        todo = λ g a l s. tab-at branchLimit (boxIn d c k f (some t)) (at d c t p g) [] s;
+        done = λ j s none. tab-at branchLimit (boxIn d c k f (some t)) j [] s
             ∙ ap (λ x. cond (ltb j k) x noEnds) (sym (slot-other d c f noEnds 0 p copied j refl t (omega arith) (none-above d c 0 p j t (omega arith) none) (leaf-uses j)));
       }
 
-      copied-rows : tab 255 (boxIn d c k f (some (replace (whole d) t 0 p copied))) ≡ tab 255 (boxIn d c k f (some t))
+      copied-rows : tab branchLimit (boxIn d c k f (some (replace (whole d) t 0 p copied))) ≡ tab branchLimit (boxIn d c k f (some t))
       copied-rows =
-          sym (partly-all d c k f t (replace (whole d) t 0 p copied) p o (tab 255 (boxIn d c k f (some t))) (height (whole d) t p) (omega arith)
-          (partly-rest d c k f t (replace (whole d) t 0 p copied) p o (tab 255 (boxIn d c k f (some t))) (height (whole d) t p) 0 (omega arith) start
+          sym (partly-all d c k f t (replace (whole d) t 0 p copied) p o (tab branchLimit (boxIn d c k f (some t))) (height (whole d) t p) (omega arith)
+          (partly-rest d c k f t (replace (whole d) t 0 p copied) p o (tab branchLimit (boxIn d c k f (some t))) (height (whole d) t p) 0 (omega arith) start
           (λ g a l. old-at d c p k f t o g a l ∙ ap (λ x. cond (ltb (at d c t p g) k) x noEnds) (same g a l) ∙ sym (new-at d c p k f t 0 copied copied-once g a l))))
 
   pub copy-boxes : (lowsOf d c k (addCopy (whole d) p t) ≡ lowsOf d c k t) × (highsOf d c k (addCopy (whole d) p t) ≡ highsOf d c k t)

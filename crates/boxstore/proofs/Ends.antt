@@ -4,6 +4,7 @@ use mathlib.Core.Bool.{Bool, true, false, not, cond}
 use mathlib.Core.List.{List, _∷_}
 use Prim.Native.Nat.{ℕ, zero, suc, _<_}
 use lib.Ieee.{Float, nan, le}
+use Rattle.limits.specs.Limits.{width}
 use Rattle.boundingbox.specs.Ends.{joined, least as leastFloat, greatest as greatestFloat}
 use Rattle.cuttree.specs.Tree.{least, most}
 use Rattle.cuttree.proofs.Tests.{clash}
@@ -54,11 +55,11 @@ module _ (d : ℕ) where
       go false false p q = clash (le (b .value) (a .value)) (le-total a b p) q
 
   pub least-ends : (f g : ℕ → Number) → joined leastFloat (ends f) (ends g) ≡ ends (λ (i : ℕ). least (whole d) (f i) (g i))
-  least-ends f g = joined-tab leastFloat 8 (λ (i : ℕ). f i .value) (λ (i : ℕ). g i .value) ∙ tab-same 8 _ _ (λ i _. least-value (f i) (g i))
+  least-ends f g = joined-tab leastFloat width (λ (i : ℕ). f i .value) (λ (i : ℕ). g i .value) ∙ tab-same width _ _ (λ i _. least-value (f i) (g i))
 
   pub most-ends : (f g : ℕ → Number) → joined greatestFloat (ends f) (ends g) ≡ ends (λ (i : ℕ). most (whole d) (f i) (g i))
-  most-ends f g = joined-tab greatestFloat 8 (λ (i : ℕ). f i .value) (λ (i : ℕ). g i .value) ∙ tab-same 8 _ _ (λ i _. most-value (f i) (g i))
+  most-ends f g = joined-tab greatestFloat width (λ (i : ℕ). f i .value) (λ (i : ℕ). g i .value) ∙ tab-same width _ _ (λ i _. most-value (f i) (g i))
 
 -- a reading's row is its coordinates
 pub row-ends : (p : Reading) → p .row ≡ ends (coordinate p)
-row-ends p = is-tab nan 8 (λ (i : ℕ). coordinate p i .value) (p .row) (row-length p) (λ i l. sym (coordinate-is p i l))
+row-ends p = is-tab nan width (λ (i : ℕ). coordinate p i .value) (p .row) (row-length p) (λ i l. sym (coordinate-is p i l))

@@ -9,6 +9,7 @@ use lib.Dec.{eqb, ltb}
 use lib.ListN.{length, getD}
 use lib.Ieee.{Float}
 use borrow.Author.Tests.{eqb-true, eqb-false, ne-eqb, ltb-true, ltb-false}
+use Rattle.limits.specs.Limits.{width, branchLimit}
 use Rattle.cuttree.specs.Tree.{Tree, is, height, ending, found, end}
 use Rattle.cuttree.specs.Walk.{sub, sibling, replace}
 use Rattle.cuttree.proofs.Tests.{by-test, cond-false}
@@ -50,15 +51,15 @@ module _ (d c : ℕ) (t : Tree (whole d)) (p : Reading) (o : Once d c t) (e : 1 
   pub forget-once : Once d c after
   forget-once j = omega (arith, after-uses j, o j)
 
-  module _ (k : ℕ) (few : k ≤ 255) (f : Tree (whole d) → List Float) where
+  module _ (k : ℕ) (few : k ≤ branchLimit) (f : Tree (whole d) → List Float) where
     -- before the first turn: the tree's boxes, without the parent's
-    pub forget-start : Partly d c k f t after p (written k (at d c t p 1) noEnds (tab 255 (boxIn d c k f (some t)))) 1
+    pub forget-start : Partly d c k f t after p (written k (at d c t p 1) noEnds (tab branchLimit (boxIn d c k f (some t)))) 1
     forget-start = record {
       size = written-length k i noEnds rows ∙ long;
-      todo = λ n a l s. written-there k i noEnds rows (at d c t p n) (at-apart d c 1 n t p (omega arith) a l o) ∙ tab-at 255 (boxIn d c k f (some t)) (at d c t p n) [] s;
+      todo = λ n a l s. written-there k i noEnds rows (at d c t p n) (at-apart d c 1 n t p (omega arith) a l o) ∙ tab-at branchLimit (boxIn d c k f (some t)) (at d c t p n) [] s;
       done = λ j s none. by-test (eqb i j)
-          (λ x. subst (λ n. n < 255 → getD (written k i noEnds rows) n [] ≡ boxIn d c k f (some after) n) (eqb-true i j x) cleared s)
-          (λ x. let n = eqb-false i j x in written-there k i noEnds rows j n ∙ tab-at 255 (boxIn d c k f (some t)) j [] s
+          (λ x. subst (λ n. n < branchLimit → getD (written k i noEnds rows) n [] ≡ boxIn d c k f (some after) n) (eqb-true i j x) cleared s)
+          (λ x. let n = eqb-false i j x in written-there k i noEnds rows j n ∙ tab-at branchLimit (boxIn d c k f (some t)) j [] s
           ∙ ap (λ x. cond (ltb j k) x noEnds) (sym (slot-kept d c f noEnds 1 p rest t rest j o forget-once e (in-sibling d p t e) here (none-above d c 1 p j t e none) (λ z. (sym (other j n) ∙ z, z)))));
     }
       where
@@ -66,10 +67,10 @@ module _ (d c : ℕ) (t : Tree (whole d)) (p : Reading) (o : Once d c t) (e : 1 
         i = at d c t p 1
 
         rows : List (List Float)
-        rows = tab 255 (boxIn d c k f (some t))
+        rows = tab branchLimit (boxIn d c k f (some t))
 
-        long : length rows ≡ 255
-        long = tab-length 255 (boxIn d c k f (some t))
+        long : length rows ≡ branchLimit
+        long = tab-length branchLimit (boxIn d c k f (some t))
 
         other : (j : ℕ) → (i ≡ j → ⊥) → uses d c rest j ≡ uses d c (sub (whole d) t 1 p) j
         other j n = let z : is i j ≡ 0 = rw (ne-eqb i j n) in omega (arith, parent-uses j)
@@ -77,10 +78,10 @@ module _ (d c : ℕ) (t : Tree (whole d)) (p : Reading) (o : Once d c t) (e : 1 
         gone : boxIn d c k f (some after) i ≡ noEnds
         gone = by-test (ltb i k) (λ x. rw x (slot-none d c f noEnds after i (omega (arith, after-uses i, o i, is-same i)))) (λ x. rw x)
 
-        cleared : i < 255 → getD (written k i noEnds rows) i [] ≡ boxIn d c k f (some after) i
+        cleared : i < branchLimit → getD (written k i noEnds rows) i [] ≡ boxIn d c k f (some after) i
         cleared s = by-test (ltb i k)
             (λ x. written-here k i noEnds rows (ltb-true i k x) (omega (arith, long)) ∙ sym gone)
-            (λ x. ap (λ l. getD l i []) (written-other k i noEnds rows (ltb-false i k x)) ∙ tab-at 255 (boxIn d c k f (some t)) i [] s ∙ cond-false _ _ _ x ∙ sym gone)
+            (λ x. ap (λ l. getD l i []) (written-other k i noEnds rows (ltb-false i k x)) ∙ tab-at branchLimit (boxIn d c k f (some t)) i [] s ∙ cond-false _ _ _ x ∙ sym gone)
 
   module _ {m : Number → Number → Number} {to : Number → Number → Bool} (E : End (whole d) m to) where
     -- a box above and the same without the point
@@ -106,7 +107,7 @@ module _ (d c : ℕ) (t : Tree (whole d)) (p : Reading) (o : Once d c t) (e : 1 
         sym (end-before-it (whole d) E (end (whole d) m (without n) i) (coordinate p i) (rw z at h)) ∙ sym z
 
     abbrev pub Same : ℕ → Type 0
-    Same n = (i : ℕ) → i < 8 → end (whole d) m (without n) i ≡ end (whole d) m (sub (whole d) t n p) i
+    Same n = (i : ℕ) → i < width → end (whole d) m (without n) i ≡ end (whole d) m (sub (whole d) t n p) i
 
     -- so are those above
     same-up : (n g : ℕ) → 1 ≤ n → n ≤ g → g ≤ height (whole d) t p → Same n → Same g
@@ -126,5 +127,5 @@ module _ (d c : ℕ) (t : Tree (whole d)) (p : Reading) (o : Once d c t) (e : 1 
       pub forget-stop : (rows : List (List Float)) (n : ℕ) → 1 ≤ n → suc n ≤ height (whole d) t p → Partly d c k f t after p rows n → Same (suc n) → Partly d c k f t after p rows (height (whole d) t p)
       forget-stop rows n a l P S = partly-rest d c k f t after p o rows (height (whole d) t p - n) n (omega arith) P
           (λ g b q. old-at d c p k f t o g (omega arith) q
-          ∙ ap (λ x. cond (ltb (at d c t p g) k) x noEnds) (tab-same 8 _ _ (λ i r. ap (λ (x : Number). x .value) (sym (same-up (suc n) g (omega arith) b q S i r))))
+          ∙ ap (λ x. cond (ltb (at d c t p g) k) x noEnds) (tab-same width _ _ (λ i r. ap (λ (x : Number). x .value) (sym (same-up (suc n) g (omega arith) b q S i r))))
           ∙ sym (new-at d c p k f t 1 rest forget-once g (omega arith) q))

@@ -9,6 +9,7 @@ use lib.Dec.{eqb, ltb}
 use lib.ListN.{length, getD}
 use lib.Ieee.{Float}
 use borrow.Author.Tests.{eqb-true, eqb-false, ne-eqb, ltb-true, ltb-false}
+use Rattle.limits.specs.Limits.{width, branchLimit}
 use Rattle.boundingbox.specs.Ends.{joined}
 use Rattle.cuttree.specs.Setting.{Cut, below}
 use Rattle.cuttree.specs.Tree.{Tree, id, is, height, end, above}
@@ -39,7 +40,7 @@ use Rattle.boxstore.proofs.Changes.{replace-same, old-at, new-at, partl
 module _ (d c : ℕ) {m : Number → Number → Number} {to : Number → Number → Bool} (E : End (whole d) m to) (b i : ℕ) (cut : Cut (whole d)) (p : Reading) (u : Tree (whole d)) where
   pub box-above : (j : Float → Float → Float) → ((f g : ℕ → Number) → joined j (ends f) (ends g) ≡ ends (λ (i : ℕ). m (f i) (g i)))
       → joined j (ends (λ (i : ℕ). end (whole d) m u i)) (p .row) ≡ ends (λ (n : ℕ). end (whole d) m (above (whole d) b cut i p u) n)
-  box-above j J = joined-row d c p E j J u ∙ tab-same 8 _ _ (λ n _. ap (λ (x : Number). x .value) (sym (end-above (whole d) E b cut i p u n)))
+  box-above j J = joined-row d c p E j J u ∙ tab-same width _ _ (λ n _. ap (λ (x : Number). x .value) (sym (end-above (whole d) E b cut i p u n)))
 
 -- ---- the tree before, p's walk in it, and the new branch above the walk's node of height h
 module _ (d c : ℕ) (t : Tree (whole d)) (p : Reading) (o : Once d c t) (b i h : ℕ) (cut : Cut (whole d)) (e : h ≤ height (whole d) t p) (fresh : uses d c t b ≡ 0) where
@@ -73,33 +74,33 @@ module _ (d c : ℕ) (t : Tree (whole d)) (p : Reading) (o : Once d c t) (b i h 
   apart : (n : ℕ) → 0 < n → n ≤ height (whole d) t p → b ≡ at d c t p n → ⊥
   apart n a l z = omega (arith, fresh, ap (uses d c t) z, upper-at d c 0 n p a t l, upper-uses d c 0 p (at d c t p n) t (omega arith))
 
-  module _ (k : ℕ) (few : k ≤ 255) (f : Tree (whole d) → List Float) where
+  module _ (k : ℕ) (few : k ≤ branchLimit) (f : Tree (whole d) → List Float) where
     -- before the first turn: the tree's boxes, and the new branch's
-    pub graft-start : Partly d c k f t after p (written k b (f new) (tab 255 (boxIn d c k f (some t)))) h
+    pub graft-start : Partly d c k f t after p (written k b (f new) (tab branchLimit (boxIn d c k f (some t)))) h
     graft-start = record {
-      size = written-length k b (f new) rows ∙ tab-length 255 (boxIn d c k f (some t));
-      todo = λ n a l s. written-there k b (f new) rows (at d c t p n) (apart n (omega arith) l) ∙ tab-at 255 (boxIn d c k f (some t)) (at d c t p n) [] s;
+      size = written-length k b (f new) rows ∙ tab-length branchLimit (boxIn d c k f (some t));
+      todo = λ n a l s. written-there k b (f new) rows (at d c t p n) (apart n (omega arith) l) ∙ tab-at branchLimit (boxIn d c k f (some t)) (at d c t p n) [] s;
       done = λ j s none. by-test (eqb b j)
-          (λ x. subst (λ n. n < 255 → getD (written k b (f new) rows) n [] ≡ boxIn d c k f (some after) n) (eqb-true b j x) added s)
-          (λ x. written-there k b (f new) rows j (eqb-false b j x) ∙ tab-at 255 (boxIn d c k f (some t)) j [] s
+          (λ x. subst (λ n. n < branchLimit → getD (written k b (f new) rows) n [] ≡ boxIn d c k f (some after) n) (eqb-true b j x) added s)
+          (λ x. written-there k b (f new) rows j (eqb-false b j x) ∙ tab-at branchLimit (boxIn d c k f (some t)) j [] s
           ∙ ap (λ x. cond (ltb j k) x noEnds) (sym (slot-kept d c f noEnds h p new t (sub (whole d) t h p) j o graft-once e (in-sub d c h p t e) inside (none-above d c h p j t e none) (λ z. (z, other j (eqb-false b j x) ∙ z)))));
     }
       where
         rows : List (List Float)
-        rows = tab 255 (boxIn d c k f (some t))
+        rows = tab branchLimit (boxIn d c k f (some t))
 
-        long : length rows ≡ 255
-        long = tab-length 255 (boxIn d c k f (some t))
+        long : length rows ≡ branchLimit
+        long = tab-length branchLimit (boxIn d c k f (some t))
 
         other : (j : ℕ) → (b ≡ j → ⊥) → uses d c new j ≡ uses d c (sub (whole d) t h p) j
         other j n = let z : is b j ≡ 0 = rw (ne-eqb b j n) in omega (arith, uses-above j)
 
-        added : b < 255 → getD (written k b (f new) rows) b [] ≡ boxIn d c k f (some after) b
+        added : b < branchLimit → getD (written k b (f new) rows) b [] ≡ boxIn d c k f (some after) b
         added s = by-test (ltb b k)
             (λ x. written-here k b (f new) rows (ltb-true b k x) (omega (arith, long)) ∙ sym (cond-true _ _ _ x ∙ new-slot f noEnds))
-            (λ x. ap (λ l. getD l b []) (written-other k b (f new) rows (ltb-false b k x)) ∙ tab-at 255 (boxIn d c k f (some t)) b [] s ∙ cond-false _ _ _ x ∙ sym (cond-false _ _ _ x))
+            (λ x. ap (λ l. getD l b []) (written-other k b (f new) rows (ltb-false b k x)) ∙ tab-at branchLimit (boxIn d c k f (some t)) b [] s ∙ cond-false _ _ _ x ∙ sym (cond-false _ _ _ x))
 
-  module _ (k : ℕ) (few : k ≤ 255) {m : Number → Number → Number} {to : Number → Number → Bool} (E : End (whole d) m to)
+  module _ (k : ℕ) (few : k ≤ branchLimit) {m : Number → Number → Number} {to : Number → Number → Bool} (E : End (whole d) m to)
       (j : Float → Float → Float) (J : (f g : ℕ → Number) → joined j (ends f) (ends g) ≡ ends (λ (i : ℕ). m (f i) (g i))) where
     abbrev f : Tree (whole d) → List Float
     f u = ends (λ (i : ℕ). end (whole d) m u i)
@@ -110,7 +111,7 @@ module _ (d c : ℕ) (t : Tree (whole d)) (p : Reading) (o : Once d c t) (b i h 
         let u = sub (whole d) t n p in
         let g : h ≤ height (whole d) u p = omega (arith, height-sub (whole d) n p t l) in
         let same : replace (whole d) u h p (sub (whole d) t h p) ≡ u = ap (replace (whole d) u h p) (sym (sub-sub (whole d) h n p a t l)) ∙ replace-same d c p h u g in
-        tab-same 8 _ _ (λ ch _. ap (λ (x : Number). x .value) (sym (end-replaced d c p E h ch (λ x. m x (coordinate p ch)) (λ x y. end-swap (whole d) E x (coordinate p ch) y) new (sub (whole d) t h p) (end-above (whole d) E b cut i p (sub (whole d) t h p) ch) u g ∙ ap (λ x. m (end (whole d) m x ch) (coordinate p ch)) same)))
+        tab-same width _ _ (λ ch _. ap (λ (x : Number). x .value) (sym (end-replaced d c p E h ch (λ x. m x (coordinate p ch)) (λ x y. end-swap (whole d) E x (coordinate p ch) y) new (sub (whole d) t h p) (end-above (whole d) E b cut i p (sub (whole d) t h p) ch) u g ∙ ap (λ x. m (end (whole d) m x ch) (coordinate p ch)) same)))
 
     -- a turn: one box more is grown
     pub graft-turn : (rows : List (List Float)) (n : ℕ) → h ≤ n → suc n ≤ height (whole d) t p → Partly d c k f t after p rows n
@@ -129,5 +130,5 @@ module _ (d c : ℕ) (t : Tree (whole d)) (p : Reading) (o : Once d c t) (b i h 
             let z : (g - n) + n ≡ g = omega arith in
             let S′ : Still d c p E (sub (whole d) t g p) = subst (λ x. Still d c p E (sub (whole d) t x p)) z (still-up d c p E t (g - n) n (omega arith) S) in
             old-at d c p k f t o g (omega arith) l′
-            ∙ ap (λ x. cond (ltb (at d c t p g) k) x noEnds) (tab-same 8 _ _ (λ i q. ap (λ (x : Number). x .value) (sym (S′ i q))) ∙ with-point g (omega arith) l′)
+            ∙ ap (λ x. cond (ltb (at d c t p g) k) x noEnds) (tab-same width _ _ (λ i q. ap (λ (x : Number). x .value) (sym (S′ i q))) ∙ with-point g (omega arith) l′)
             ∙ sym (new-at d c p k f t h new graft-once g (omega arith) l′)

@@ -6,6 +6,7 @@ use Prim.Native.Nat.{ℕ, _+_, _-_, _≤_, _<_}
 use native.Mathlib.Omega.{arith}
 use lib.ListN.{getD}
 use lib.Ieee.{Float}
+use Rattle.limits.specs.Limits.{width, capacityLimit, pointLimit}
 use Rattle.boundingbox.specs.declared.BoundingBox.{BoundingBox}
 use Rattle.boundingbox.specs.Ends.{joined, least as leastFloat, greatest as greatestFloat}
 use Rattle.cuttree.specs.Setting.{Cut}
@@ -31,10 +32,10 @@ module _ (d c k : ℕ) (nodes : List (List ℕ)) (points lows highs : List (List
 -- growing by one side's box and then by the other's is growing by the branch's
 module _ (d : ℕ) (f : ℕ → Number) (l r : Tree (whole d)) (b : ℕ) (x : Cut (whole d)) (g : Bool) where
   low-sides : lowWith d (λ (i : ℕ). least (whole d) (f i) (lo (whole d) l i)) r ≡ lowWith d f (branch b x g l r)
-  low-sides = tab-same 8 _ _ (λ i _. ap (λ (n : Number). n .value) (end-assoc (whole d) (least-end d) (f i) (lo (whole d) l i) (lo (whole d) r i)))
+  low-sides = tab-same width _ _ (λ i _. ap (λ (n : Number). n .value) (end-assoc (whole d) (least-end d) (f i) (lo (whole d) l i) (lo (whole d) r i)))
 
   high-sides : highWith d (λ (i : ℕ). most (whole d) (f i) (hi (whole d) l i)) r ≡ highWith d f (branch b x g l r)
-  high-sides = tab-same 8 _ _ (λ i _. ap (λ (n : Number). n .value) (end-assoc (whole d) (most-end d) (f i) (hi (whole d) l i) (hi (whole d) r i)))
+  high-sides = tab-same width _ _ (λ i _. ap (λ (n : Number). n .value) (end-assoc (whole d) (most-end d) (f i) (hi (whole d) l i) (hi (whole d) r i)))
 
 module _ (c k node : ℕ) (nodes : List (List ℕ)) (points lows highs : List (List Float)) where
   -- X and Y are the ends of the node's box
@@ -68,10 +69,10 @@ module _ (c k node : ℕ) (nodes : List (List ℕ)) (points lows highs : List (L
   at-cached h m = row _ _ (cached-ends h m)
 
   -- a leaf's point is in the table, and a branch's number below the capacity
-  pub in-table : c ≤ node → SomeBoxed c k node nodes points lows highs → node - c < 1024
+  pub in-table : c ≤ node → SomeBoxed c k node nodes points lows highs → node - c < pointLimit
   in-table h w = go (w .tree) (w .at-node) (w .boxed)
     where
-      go : (t : Tree (whole (w .channels))) → id (whole (w .channels)) c t ≡ node → Boxed (w .channels) c k nodes points lows highs t → node - c < 1024
+      go : (t : Tree (whole (w .channels))) → id (whole (w .channels)) c t ≡ node → Boxed (w .channels) c k nodes points lows highs t → node - c < pointLimit
       go (leaf i q n) e B = omega (arith, B .in-range)
       go (branch b x g l r) e B = absurd (omega (arith, B .in-range))
 
@@ -86,10 +87,10 @@ module _ (c k node : ℕ) (nodes : List (List ℕ)) (points lows highs : List (L
     pub small : node + 1 < c
     pub left-some : SomeBoxed c k left nodes points lows highs
     pub right-some : SomeBoxed c k right nodes points lows highs
-    pub left-less : deep nodes c 256 left < deep nodes c 256 node
-    pub right-less : deep nodes c 256 right < deep nodes c 256 node
+    pub left-less : deep nodes c capacityLimit left < deep nodes c capacityLimit node
+    pub right-less : deep nodes c capacityLimit right < deep nodes c capacityLimit node
 
-  pub parts : c ≤ 256 → node < c → SomeBoxed c k node nodes points lows highs → Parts
+  pub parts : c ≤ capacityLimit → node < c → SomeBoxed c k node nodes points lows highs → Parts
   parts few h w = go (w .tree) (w .at-node) (w .once) (w .boxed)
     where
       go : (t : Tree (whole (w .channels))) → id (whole (w .channels)) c t ≡ node → Once (w .channels) c t → Boxed (w .channels) c k nodes points lows highs t → Parts
@@ -103,10 +104,10 @@ module _ (c k node : ℕ) (nodes : List (List ℕ)) (points lows highs : List (L
           let or : Once d c v = λ j. omega (arith, o j) in
           let el : id (whole d) c u ≡ left = rw (← e) (sym (B .links .0)) in
           let er : id (whole d) c v ≡ right = rw (← e) (sym (B .links .1)) in
-          let n : depth d c t ≤ 256 = omega (arith, depth-few d c t o (B .in-range)) in
-          let here : deep nodes c 256 node ≡ depth d c t = rw (← e) (deep-is d c nodes 256 t n (B .links) (B .in-range)) in
-          let there : deep nodes c 256 left ≡ depth d c u = rw (← el) (deep-is d c nodes 256 u (omega arith) (bl .links) (bl .in-range)) in
-          let other : deep nodes c 256 right ≡ depth d c v = rw (← er) (deep-is d c nodes 256 v (omega arith) (br .links) (br .in-range)) in
+          let n : depth d c t ≤ capacityLimit = omega (arith, depth-few d c t o (B .in-range)) in
+          let here : deep nodes c capacityLimit node ≡ depth d c t = rw (← e) (deep-is d c nodes capacityLimit t n (B .links) (B .in-range)) in
+          let there : deep nodes c capacityLimit left ≡ depth d c u = rw (← el) (deep-is d c nodes capacityLimit u (omega arith) (bl .links) (bl .in-range)) in
+          let other : deep nodes c capacityLimit right ≡ depth d c v = rw (← er) (deep-is d c nodes capacityLimit v (omega arith) (br .links) (br .in-range)) in
           record {
             small = omega (arith, B .in-range .0);
             left-some = record { channels = d; tree = u; at-node = el; once = ol; boxed = bl };

@@ -10,6 +10,7 @@ use lib.Ieee.{Float, nan, lt}
 use lib.Ieee.Fits.{and-l, and-r}
 use lib.Ieee.Bits.{is-true, is-false}
 use borrow.Author.Tests.{lt-ltb, ltb-true, ltb-false}
+use Rattle.limits.specs.Limits.{width, capacityLimit, branchLimit}
 use Rattle.readings.proofs.Tests.{yes}
 use Rattle.boundingbox.specs.Ends.{channel}
 use Rattle.boundingbox.specs.Contained.{strictlyContains}
@@ -63,13 +64,13 @@ module _ (d c k n dimensions : ℕ) (path : List (List ℕ)) (point : List Float
   above-one : 1 ≤ height (whole d) t p
   above-one = omega (arith, G .above-it)
 
-  beyond : (i : ℕ) → dimensions ≤ i → i < 8 → All (whole d) (λ j q n. coordinate q i ≡ zero) t × All (whole d) (λ j q n. coordinate q i ≡ zero) (lifted d t p)
+  beyond : (i : ℕ) → dimensions ≤ i → i < width → All (whole d) (λ j q n. coordinate q i ≡ zero) t × All (whole d) (λ j q n. coordinate q i ≡ zero) (lifted d t p)
   unfolding zero
   beyond i a l =
-      let before = all-map (whole d) (λ j q n. Padded (q .row) dimensions 8) (λ j q n. coordinate q i ≡ zero) t (λ j q n h. same-number (coordinate q i) zero (coordinate-is q i l ∙ h i a l)) (G .narrow) in
+      let before = all-map (whole d) (λ j q n. Padded (q .row) dimensions width) (λ j q n. coordinate q i ≡ zero) t (λ j q n h. same-number (coordinate q i) zero (coordinate-is q i l ∙ h i a l)) (G .narrow) in
       (before, subst (λ o. OfTree (whole d) (All (whole d) (λ j q n. coordinate q i ≡ zero)) o) (last-lifted (whole d) c p t above-one (G .last) .0) (all-forget (whole d) (λ j q n. coordinate q i ≡ zero) p (λ j q n _ h. h) t before))
 
-  strictly-same : (g : ℕ) → 1 ≤ g → g ≤ height (whole d) t p → strictlyContains (lowOf d c (sub (whole d) t g p)) (highOf d c (sub (whole d) t g p)) (p .row) (min dimensions 8) ≡ true
+  strictly-same : (g : ℕ) → 1 ≤ g → g ≤ height (whole d) t p → strictlyContains (lowOf d c (sub (whole d) t g p)) (highOf d c (sub (whole d) t g p)) (p .row) (min dimensions width) ≡ true
       → Same d c t p (W .once) above-one (least-end d) g × Same d c t p (W .once) above-one (most-end d) g
   strictly-same g a l h = (
     (λ i q. by-test (ltb i dimensions)
@@ -89,17 +90,17 @@ module _ (d c k n dimensions : ℕ) (path : List (List ℕ)) (point : List Float
       new : In (whole d) (without g) (lifted d t p)
       new = in-replace d c 1 g p (sibling (whole d) t 0 p) a t l
 
-      low-at : (i : ℕ) → i < 8 → channel (lowOf d c u) i ≡ lo (whole d) u i .value
-      low-at i q = tab-at 8 (λ (j : ℕ). lo (whole d) u j .value) i nan q
+      low-at : (i : ℕ) → i < width → channel (lowOf d c u) i ≡ lo (whole d) u i .value
+      low-at i q = tab-at width (λ (j : ℕ). lo (whole d) u j .value) i nan q
 
-      high-at : (i : ℕ) → i < 8 → channel (highOf d c u) i ≡ hi (whole d) u i .value
-      high-at i q = tab-at 8 (λ (j : ℕ). hi (whole d) u j .value) i nan q
+      high-at : (i : ℕ) → i < width → channel (highOf d c u) i ≡ hi (whole d) u i .value
+      high-at i q = tab-at width (λ (j : ℕ). hi (whole d) u j .value) i nan q
 
-      below : (i : ℕ) → i < 8 → ltb i dimensions ≡ true → lt (lo (whole d) u i .value) (coordinate p i .value) ≡ true
-      below i q x = rw (← low-at i q, coordinate-is p i q) (strictly-between (lowOf d c u) (highOf d c u) (p .row) (min dimensions 8) (yes h) i (omega (arith, ltb-true i dimensions x)) .0)
+      below : (i : ℕ) → i < width → ltb i dimensions ≡ true → lt (lo (whole d) u i .value) (coordinate p i .value) ≡ true
+      below i q x = rw (← low-at i q, coordinate-is p i q) (strictly-between (lowOf d c u) (highOf d c u) (p .row) (min dimensions width) (yes h) i (omega (arith, ltb-true i dimensions x)) .0)
 
-      above : (i : ℕ) → i < 8 → ltb i dimensions ≡ true → lt (coordinate p i .value) (hi (whole d) u i .value) ≡ true
-      above i q x = rw (← high-at i q, coordinate-is p i q) (strictly-between (lowOf d c u) (highOf d c u) (p .row) (min dimensions 8) (yes h) i (omega (arith, ltb-true i dimensions x)) .1)
+      above : (i : ℕ) → i < width → ltb i dimensions ≡ true → lt (coordinate p i .value) (hi (whole d) u i .value) ≡ true
+      above i q x = rw (← high-at i q, coordinate-is p i q) (strictly-between (lowOf d c u) (highOf d c u) (p .row) (min dimensions width) (yes h) i (omega (arith, ltb-true i dimensions x)) .1)
 
   -- ---- a turn: the branch of height g + 1 in the tree after, its two sides' boxes done
   pub record Turn (L H : List (List Float)) (g : ℕ) : Type 0 where
@@ -115,7 +116,7 @@ module _ (d c k n dimensions : ℕ) (path : List (List ℕ)) (point : List Float
     pub low-is : ends (λ (i : ℕ). least (whole d) (lo (whole d) l i) (lo (whole d) u i)) ≡ lowOf d c (without (suc g))
     pub high-is : ends (λ (i : ℕ). most (whole d) (hi (whole d) l i) (hi (whole d) u i)) ≡ highOf d c (without (suc g))
 
-  module _ (few : k ≤ 255) (L H : List (List Float)) (g : ℕ) (a : 1 ≤ g) (e : suc g ≤ height (whole d) t p)
+  module _ (few : k ≤ branchLimit) (L H : List (List Float)) (g : ℕ) (a : 1 ≤ g) (e : suc g ≤ height (whole d) t p)
       (P : Partly d c k (lowOf d c) t (lifted d t p) p L g) (Q : Partly d c k (highOf d c) t (lifted d t p) p H g) where
     once : Once d c (lifted d t p)
     once = forget-once d c t p (W .once) above-one
@@ -179,13 +180,13 @@ module _ (c k n dimensions : ℕ) (path : List (List ℕ)) (point : List Float) 
   Repaired L H r = (d : ℕ) (t : Tree (whole d)) (p : Reading) → Walked d c path point t p → Forgotten d c k n dimensions nodes points lows highs t p
       → Partly d c k (lowOf d c) t (lifted d t p) p L (height (whole d) t p - r) × Partly d c k (highOf d c) t (lifted d t p) p H (height (whole d) t p - r)
 
-  pub repair-start : k ≤ 255 → Repaired lows highs n
+  pub repair-start : k ≤ branchLimit → Repaired lows highs n
   repair-start few d t p W G =
       let z : height (whole d) t p - n ≡ 1 = omega (arith, G .above-it) in
       let e : 1 ≤ height (whole d) t p = omega (arith, G .above-it) in
       rw (z, G .low, G .high) (forget-start d c t p (W .once) e k few (lowOf d c), forget-start d c t p (W .once) e k few (highOf d c))
 
-  module _ (few : k ≤ 255) (r : ℕ) (some-row : 0 < r) (below : r ≤ n) (L H : List (List Float)) (index : ℕ) (is : index ≡ getD (getD path (r - 1) []) 0 0) (C : Repaired L H r) where
+  module _ (few : k ≤ branchLimit) (r : ℕ) (some-row : 0 < r) (below : r ≤ n) (L H : List (List Float)) (index : ℕ) (is : index ≡ getD (getD path (r - 1) []) 0 0) (C : Repaired L H r) where
     module _ (d : ℕ) (t : Tree (whole d)) (p : Reading) (W : Walked d c path point t p) (G : Forgotten d c k n dimensions nodes points lows highs t p) where
       up : height (whole d) t p - (r - 1) ≡ suc (height (whole d) t p - r)
       up = omega (arith, G .above-it)
@@ -202,7 +203,7 @@ module _ (c k n dimensions : ℕ) (path : List (List ℕ)) (point : List Float) 
       this-turn : Turn d c k n dimensions path point nodes points lows highs t p W G L H (height (whole d) t p - r)
       this-turn = let P = C d t p W G in turn d c k n dimensions path point nodes points lows highs t p W G few L H (height (whole d) t p - r) low-enough inside (P .0) (P .1)
 
-    pub repair-sides : c ≤ 256 → SomeForgotten c k n dimensions path point nodes points lows highs → SomeSides c k index nodes points L H
+    pub repair-sides : c ≤ capacityLimit → SomeForgotten c k n dimensions path point nodes points lows highs → SomeSides c k index nodes points L H
     repair-sides most s =
         let w = this-turn (s .channels) (s .tree) (s .reading) (s .walked) (s .forgotten) in
         rw (index-at (s .channels) (s .tree) (s .reading) (s .walked) (s .forgotten))
@@ -239,10 +240,10 @@ module _ (c k n dimensions : ℕ) (path : List (List ℕ)) (point : List Float) 
           let z = index-at d t p W G in
           let e : 1 ≤ height (whole d) t p = omega (arith, G .above-it) in
           let test = ltb index k in
-          let strict = strictlyContains (getD L index []) (getD H index []) point (min dimensions 8) in
+          let strict = strictlyContains (getD L index []) (getD H index []) point (min dimensions width) in
           let held : (test && strict) ≡ true = sym (R .answer) ∙ stopped in
           let cached : ltb index k ≡ true = is-true test (and-l test strict (yes held)) in
-          let s : at d c t p (suc g) < 255 = subst (λ n. n < 255) z (omega (arith, ltb-true index k cached)) in
+          let s : at d c t p (suc g) < branchLimit = subst (λ n. n < branchLimit) z (omega (arith, ltb-true index k cached)) in
           let x : ltb (at d c t p (suc g)) k ≡ true = subst (λ n. ltb n k ≡ true) z cached in
           let low-row : getD L index [] ≡ lowOf d c (sub (whole d) t (suc g) p) = ap (λ n. getD L n []) z ∙ P .0 .todo (suc g) (omega arith) (inside d t p W G) s ∙ old-at d c p k (lowOf d c) t (W .once) (suc g) (omega arith) (inside d t p W G) ∙ cond-true _ _ _ x in
           let high-row : getD H index [] ≡ highOf d c (sub (whole d) t (suc g) p) = ap (λ n. getD H n []) z ∙ P .1 .todo (suc g) (omega arith) (inside d t p W G) s ∙ old-at d c p k (highOf d c) t (W .once) (suc g) (omega arith) (inside d t p W G) ∙ cond-true _ _ _ x in

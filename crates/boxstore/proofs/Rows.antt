@@ -8,6 +8,7 @@ use lib.Dec.{eqb}
 use lib.ListN.{length, getD}
 use lib.Ieee.{Float}
 use borrow.Author.Tests.{eqb-true, eqb-false}
+use Rattle.limits.specs.Limits.{branchLimit}
 use Rattle.cuttree.specs.Tree.{Tree, id, height}
 use Rattle.cuttree.specs.Walk.{sub}
 use Rattle.cuttree.proofs.Tests.{by-test}
@@ -31,14 +32,14 @@ at-apart d c m n t p a b e o z =
 
 -- The rows of f of t' in place of t's, but that the branches on p's walk in t of a height above m still have t's.
 pub record Partly (d c k : ℕ) (f : Tree (whole d) → List Float) (t t′ : Tree (whole d)) (p : Reading) (rows : List (List Float)) (m : ℕ) : Type 0 where
-  pub size : length rows ≡ 255
-  pub todo : (n : ℕ) → m < n → n ≤ height (whole d) t p → at d c t p n < 255 → getD rows (at d c t p n) [] ≡ boxIn d c k f (some t) (at d c t p n)
-  pub done : (j : ℕ) → j < 255 → ((n : ℕ) → m < n → n ≤ height (whole d) t p → at d c t p n ≡ j → ⊥) → getD rows j [] ≡ boxIn d c k f (some t′) j
+  pub size : length rows ≡ branchLimit
+  pub todo : (n : ℕ) → m < n → n ≤ height (whole d) t p → at d c t p n < branchLimit → getD rows (at d c t p n) [] ≡ boxIn d c k f (some t) (at d c t p n)
+  pub done : (j : ℕ) → j < branchLimit → ((n : ℕ) → m < n → n ≤ height (whole d) t p → at d c t p n ≡ j → ⊥) → getD rows j [] ≡ boxIn d c k f (some t′) j
 
 module _ (d c k : ℕ) (f : Tree (whole d) → List Float) (t t′ : Tree (whole d)) (p : Reading) (o : Once d c t) where
   -- the row of height m + 1 done
-  pub partly-next : (rows rows′ : List (List Float)) (m : ℕ) → suc m ≤ height (whole d) t p → Partly d c k f t t′ p rows m → length rows′ ≡ 255
-      → (at d c t p (suc m) < 255 → getD rows′ (at d c t p (suc m)) [] ≡ boxIn d c k f (some t′) (at d c t p (suc m)))
+  pub partly-next : (rows rows′ : List (List Float)) (m : ℕ) → suc m ≤ height (whole d) t p → Partly d c k f t t′ p rows m → length rows′ ≡ branchLimit
+      → (at d c t p (suc m) < branchLimit → getD rows′ (at d c t p (suc m)) [] ≡ boxIn d c k f (some t′) (at d c t p (suc m)))
       → ((j : ℕ) → (at d c t p (suc m) ≡ j → ⊥) → getD rows′ j [] ≡ getD rows j []) → Partly d c k f t t′ p rows′ (suc m)
   partly-next rows rows′ m e P l new old = record {
     size = l;
@@ -62,5 +63,5 @@ module _ (d c k : ℕ) (f : Tree (whole d) → List Float) (t t′ : Tree (whole
       (partly-next rows rows m (omega arith) P (P .size) (λ s. P .todo (suc m) (omega arith) (omega arith) s ∙ same (suc m) (omega arith) (omega arith)) (λ j _. refl))
       (λ n a b. same n (omega arith) b)
 
-  pub partly-all : (rows : List (List Float)) (m : ℕ) → height (whole d) t p ≤ m → Partly d c k f t t′ p rows m → rows ≡ tab 255 (boxIn d c k f (some t′))
-  partly-all rows m h P = is-tab [] 255 (boxIn d c k f (some t′)) rows (P .size) (λ i s. P .done i s (λ n a b _. omega arith))
+  pub partly-all : (rows : List (List Float)) (m : ℕ) → height (whole d) t p ≤ m → Partly d c k f t t′ p rows m → rows ≡ tab branchLimit (boxIn d c k f (some t′))
+  partly-all rows m h P = is-tab [] branchLimit (boxIn d c k f (some t′)) rows (P .size) (λ i s. P .done i s (λ n a b _. omega arith))

@@ -7,6 +7,7 @@ use Prim.Native.Nat.{ℕ, _+_}
 use lib.Dec.{ltb}
 use lib.ListN.{getD, take}
 use lib.Ieee.{Float}
+use Rattle.limits.specs.Limits.{width, branchLimit}
 use Rattle.cuttree.specs.Setting.{Cut}
 use Rattle.boundingbox.specs.Padding.{Padded}
 use Rattle.cuttree.specs.Tree.{Tree, id, ending, walk, height, found, above, All}
@@ -21,10 +22,10 @@ use Rattle.boxstore.specs.Written.{written}
 
 -- the boxes that a tree keeps, k branches being cached: their lower and their upper ends
 abbrev pub lowsOf : (d c k : ℕ) → Tree (whole d) → List (List Float)
-lowsOf d c k t = tab 255 (boxIn d c k (lowOf d c) (some t))
+lowsOf d c k t = tab branchLimit (boxIn d c k (lowOf d c) (some t))
 
 abbrev pub highsOf : (d c k : ℕ) → Tree (whole d) → List (List Float)
-highsOf d c k t = tab 255 (boxIn d c k (highOf d c) (some t))
+highsOf d c k t = tab branchLimit (boxIn d c k (highOf d c) (some t))
 
 -- the path has the walk of p in the tree, and the point is p
 pub record Walked (d c : ℕ) (path : List (List ℕ)) (point : List Float) (t : Tree (whole d)) (p : Reading) : Type 0 where
@@ -54,7 +55,7 @@ pub record Forgotten (d c k n dimensions : ℕ) (nodes : List (List ℕ)) (point
   pub above-it : n + 1 ≡ height (whole d) t p
   pub held : found (whole d) t p ≡ true
   pub last : ltb 1 (ending (whole d) t p .copies) ≡ false
-  pub narrow : All (whole d) (λ i q n. Padded (q .row) dimensions 8) t
+  pub narrow : All (whole d) (λ i q n. Padded (q .row) dimensions width) t
   pub low : lows ≡ written k (id (whole d) c (sub (whole d) t 1 p)) noEnds (lowsOf d c k t)
   pub high : highs ≡ written k (id (whole d) c (sub (whole d) t 1 p)) noEnds (highsOf d c k t)
   pub links : Linked d c nodes (lifted d t p)

@@ -6,6 +6,7 @@ use Prim.Native.Nat.{ℕ, _<_, min}
 use lib.Dec.{ltb}
 use lib.ListN.{getD}
 use lib.Ieee.{Float}
+use Rattle.limits.specs.Limits.{width, branchLimit}
 use Rattle.boundingbox.specs.Contained.{strictlyContains}
 use Rattle.boundingbox.specs.declared.BoundingBox.{BoundingBox}
 use Rattle.cuttree.specs.Tree.{Tree, id, least, most, lo, hi}
@@ -45,13 +46,13 @@ module _ (c k node : ℕ) (nodes : List (List ℕ)) (points lows highs : List (L
 
 -- the two sides of a branch stand
 pub record SomeSides (c k node : ℕ) (nodes : List (List ℕ)) (points lows highs : List (List Float)) : Type 0 where
-  pub small : node < 255
+  pub small : node < branchLimit
   pub left-some : SomeBoxed c k (sideIn nodes node 0) nodes points lows highs
   pub right-some : SomeBoxed c k (sideIn nodes node 1) nodes points lows highs
 
 -- A branch's cached box is worked out again from its sides, unless it holds the point strictly inside. r: it is cached and did hold it.
 pub record Rebuilt (c k node dimensions : ℕ) (point : List Float) (nodes : List (List ℕ)) (points lows highs lows′ highs′ : List (List Float)) (r : Bool) : Type 0 where
-  pub answer : r ≡ (ltb node k && strictlyContains (getD lows node []) (getD highs node []) point (min dimensions 8))
+  pub answer : r ≡ (ltb node k && strictlyContains (getD lows node []) (getD highs node []) point (min dimensions width))
   pub kept : r ≡ true → (lows′ ≡ lows) × (highs′ ≡ highs)
   pub moved : r ≡ false → (d : ℕ) (l u : Tree (whole d)) → id (whole d) c l ≡ sideIn nodes node 0 → id (whole d) c u ≡ sideIn nodes node 1 → Boxed d c k nodes points lows highs l → Boxed d c k nodes points lows highs u
       → (lows′ ≡ written k node (lowWith d (lo (whole d) l) u) lows) × (highs′ ≡ written k node (highWith d (hi (whole d) l) u) highs)

@@ -1,11 +1,18 @@
 // The boxes of a tree's branches: a cached box is a row of `lows` and one of `highs`, any other is worked out from the branch's sides. After the boxes of nodestore.rs.
 use boundingbox::BoundingBox;
+use limits::BRANCHES;
+use limits::CHANNELS;
+use limits::Nodes;
+use limits::Path;
+use limits::Points;
+use limits::Row;
 ghost use mathlib.Core.Path.{_≡_};
 ghost use mathlib.Core.Bool.{_&&_};
 ghost use mathlib.Core.List.{[]};
 ghost use Prim.Native.Nat.{_≤_, _<_};
 ghost use lib.Dec.{ltb};
 ghost use lib.ListN.{getD};
+ghost use Rattle.limits.specs.Limits.{width, capacityLimit, branchLimit, pointLimit};
 ghost use Rattle.boundingbox.specs.Ends.{least, greatest, joined};
 ghost use Rattle.layout.specs.Layout.{noEnds};
 ghost use Rattle.boxstore.specs.Boxed.{sideIn, SomeBoxed};
@@ -21,16 +28,16 @@ fn wide(x: u16) -> usize
 }
 
 // The id of a branch's side: 0 is the left one, 1 the right one.
-fn side_of(nodes: &[[u16; 4]; 255], node: usize, side: usize) -> usize
-    requires { ⌜ (node < 255) × (side < 2) ⌝ }
+fn side_of(nodes: &Nodes, node: usize, side: usize) -> usize
+    requires { ⌜ (node < branchLimit) × (side < 2) ⌝ }
     ensures { λ r. ⌜ r ≡ sideIn (now (nodes .entry)) node side ⌝ }
 {
     wide(nodes[node][side])
 }
 
 // A leaf's box: its point.
-fn leaf_box(points: &[[f32; 8]; 1024], index: usize) -> BoundingBox
-    requires { ⌜ index < 1024 ⌝ }
+fn leaf_box(points: &Points, index: usize) -> BoundingBox
+    requires { ⌜ index < pointLimit ⌝ }
     ensures lower { λ r. ⌜ r .«min_values» ≡ getD (now (points .entry)) index [] ⌝ }
     ensures upper { λ r. ⌜ r .«max_values» ≡ getD (now (points .entry)) index [] ⌝ }
 {
@@ -38,8 +45,8 @@ fn leaf_box(points: &[[f32; 8]; 1024], index: usize) -> BoundingBox
 }
 
 // A cached branch's box.
-fn box_from_data(lows: &[[f32; 8]; 255], highs: &[[f32; 8]; 255], index: usize) -> BoundingBox
-    requires { ⌜ index < 255 ⌝ }
+fn box_from_data(lows: &[Row; BRANCHES], highs: &[Row; BRANCHES], index: usize) -> BoundingBox
+    requires { ⌜ index < branchLimit ⌝ }
     ensures lower { λ r. ⌜ r .«min_values» ≡ getD (now (lows .entry)) index [] ⌝ }
     ensures upper { λ r. ⌜ r .«max_values» ≡ getD (now (highs .entry)) index [] ⌝ }
 {
@@ -60,7 +67,7 @@ fn grown(b: BoundingBox, x: BoundingBox) -> BoundingBox
 }
 
 // Ends moved out to other ends, in place.
-fn widen(low: &mut [f32; 8], high: &mut [f32; 8], lower: &[f32; 8], upper: &[f32; 8])
+fn widen(low: &mut Row, high: &mut Row, lower: &Row, upper: &Row)
     ensures lower { λ _. ⌜ now (low .exit) ≡ joined least (now (low .entry)) (now (lower .entry)) ⌝ }
     ensures upper { λ _. ⌜ now (high .exit) ≡ joined greatest (now (high .entry)) (now (upper .entry)) ⌝ }
 {
@@ -80,17 +87,17 @@ fn widen(low: &mut [f32; 8], high: &mut [f32; 8], lower: &[f32; 8], upper: &[f32
 // moves them by its left side, then its right.
 // Rules out one side moved by twice, and a branch that is not cached left out.
 fn grow_ends(
-    low: &mut [f32; 8],
-    high: &mut [f32; 8],
+    low: &mut Row,
+    high: &mut Row,
     node: usize,
-    nodes: &[[u16; 4]; 255],
-    points: &[[f32; 8]; 1024],
-    lows: &[[f32; 8]; 255],
-    highs: &[[f32; 8]; 255],
+    nodes: &Nodes,
+    points: &Points,
+    lows: &[Row; BRANCHES],
+    highs: &[Row; BRANCHES],
     capacity: usize,
     cached: usize,
 )
-    requires few { ⌜ capacity ≤ 256 ⌝ }
+    requires few { ⌜ capacity ≤ capacityLimit ⌝ }
     requires stands { ⌜ SomeBoxed capacity cached node (now nodes) (now points) (now lows) (now highs) ⌝ }
     ensures { λ _. ⌜ EndsGrownBy capacity cached node (now (nodes .entry)) (now (points .entry)) (now (lows .entry)) (now (highs .entry)) (now (low .entry)) (now (high .entry)) (now (low .exit)) (now (high .exit)) ⌝ }
 {
@@ -134,14 +141,14 @@ fn grow_ends(
 pub fn grow_node_box(
     b: BoundingBox,
     node: usize,
-    nodes: &[[u16; 4]; 255],
-    points: &[[f32; 8]; 1024],
-    lows: &[[f32; 8]; 255],
-    highs: &[[f32; 8]; 255],
+    nodes: &Nodes,
+    points: &Points,
+    lows: &[Row; BRANCHES],
+    highs: &[Row; BRANCHES],
     capacity: usize,
     cached: usize,
 ) -> BoundingBox
-    requires few { ⌜ capacity ≤ 256 ⌝ }
+    requires few { ⌜ capacity ≤ capacityLimit ⌝ }
     requires stands { ⌜ SomeBoxed capacity cached node (now nodes) (now points) (now lows) (now highs) ⌝ }
     ensures { λ r. ⌜ GrownBy capacity cached node (now (nodes .entry)) (now (points .entry)) (now (lows .entry)) (now (highs .entry)) b r ⌝ }
 {
@@ -174,14 +181,14 @@ pub fn grow_node_box(
 // Rules out a box of the left side alone, and a cached row taken for a branch that has none.
 pub fn bounding_box(
     node: usize,
-    nodes: &[[u16; 4]; 255],
-    points: &[[f32; 8]; 1024],
-    lows: &[[f32; 8]; 255],
-    highs: &[[f32; 8]; 255],
+    nodes: &Nodes,
+    points: &Points,
+    lows: &[Row; BRANCHES],
+    highs: &[Row; BRANCHES],
     capacity: usize,
     cached: usize,
 ) -> BoundingBox
-    requires few { ⌜ capacity ≤ 256 ⌝ }
+    requires few { ⌜ capacity ≤ capacityLimit ⌝ }
     requires stands { ⌜ SomeBoxed capacity cached node (now nodes) (now points) (now lows) (now highs) ⌝ }
     ensures { λ r. ⌜ BoxOf capacity cached node (now (nodes .entry)) (now (points .entry)) (now (lows .entry)) (now (highs .entry)) r ⌝ }
 {
@@ -201,14 +208,14 @@ pub fn bounding_box(
 // Rules out the stale row of a branch that is cached, and a box of one side alone.
 fn reconstruct_box(
     node: usize,
-    nodes: &[[u16; 4]; 255],
-    points: &[[f32; 8]; 1024],
-    lows: &[[f32; 8]; 255],
-    highs: &[[f32; 8]; 255],
+    nodes: &Nodes,
+    points: &Points,
+    lows: &[Row; BRANCHES],
+    highs: &[Row; BRANCHES],
     capacity: usize,
     cached: usize,
 ) -> BoundingBox
-    requires few { ⌜ capacity ≤ 256 ⌝ }
+    requires few { ⌜ capacity ≤ capacityLimit ⌝ }
     requires stands { ⌜ SomeSides capacity cached node (now nodes) (now points) (now lows) (now highs) ⌝ }
     ensures { λ r. ⌜ SidesBox capacity cached node (now (nodes .entry)) (now (points .entry)) (now (lows .entry)) (now (highs .entry)) r ⌝ }
 {
@@ -221,13 +228,13 @@ fn reconstruct_box(
 // The branch's box kept, if the branch is cached.
 // Rules out a box kept under another number, and one kept for a branch that is not cached.
 pub fn copy_box_to_data(
-    lows: &mut [[f32; 8]; 255],
-    highs: &mut [[f32; 8]; 255],
+    lows: &mut [Row; BRANCHES],
+    highs: &mut [Row; BRANCHES],
     index: usize,
     b: BoundingBox,
     cached: usize,
 )
-    requires { ⌜ cached ≤ 255 ⌝ }
+    requires { ⌜ cached ≤ branchLimit ⌝ }
     ensures lower { λ _. ⌜ now (lows .exit) ≡ written cached index (b .«min_values») (now (lows .entry)) ⌝ }
     ensures upper { λ _. ⌜ now (highs .exit) ≡ written cached index (b .«max_values») (now (highs .entry)) ⌝ }
 {
@@ -242,14 +249,14 @@ pub fn copy_box_to_data(
 // A new branch's box kept, if the branch is cached: the box of the node below it, grown by the new leaf's point.
 // Rules out the box kept without the point.
 pub fn copy_box_above(
-    lows: &mut [[f32; 8]; 255],
-    highs: &mut [[f32; 8]; 255],
+    lows: &mut [Row; BRANCHES],
+    highs: &mut [Row; BRANCHES],
     index: usize,
     below: BoundingBox,
-    point: &[f32; 8],
+    point: &Row,
     cached: usize,
 )
-    requires { ⌜ cached ≤ 255 ⌝ }
+    requires { ⌜ cached ≤ branchLimit ⌝ }
     ensures lower { λ _. ⌜ now (lows .exit) ≡ written cached index (joined least (below .«min_values») (now (point .entry))) (now (lows .entry)) ⌝ }
     ensures upper { λ _. ⌜ now (highs .exit) ≡ written cached index (joined greatest (below .«max_values») (now (point .entry))) (now (highs .entry)) ⌝ }
 {
@@ -260,17 +267,17 @@ pub fn copy_box_above(
 // The box of a branch that is gone cleared, if the branch was cached.
 // Rules out a row left behind where no branch is.
 pub fn clear_box(
-    lows: &mut [[f32; 8]; 255],
-    highs: &mut [[f32; 8]; 255],
+    lows: &mut [Row; BRANCHES],
+    highs: &mut [Row; BRANCHES],
     index: usize,
     cached: usize,
 )
-    requires { ⌜ cached ≤ 255 ⌝ }
+    requires { ⌜ cached ≤ branchLimit ⌝ }
     ensures lower { λ _. ⌜ now (lows .exit) ≡ written cached index noEnds (now (lows .entry)) ⌝ }
     ensures upper { λ _. ⌜ now (highs .exit) ≡ written cached index noEnds (now (highs .entry)) ⌝ }
 {
-    let low = [0.0; 8];
-    let high = [0.0; 8];
+    let low = [0.0; CHANNELS];
+    let high = [0.0; CHANNELS];
     let nothing = BoundingBox {
         min_values: low,
         max_values: high,
@@ -281,14 +288,14 @@ pub fn clear_box(
 // The branch's box grown by a point, if the branch is cached, and whether it is and held the point before.
 // Rules out an answer of true for a branch that is not cached, at which growing would end too early.
 fn check_contains_and_add_point(
-    lows: &mut [[f32; 8]; 255],
-    highs: &mut [[f32; 8]; 255],
+    lows: &mut [Row; BRANCHES],
+    highs: &mut [Row; BRANCHES],
     index: usize,
-    point: &[f32; 8],
+    point: &Row,
     cached: usize,
 ) -> bool
-    requires { ⌜ cached ≤ 255 ⌝ }
-    ensures held { λ r. ⌜ r ≡ (ltb index cached && contains (getD (now (lows .entry)) index []) (getD (now (highs .entry)) index []) (now (point .entry)) (now (point .entry)) 8) ⌝ }
+    requires { ⌜ cached ≤ branchLimit ⌝ }
+    ensures held { λ r. ⌜ r ≡ (ltb index cached && contains (getD (now (lows .entry)) index []) (getD (now (highs .entry)) index []) (now (point .entry)) (now (point .entry)) width) ⌝ }
     ensures lower { λ _. ⌜ now (lows .exit) ≡ written cached index (joined least (getD (now (lows .entry)) index []) (now (point .entry))) (now (lows .entry)) ⌝ }
     ensures upper { λ _. ⌜ now (highs .exit) ≡ written cached index (joined greatest (getD (now (highs .entry)) index []) (now (point .entry))) (now (highs .entry)) ⌝ }
 {
@@ -302,8 +309,8 @@ fn check_contains_and_add_point(
 }
 
 // The id of the node in a row of a path.
-fn node_of(path: &[[u16; 2]; 256], row: usize) -> usize
-    requires { ⌜ row < 256 ⌝ }
+fn node_of(path: &Path, row: usize) -> usize
+    requires { ⌜ row < capacityLimit ⌝ }
     ensures { λ r. ⌜ r ≡ getD (getD (now (path .entry)) row []) 0 0 ⌝ }
 {
     wide(path[row][0])
@@ -312,14 +319,14 @@ fn node_of(path: &[[u16; 2]; 256], row: usize) -> usize
 // The boxes of the first `n` nodes of a path grown by a point, from the lowest up. Ends at a cached box that held the point, as then do all above it.
 // Rules out an end at a branch that is not cached, and a box above left as it was though the point lies outside.
 pub fn grow_ancestors(
-    lows: &mut [[f32; 8]; 255],
-    highs: &mut [[f32; 8]; 255],
-    path: &[[u16; 2]; 256],
+    lows: &mut [Row; BRANCHES],
+    highs: &mut [Row; BRANCHES],
+    path: &Path,
     n: usize,
-    point: &[f32; 8],
+    point: &Row,
     cached: usize,
 )
-    requires { ⌜ (n ≤ 256) × (cached ≤ 255) ⌝ }
+    requires { ⌜ (n ≤ capacityLimit) × (cached ≤ branchLimit) ⌝ }
     ensures { λ _. ⌜ GrownAbove cached n (now (path .entry)) (now (point .entry)) (now (lows .entry)) (now (highs .entry)) (now (lows .exit)) (now (highs .exit)) ⌝ }
 {
     let mut row = n;
@@ -335,17 +342,17 @@ pub fn grow_ancestors(
 // The branch's box worked out again from its sides, if the branch is cached and its box does not hold the point strictly inside; whether it is cached and does.
 // Rules out a box kept though the point lies on a face, where it may have been the end.
 fn check_contains_and_rebuild_box(
-    lows: &mut [[f32; 8]; 255],
-    highs: &mut [[f32; 8]; 255],
-    nodes: &[[u16; 4]; 255],
-    points: &[[f32; 8]; 1024],
+    lows: &mut [Row; BRANCHES],
+    highs: &mut [Row; BRANCHES],
+    nodes: &Nodes,
+    points: &Points,
     index: usize,
-    point: &[f32; 8],
+    point: &Row,
     dimensions: usize,
     capacity: usize,
     cached: usize,
 ) -> bool
-    requires few { ⌜ (cached ≤ 255) × (capacity ≤ 256) ⌝ }
+    requires few { ⌜ (cached ≤ branchLimit) × (capacity ≤ capacityLimit) ⌝ }
     requires stands { ⌜ (index < cached → SomeSides capacity cached index (now nodes) (now points) (now lows) (now highs)) ⌝ }
     ensures { λ r. ⌜ Rebuilt capacity cached index dimensions (now (point .entry)) (now (nodes .entry)) (now (points .entry)) (now (lows .entry)) (now (highs .entry)) (now (lows .exit)) (now (highs .exit)) r ⌝ }
 {
@@ -364,18 +371,18 @@ fn check_contains_and_rebuild_box(
 // The boxes of the first `n` nodes of a path worked out again, from the lowest up, after a point's last copy is gone. Ends at a cached box that held the point strictly inside: that box and all above it are the same without it.
 // Rules out an end where the point lies on a face, and one at a branch that is not cached.
 pub fn repair_ancestors(
-    lows: &mut [[f32; 8]; 255],
-    highs: &mut [[f32; 8]; 255],
-    nodes: &[[u16; 4]; 255],
-    points: &[[f32; 8]; 1024],
-    path: &[[u16; 2]; 256],
+    lows: &mut [Row; BRANCHES],
+    highs: &mut [Row; BRANCHES],
+    nodes: &Nodes,
+    points: &Points,
+    path: &Path,
     n: usize,
-    point: &[f32; 8],
+    point: &Row,
     dimensions: usize,
     capacity: usize,
     cached: usize,
 )
-    requires few { ⌜ (n ≤ 256) × (cached ≤ 255) × (capacity ≤ 256) ⌝ }
+    requires few { ⌜ (n ≤ capacityLimit) × (cached ≤ branchLimit) × (capacity ≤ capacityLimit) ⌝ }
     requires stands { ⌜ SomeForgotten capacity cached n dimensions (now path) (now point) (now nodes) (now points) (now lows) (now highs) ⌝ }
     ensures { λ _. ⌜ RepairedAbove capacity cached n dimensions (now (path .entry)) (now (point .entry)) (now (nodes .entry)) (now (points .entry)) (now (lows .entry)) (now (highs .entry)) (now (lows .exit)) (now (highs .exit)) ⌝ }
 {

@@ -10,6 +10,7 @@ use lib.ListN.{length, take, length-take}
 use lib.Seq.{take-all, getD-take}
 use lib.Ieee.{Float}
 use borrow.Author.Tests.{leb-true, leb-false, le-ltb}
+use Rattle.limits.specs.Limits.{capacityLimit, pointLimit, totalLimit}
 use Rattle.cuttree.specs.Tree.{Tree, found, leaves, walk}
 use Rattle.cuttree.specs.Run.{World, Answer, refused, neverWritten, add, delete, call, withPoint, totalOf, enter, leave}
 use Rattle.cuttree.proofs.Tests.{by-cond, by-test}
@@ -22,7 +23,7 @@ use Rattle.randomcuttree.specs.declared.DeleteAnswer.{DeleteAnswer}
 use Rattle.randomcuttree.specs.State.{Lent, State, headerOf}
 use Rattle.randomcuttree.specs.Answers.{addSays, deleteSays, AddDone, DeleteDone}
 use Rattle.randomcuttree.proofs.Calls.{header-is}
-use Rattle.calls.specs.Said.{filled, addNumbers, deleteNumbers}
+use Rattle.calls.specs.Said.{filled, addNumbers, deleteNumbers, replyWidth}
 use Rattle.calls.specs.Done.{Does, headerAdded, headerDeleted}
 
 module _ (d c k : ℕ) (W : World (whole d)) where
@@ -39,7 +40,7 @@ module _ (d c k : ℕ) (W : World (whole d)) where
   enter-header (some t) i p ws = by-cond Added (found (whole d) t p) _ _ (λ _. refl) (λ _. by-cond Added (leb c (leaves (whole d) t)) _ _ (λ _. refl) (λ _. by-cond Added (ltb (length ws) (walk (whole d) t p)) _ _ (λ _. refl) (λ _. refl)))
 
   add-header : (i : ℕ) (ws : List ℕ) → Added (call (whole d) c W (add i ws))
-  add-header i ws = by-cond Added (leb 1024 i) _ _ (λ _. refl) (λ _. by-point Added (W .table i) _ refl (λ p. by-cond Added (eqb (totalOf (whole d) (W .tree)) 65535) _ _ (λ _. refl) (λ _. enter-header (W .tree) i p ws)))
+  add-header i ws = by-cond Added (leb pointLimit i) _ _ (λ _. refl) (λ _. by-point Added (W .table i) _ refl (λ p. by-cond Added (eqb (totalOf (whole d) (W .tree)) totalLimit) _ _ (λ _. refl) (λ _. enter-header (W .tree) i p ws)))
 
   -- and so for a delete
   abbrev Deleted : Answer (whole d) × World (whole d) → Type 0
@@ -50,34 +51,34 @@ module _ (d c k : ℕ) (W : World (whole d)) where
   leave-header (some t) p = by-cond Deleted (not (found (whole d) t p)) _ _ (λ _. refl) (λ _. refl)
 
   delete-header : (i : ℕ) → Deleted (call (whole d) c W (delete i))
-  delete-header i = by-cond Deleted (leb 1024 i) _ _ (λ _. refl) (λ _. by-point Deleted (W .table i) _ refl (λ p. leave-header (W .tree) p))
+  delete-header i = by-cond Deleted (leb pointLimit i) _ _ (λ _. refl) (λ _. by-point Deleted (W .table i) _ refl (λ p. leave-header (W .tree) p))
 
   -- no add takes more words than the capacity, which is 256 at most
-  add-alike : c ≤ 256 → (i : ℕ) (ws : List ℕ) → call (whole d) c W (add i (take 256 ws)) ≡ call (whole d) c W (add i ws)
-  add-alike h i ws = by-test (leb (length ws) 256)
-      (λ t. ap (λ (y : List ℕ). call (whole d) c W (add i y)) (take-all 256 ws (leb-true (length ws) 256 t)))
-      (λ t. let long = leb-false (length ws) 256 t in few-words (whole d) c (take 256 ws) ws
-      (λ j l. getD-take 256 ws j 0 (omega (arith, h, l)))
-      (λ j l. le-ltb (length (take 256 ws)) j (omega (arith, h, long, l, length-take 256 ws)) ∙ sym (le-ltb (length ws) j (omega (arith, h, long, l)))) W i)
+  add-alike : c ≤ capacityLimit → (i : ℕ) (ws : List ℕ) → call (whole d) c W (add i (take capacityLimit ws)) ≡ call (whole d) c W (add i ws)
+  add-alike h i ws = by-test (leb (length ws) capacityLimit)
+      (λ t. ap (λ (y : List ℕ). call (whole d) c W (add i y)) (take-all capacityLimit ws (leb-true (length ws) capacityLimit t)))
+      (λ t. let long = leb-false (length ws) capacityLimit t in few-words (whole d) c (take capacityLimit ws) ws
+      (λ j l. getD-take capacityLimit ws j 0 (omega (arith, h, l)))
+      (λ j l. le-ltb (length (take capacityLimit ws)) j (omega (arith, h, long, l, length-take capacityLimit ws)) ∙ sym (le-ltb (length ws) j (omega (arith, h, long, l)))) W i)
 
 pub add-does : (tree : RCFTree) (a : Lent) (points : List (List Float)) (marks : List ℕ) (i : ℕ) (first : List ℕ) (r : AddAnswer) (b : Lent) (next : RCFTree) (reply : List ℕ)
-    → AddDone tree a points marks i first r b → next ≡ headerAdded tree r → reply ≡ filled 17 (addNumbers r)
-    → (ws : List ℕ) → first ≡ take 256 ws → Does (λ d. add i ws) tree a points marks next b points marks reply
+    → AddDone tree a points marks i first r b → next ≡ headerAdded tree r → reply ≡ filled replyWidth (addNumbers r)
+    → (ws : List ℕ) → first ≡ take capacityLimit ws → Does (λ d. add i ws) tree a points marks next b points marks reply
 add-does tree a points marks i first r b next reply D f g ws s d c k W S =
     let C = D d c k W S in
     let new : next ≡ headerOf d c k (call (whole d) c W (add i first) .1) = f ∙ ap (λ t. headerAdded t r) (header-is d c k W tree a points marks S) ∙ ap (headerAdded (headerOf d c k W)) (C .answer) ∙ add-header d c k W i first in
     let same : call (whole d) c W (add i first) ≡ call (whole d) c W (add i ws) = ap (λ (y : List ℕ). call (whole d) c W (add i y)) s ∙ add-alike d c k W (S .limits .3) i ws in
     record {
-      reply-is = g ∙ ap (λ y. filled 17 (addNumbers y)) (C .answer ∙ ap (λ (y : Answer (whole d) × World (whole d)). addSays d (headerOf d c k (y .1)) (y .0)) same);
+      reply-is = g ∙ ap (λ y. filled replyWidth (addNumbers y)) (C .answer ∙ ap (λ (y : Answer (whole d) × World (whole d)). addSays d (headerOf d c k (y .1)) (y .0)) same);
       state = subst (λ (y : Answer (whole d) × World (whole d)). State d c k (y .1) next b points marks) same (subst (λ t. State d c k (call (whole d) c W (add i first) .1) t b points marks) (sym new) (C .state));
     }
 
 pub delete-does : (tree : RCFTree) (a : Lent) (points : List (List Float)) (marks : List ℕ) (i : ℕ) (r : DeleteAnswer) (b : Lent) (next : RCFTree) (reply : List ℕ)
-    → DeleteDone tree a points marks i r b → next ≡ headerDeleted tree r → reply ≡ filled 17 (deleteNumbers r) → Does (λ d. delete i) tree a points marks next b points marks reply
+    → DeleteDone tree a points marks i r b → next ≡ headerDeleted tree r → reply ≡ filled replyWidth (deleteNumbers r) → Does (λ d. delete i) tree a points marks next b points marks reply
 delete-does tree a points marks i r b next reply D f g d c k W S =
     let C = D d c k W S in
     let new : next ≡ headerOf d c k (call (whole d) c W (delete i) .1) = f ∙ ap (λ t. headerDeleted t r) (header-is d c k W tree a points marks S) ∙ ap (headerDeleted (headerOf d c k W)) (C .answer) ∙ delete-header d c k W i in
     record {
-      reply-is = g ∙ ap (λ y. filled 17 (deleteNumbers y)) (C .answer);
+      reply-is = g ∙ ap (λ y. filled replyWidth (deleteNumbers y)) (C .answer);
       state = subst (λ t. State d c k (call (whole d) c W (delete i) .1) t b points marks) (sym new) (C .state);
     }

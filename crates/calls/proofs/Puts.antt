@@ -2,13 +2,14 @@
 use mathlib.Core.Path.{_≡_, sym, ap, _∙_, subst}
 use mathlib.Core.Bool.{not, cond}
 use mathlib.Core.List.{List}
-use Prim.Native.Nat.{ℕ, _≤_}
+use Prim.Native.Nat.{ℕ, _≤_, _+_}
 use native.Mathlib.Omega.{arith}
 use lib.Dec.{leb}
 use lib.ListN.{length, take, length-take}
 use lib.Seq.{take-all}
 use lib.Ieee.{Float}
 use borrow.Author.Tests.{leb-true, leb-false, ne-eqb}
+use Rattle.limits.specs.Limits.{width, pointLimit}
 use Rattle.cuttree.specs.Run.{World, Answer, refused, indexAbove, coordinateCount, put, call}
 use Rattle.cuttree.proofs.Tests.{by-test, cond-true}
 use Rattle.wholetree.specs.Whole.{whole}
@@ -17,28 +18,28 @@ use Rattle.pointstore.specs.Puts.{putSays, Tabled, PutDone}
 use Rattle.randomcuttree.specs.declared.RCFTree.{RCFTree}
 use Rattle.randomcuttree.specs.State.{Lent, State}
 use Rattle.randomcuttree.proofs.Standing.{puts-keep}
-use Rattle.calls.specs.Said.{filled, putNumbers}
+use Rattle.calls.specs.Said.{filled, putNumbers, replyWidth}
 use Rattle.calls.specs.Done.{Does}
 
 module _ (d c : ℕ) (W : World (whole d)) (i : ℕ) where
   -- a list of another length is refused whatever is in it
-  uncounted : (xs : List Float) → (length xs ≡ d → ⊥) → call (whole d) c W (put i xs) ≡ cond {A = Answer (whole d) × World (whole d)} (leb 1024 i) (refused indexAbove, W) (refused coordinateCount, W)
-  uncounted xs n = ap (λ (y : Answer (whole d) × World (whole d)). cond {A = Answer (whole d) × World (whole d)} (leb 1024 i) (refused indexAbove, W) y) (cond-true _ _ _ (ap not (ne-eqb (length xs) d n)))
+  uncounted : (xs : List Float) → (length xs ≡ d → ⊥) → call (whole d) c W (put i xs) ≡ cond {A = Answer (whole d) × World (whole d)} (leb pointLimit i) (refused indexAbove, W) (refused coordinateCount, W)
+  uncounted xs n = ap (λ (y : Answer (whole d) × World (whole d)). cond {A = Answer (whole d) × World (whole d)} (leb pointLimit i) (refused indexAbove, W) y) (cond-true _ _ _ (ap not (ne-eqb (length xs) d n)))
 
   -- a list of nine is longer than any tree's
-  put-alike : d ≤ 8 → (xs : List Float) → call (whole d) c W (put i (take 9 xs)) ≡ call (whole d) c W (put i xs)
-  put-alike h xs = by-test (leb (length xs) 9)
-      (λ t. ap (λ (y : List Float). call (whole d) c W (put i y)) (take-all 9 xs (leb-true (length xs) 9 t)))
-      (λ t. let long = leb-false (length xs) 9 t in uncounted (take 9 xs) (λ x. omega (arith, x, length-take 9 xs, h, long)) ∙ sym (uncounted xs (λ x. omega (arith, x, h, long))))
+  put-alike : d ≤ width → (xs : List Float) → call (whole d) c W (put i (take (width + 1) xs)) ≡ call (whole d) c W (put i xs)
+  put-alike h xs = by-test (leb (length xs) (width + 1))
+      (λ t. ap (λ (y : List Float). call (whole d) c W (put i y)) (take-all (width + 1) xs (leb-true (length xs) (width + 1) t)))
+      (λ t. let long = leb-false (length xs) (width + 1) t in uncounted (take (width + 1) xs) (λ x. omega (arith, x, length-take (width + 1) xs, h, long)) ∙ sym (uncounted xs (λ x. omega (arith, x, h, long))))
 
 pub put-does : (tree : RCFTree) (copies : List ℕ) (points points′ : List (List Float)) (marks marks′ : List ℕ) (i : ℕ) (first : List Float) (r : PutAnswer) (reply : List ℕ)
-    → ((d c : ℕ) (W : World (whole d)) → tree .dimensions ≡ d → Tabled d c W points marks copies → PutDone d c W i first points′ marks′ r) → reply ≡ filled 17 (putNumbers r)
-    → (a : Lent) (xs : List Float) → a .copies ≡ copies → first ≡ take 9 xs → Does (λ d. put i xs) tree a points marks tree a points′ marks′ reply
+    → ((d c : ℕ) (W : World (whole d)) → tree .dimensions ≡ d → Tabled d c W points marks copies → PutDone d c W i first points′ marks′ r) → reply ≡ filled replyWidth (putNumbers r)
+    → (a : Lent) (xs : List Float) → a .copies ≡ copies → first ≡ take (width + 1) xs → Does (λ d. put i xs) tree a points marks tree a points′ marks′ reply
 put-does tree copies points points′ marks marks′ i first r reply D f a xs g s d c k W S =
     let K = puts-keep d c k W tree a points marks S in
     let P = D d c W (S .dimensions-are) (subst (λ (y : List ℕ). Tabled d c W points marks y) g (K .0)) in
     let same : call (whole d) c W (put i first) ≡ call (whole d) c W (put i xs) = ap (λ (y : List Float). call (whole d) c W (put i y)) s ∙ put-alike d c W i (S .limits .1) xs in
     record {
-      reply-is = f ∙ ap (λ y. filled 17 (putNumbers y)) (P .answer ∙ ap (λ (y : Answer (whole d) × World (whole d)). putSays d (y .0)) same);
+      reply-is = f ∙ ap (λ y. filled replyWidth (putNumbers y)) (P .answer ∙ ap (λ (y : Answer (whole d) × World (whole d)). putSays d (y .0)) same);
       state = subst (λ (y : Answer (whole d) × World (whole d)). State d c k (y .1) tree a points′ marks′) same (K .1 i first points′ marks′ r P);
     }

@@ -8,10 +8,11 @@ use lib.Dec.{eqb, ltb}
 use lib.ListN.{length, getD, set, length-set, length-append, List·getD-append, List·getD-eq-default}
 use lib.Seq.{ext-getD, getD-set-same, getD-set-other, getD-append-add}
 use borrow.Author.Tests.{eqb-true, eqb-false, ltb-true, ltb-false}
+use Rattle.limits.specs.Limits.{width}
 use Rattle.cuttree.proofs.Tests.{by-test}
 use Rattle.wholetree.specs.Whole.{tab}
 use Rattle.wholetree.proofs.Readings.{tab-length, tab-at}
-use Rattle.calls.specs.Said.{filled}
+use Rattle.calls.specs.Said.{filled, replyWidth}
 
 filled-length : (n : ℕ) (xs : List ℕ) → length (filled n xs) ≡ n
 unfolding filled
@@ -41,25 +42,25 @@ module _ (f g : ℕ → ℕ) (d : ℕ) where
 -- the refusal r, then f and g of each of d channels: of the channels below i they are written, and 0 comes after the last
 pub record Told (r : ℕ) (f g : ℕ → ℕ) (d i : ℕ) (l : List ℕ) : Type 0 where
   pub within : i ≤ d
-  pub long : length l ≡ 17
+  pub long : length l ≡ replyWidth
   pub first : getD l 0 0 ≡ r
   pub lower : (j : ℕ) → j < i → getD l (1 + j) 0 ≡ f j
   pub upper : (j : ℕ) → j < i → getD l (1 + d + j) 0 ≡ g j
-  pub rest : (k : ℕ) → 2 * d < k → k < 17 → getD l k 0 ≡ 0
+  pub rest : (k : ℕ) → 2 * d < k → k < replyWidth → getD l k 0 ≡ 0
 
 module _ (r : ℕ) (f g : ℕ → ℕ) (d : ℕ) where
-  pub told-none : Told r f g d 0 (set (filled 17 []) 0 r)
+  pub told-none : Told r f g d 0 (set (filled replyWidth []) 0 r)
   told-none = record {
     within = zero-le;
-    long = length-set (filled 17 []) 0 r ∙ filled-length 17 [];
-    first = getD-set-same (filled 17 []) 0 r 0 (omega (arith, filled-length 17 []));
+    long = length-set (filled replyWidth []) 0 r ∙ filled-length replyWidth [];
+    first = getD-set-same (filled replyWidth []) 0 r 0 (omega (arith, filled-length replyWidth []));
     lower = λ j h. absurd (omega arith);
     upper = λ j h. absurd (omega arith);
-    rest = λ k h q. getD-set-other (filled 17 []) 0 k r 0 (λ e. absurd (omega arith)) ∙ filled-at 17 [] k q;
+    rest = λ k h q. getD-set-other (filled replyWidth []) 0 k r 0 (λ e. absurd (omega arith)) ∙ filled-at replyWidth [] k q;
   }
 
   -- the numbers of channel i are written
-  module _ (i : ℕ) (l : List ℕ) (x y : ℕ) (w : Told r f g d i l) (h : i < d) (small : d ≤ 8) (ex : x ≡ f i) (ey : y ≡ g i) where
+  module _ (i : ℕ) (l : List ℕ) (x y : ℕ) (w : Told r f g d i l) (h : i < d) (small : d ≤ width) (ex : x ≡ f i) (ey : y ≡ g i) where
     -- at every other place the list is as before
     kept : (k : ℕ) → (k ≡ 1 + i → ⊥) → (k ≡ 1 + d + i → ⊥) → getD (set (set l (1 + i) x) (1 + d + i) y) k 0 ≡ getD l k 0
     kept k n m = getD-set-other (set l (1 + i) x) (1 + d + i) k y 0 m ∙ getD-set-other l (1 + i) k x 0 n
@@ -85,7 +86,7 @@ module _ (r : ℕ) (f g : ℕ → ℕ) (d : ℕ) where
     }
 
   -- a number by its place
-  number-at : (l : List ℕ) → Told r f g d d l → (k : ℕ) → k < 17 → getD l k 0 ≡ getD (r ∷ (tab d f ++ tab d g)) k 0
+  number-at : (l : List ℕ) → Told r f g d d l → (k : ℕ) → k < replyWidth → getD l k 0 ≡ getD (r ∷ (tab d f ++ tab d g)) k 0
   number-at l w zero h = w .first
   number-at l w (suc m) h = by-test (ltb m d)
       (λ t. let q : m < d = ltb-true m d t in moved (1 + m) (omega arith) ∙ w .lower m q ∙ sym (both-lower f g d m q))
@@ -100,9 +101,9 @@ module _ (r : ℕ) (f g : ℕ → ℕ) (d : ℕ) where
           (λ u. let q : m - d < d = omega (arith, ltb-true m (2 * d) u) in moved (1 + d + (m - d)) (omega arith) ∙ w .upper (m - d) q ∙ sym (both-upper f g d (m - d) q) ∙ ap (λ (k : ℕ). getD (tab d f ++ tab d g) k 0) (omega arith))
           (λ u. let q : 2 * d ≤ m = ltb-false m (2 * d) u in w .rest (suc m) (omega arith) h ∙ sym (both-after f g d m q))
 
-  pub told-all : (i : ℕ) (l : List ℕ) → Told r f g d i l → d ≤ i → l ≡ filled 17 (r ∷ (tab d f ++ tab d g))
-  told-all i l w h = ext-getD 0 l (filled 17 (r ∷ (tab d f ++ tab d g))) (w .long ∙ sym (filled-length 17 (r ∷ (tab d f ++ tab d g))))
-      (λ k q. number-at l (full (omega (arith, w .within))) k (omega (arith, w .long)) ∙ sym (filled-at 17 (r ∷ (tab d f ++ tab d g)) k (omega (arith, w .long))))
+  pub told-all : (i : ℕ) (l : List ℕ) → Told r f g d i l → d ≤ i → l ≡ filled replyWidth (r ∷ (tab d f ++ tab d g))
+  told-all i l w h = ext-getD 0 l (filled replyWidth (r ∷ (tab d f ++ tab d g))) (w .long ∙ sym (filled-length replyWidth (r ∷ (tab d f ++ tab d g))))
+      (λ k q. number-at l (full (omega (arith, w .within))) k (omega (arith, w .long)) ∙ sym (filled-at replyWidth (r ∷ (tab d f ++ tab d g)) k (omega (arith, w .long))))
     where
       full : i ≡ d → Told r f g d d l
       full e = subst (λ (n : ℕ). Told r f g d n l) e w

@@ -13,11 +13,11 @@ use Rattle.randomcuttree.specs.declared.AddAnswer.{AddAnswer}
 use Rattle.randomcuttree.specs.declared.AddAnswer.the-variants.{Added, NotAdded}
 use Rattle.randomcuttree.specs.declared.DeleteAnswer.{DeleteAnswer}
 use Rattle.randomcuttree.specs.declared.DeleteAnswer.the-variants.{Deleted, NotDeleted}
-use Rattle.calls.specs.Said.{filled, said}
+use Rattle.calls.specs.Said.{filled, said, replyWidth}
 
 -- the numbers of the answer, with 0 after them, and a state of the world after the call
 pub record Done (d c k : ℕ) (W : World (whole d)) (x : Call (whole d)) (tree : RCFTree) (a : Lent) (points : List (List Float)) (marks reply : List ℕ) : Type 0 where
-  pub reply-is : reply ≡ filled 17 (said d c k x (call (whole d) c W x))
+  pub reply-is : reply ≡ filled replyWidth (said d c k x (call (whole d) c W x))
   pub state : State d c k (call (whole d) c W x .1) tree a points marks
 
 -- A call, whichever world's the lent state is: header, arrays and table before it, then after it.

@@ -1,7 +1,8 @@
 -- The numbers that a run's answers are made of (docs/LAYOUT.md, 'The answers'). Definitions.
 use mathlib.Core.List.{List, [], _∷_, _++_}
-use Prim.Native.Nat.{ℕ, zero, suc}
+use Prim.Native.Nat.{ℕ, zero, suc, _+_, _*_}
 use lib.Ieee.{Float, binary32, toBits}
+use Rattle.limits.specs.Limits.{width}
 use Rattle.boundingbox.specs.Ends.{channel}
 use Rattle.cuttree.specs.Run.{World, Answer, Call, put, add, delete, query, copiesOf, branchOf, boxOf, call}
 use Rattle.wholetree.specs.Whole.{whole, tab}
@@ -52,6 +53,10 @@ endBits d xs = tab d (λ (i : ℕ). toBits binary32 (channel xs i))
 
 abbrev pub boxNumbers : ℕ → BoxAnswer → List ℕ
 boxNumbers d b = b .refusal ∷ (endBits d (b .«bounding_box» .«min_values») ++ endBits d (b .«bounding_box» .«max_values»))
+
+-- the numbers of the longest answer, a box's
+abbrev pub replyWidth : ℕ
+replyWidth = 1 + 2 * width
 
 -- the first n of xs, with 0 after its end
 unfoldable pub filled : ℕ → List ℕ → List ℕ

@@ -1,4 +1,14 @@
 // The calls of a tree with what they are given in arrays of fixed size: each carried out on the lent state, and its answer as numbers.
+use limits::BRANCHES;
+use limits::CAPACITY;
+use limits::CHANNELS;
+use limits::Copies;
+use limits::Cuts;
+use limits::Free;
+use limits::Marks;
+use limits::Nodes;
+use limits::Points;
+use limits::Row;
 use pointstore::PutAnswer;
 use randomcuttree::AddAnswer;
 use randomcuttree::BoxAnswer;
@@ -8,17 +18,29 @@ use randomcuttree::DeleteAnswer;
 use randomcuttree::RCFTree;
 ghost use mathlib.Core.Path.{_≡_};
 ghost use mathlib.Core.List.{List};
-ghost use Prim.Native.Nat.{ℕ, _≤_};
+ghost use Prim.Native.Nat.{ℕ, _+_, _≤_};
 ghost use lib.ListN.{take};
 ghost use lib.Ieee.{Float};
+ghost use Rattle.limits.specs.Limits.{width, capacityLimit};
 ghost use Rattle.cuttree.specs.Run.{World, put, add, delete, query};
 ghost use Rattle.wholetree.specs.Whole.{whole};
 ghost use Rattle.pointstore.specs.Puts.{Tabled, PutDone};
 ghost use Rattle.randomcuttree.specs.State.{Lent, lent, SomeState};
 ghost use Rattle.randomcuttree.specs.Answers.{AddDone};
 ghost use Rattle.randomcuttree.specs.Queries.{BoxRead, SomeBoxRead};
-ghost use Rattle.calls.specs.Said.{filled, putNumbers, addNumbers, deleteNumbers, copiesNumbers, branchNumbers, boxNumbers};
+ghost use Rattle.calls.specs.Said.{filled, replyWidth, putNumbers, addNumbers, deleteNumbers, copiesNumbers, branchNumbers, boxNumbers};
 ghost use Rattle.calls.specs.Done.{Does, headerAdded, headerDeleted, queryOf};
+
+// As many coordinates of a given list as are looked at: one more than any tree has.
+pub type Coordinates = [f32; CHANNELS + 1];
+
+// As many words as are looked at: no walk takes more.
+pub type Words = [u64; CAPACITY];
+
+// An answer as numbers. The longest is a box's: a refusal, and two ends for each channel.
+pub const REPLY: usize = 1 + 2 * CHANNELS;
+
+pub type Reply = [usize; REPLY];
 
 fn wide8(x: u8) -> usize
     ensures { λ r. ⌜ r ≡ x ⌝ }
@@ -33,10 +55,10 @@ fn wide32(x: u32) -> usize
 }
 
 // The numbers of each answer, with 0 after them.
-fn tell_put(answer: PutAnswer, reply: &mut [usize; 17])
-    ensures { λ _. ⌜ now (reply .exit) ≡ filled 17 (putNumbers answer) ⌝ }
+fn tell_put(answer: PutAnswer, reply: &mut Reply)
+    ensures { λ _. ⌜ now (reply .exit) ≡ filled replyWidth (putNumbers answer) ⌝ }
 {
-    *reply = [0; 17];
+    *reply = [0; REPLY];
     match answer {
         PutAnswer::Written => {}
         PutAnswer::Refused(r) => {
@@ -45,10 +67,10 @@ fn tell_put(answer: PutAnswer, reply: &mut [usize; 17])
     }
 }
 
-fn tell_add(answer: AddAnswer, reply: &mut [usize; 17])
-    ensures { λ _. ⌜ now (reply .exit) ≡ filled 17 (addNumbers answer) ⌝ }
+fn tell_add(answer: AddAnswer, reply: &mut Reply)
+    ensures { λ _. ⌜ now (reply .exit) ≡ filled replyWidth (addNumbers answer) ⌝ }
 {
-    *reply = [0; 17];
+    *reply = [0; REPLY];
     match answer {
         AddAnswer::Added(_, leaf, taken) => {
             reply[1] = leaf;
@@ -60,10 +82,10 @@ fn tell_add(answer: AddAnswer, reply: &mut [usize; 17])
     }
 }
 
-fn tell_delete(answer: DeleteAnswer, reply: &mut [usize; 17])
-    ensures { λ _. ⌜ now (reply .exit) ≡ filled 17 (deleteNumbers answer) ⌝ }
+fn tell_delete(answer: DeleteAnswer, reply: &mut Reply)
+    ensures { λ _. ⌜ now (reply .exit) ≡ filled replyWidth (deleteNumbers answer) ⌝ }
 {
-    *reply = [0; 17];
+    *reply = [0; REPLY];
     match answer {
         DeleteAnswer::Deleted(_, leaf) => {
             reply[1] = leaf;
@@ -74,10 +96,10 @@ fn tell_delete(answer: DeleteAnswer, reply: &mut [usize; 17])
     }
 }
 
-fn tell_copies(answer: CopiesAnswer, reply: &mut [usize; 17])
-    ensures { λ _. ⌜ now (reply .exit) ≡ filled 17 (copiesNumbers answer) ⌝ }
+fn tell_copies(answer: CopiesAnswer, reply: &mut Reply)
+    ensures { λ _. ⌜ now (reply .exit) ≡ filled replyWidth (copiesNumbers answer) ⌝ }
 {
-    *reply = [0; 17];
+    *reply = [0; REPLY];
     match answer {
         CopiesAnswer::Copies(n) => {
             reply[1] = n;
@@ -88,10 +110,10 @@ fn tell_copies(answer: CopiesAnswer, reply: &mut [usize; 17])
     }
 }
 
-fn tell_branch(answer: BranchAnswer, reply: &mut [usize; 17])
-    ensures { λ _. ⌜ now (reply .exit) ≡ filled 17 (branchNumbers answer) ⌝ }
+fn tell_branch(answer: BranchAnswer, reply: &mut Reply)
+    ensures { λ _. ⌜ now (reply .exit) ≡ filled replyWidth (branchNumbers answer) ⌝ }
 {
-    *reply = [0; 17];
+    *reply = [0; REPLY];
     match answer {
         BranchAnswer::Branch(row) => {
             let cut = row.cut;
@@ -108,14 +130,14 @@ fn tell_branch(answer: BranchAnswer, reply: &mut [usize; 17])
 }
 
 // The ends of a box's channels as bits, the lower ones from the second number on, the upper ones after them.
-fn tell_box(answer: BoxAnswer, d: usize, reply: &mut [usize; 17])
-    requires { ⌜ d ≤ 8 ⌝ }
-    ensures { λ _. ⌜ now (reply .exit) ≡ filled 17 (boxNumbers d answer) ⌝ }
+fn tell_box(answer: BoxAnswer, d: usize, reply: &mut Reply)
+    requires { ⌜ d ≤ width ⌝ }
+    ensures { λ _. ⌜ now (reply .exit) ≡ filled replyWidth (boxNumbers d answer) ⌝ }
 {
     let bounding_box = answer.bounding_box;
     let low = bounding_box.min_values;
     let high = bounding_box.max_values;
-    *reply = [0; 17];
+    *reply = [0; REPLY];
     reply[0] = wide8(answer.refusal);
     let mut i: usize = 0;
     while i < d {
@@ -128,14 +150,14 @@ fn tell_box(answer: BoxAnswer, d: usize, reply: &mut [usize; 17])
 // The put of the first n coordinates.
 fn put_first(
     dimensions: usize,
-    copies: &[u16; 1024],
-    points: &mut [[f32; 8]; 1024],
-    written: &mut [u8; 1024],
+    copies: &Copies,
+    points: &mut Points,
+    written: &mut Marks,
     index: usize,
-    coordinates: &[f32; 9],
+    coordinates: &Coordinates,
     n: usize,
 ) -> PutAnswer
-    requires { ⌜ n ≤ 9 ⌝ }
+    requires { ⌜ n ≤ (width + 1) ⌝ }
     ensures { λ r. ⌜ ((d c : ℕ) (W : World (whole d)) → dimensions ≡ d → Tabled d c W (now (points .entry)) (now (written .entry)) (now (copies .entry)) → PutDone d c W index (take n (now (coordinates .entry))) (now (points .exit)) (now (written .exit)) r) ⌝ }
 {
     let all: &[f32] = coordinates;
@@ -146,16 +168,16 @@ fn put_first(
 // Rules out a list of nine put as one of eight, and a refused put whose answer is told as written.
 pub fn put(
     tree: RCFTree,
-    copies: &[u16; 1024],
-    points: &mut [[f32; 8]; 1024],
-    written: &mut [u8; 1024],
+    copies: &Copies,
+    points: &mut Points,
+    written: &mut Marks,
     index: usize,
-    coordinates: &[f32; 9],
+    coordinates: &Coordinates,
     n: usize,
-    reply: &mut [usize; 17],
+    reply: &mut Reply,
 )
-    requires { ⌜ n ≤ 9 ⌝ }
-    ensures { λ _. ⌜ ((a : Lent) (xs : List Float) → a .copies ≡ now (copies .entry) → take n (now (coordinates .entry)) ≡ take 9 xs
+    requires { ⌜ n ≤ (width + 1) ⌝ }
+    ensures { λ _. ⌜ ((a : Lent) (xs : List Float) → a .copies ≡ now (copies .entry) → take n (now (coordinates .entry)) ≡ take (width + 1) xs
         → Does (λ d. put index xs) tree a (now (points .entry)) (now (written .entry)) tree a (now (points .exit)) (now (written .exit)) (now (reply .exit))) ⌝ }
 {
     let answer = put_first(
@@ -173,19 +195,19 @@ pub fn put(
 // The add with the first n words.
 fn add_first(
     tree: RCFTree,
-    nodes: &mut [[u16; 4]; 255],
-    cuts: &mut [f32; 255],
-    copies: &mut [u16; 1024],
-    free: &mut [[u16; 2]; 255],
-    lows: &mut [[f32; 8]; 255],
-    highs: &mut [[f32; 8]; 255],
-    points: &[[f32; 8]; 1024],
-    written: &[u8; 1024],
+    nodes: &mut Nodes,
+    cuts: &mut Cuts,
+    copies: &mut Copies,
+    free: &mut Free,
+    lows: &mut [Row; BRANCHES],
+    highs: &mut [Row; BRANCHES],
+    points: &Points,
+    written: &Marks,
     index: usize,
-    words: &[u64; 256],
+    words: &Words,
     n: usize,
 ) -> AddAnswer
-    requires { ⌜ (n ≤ 256) × SomeState tree (lent (now nodes) (now cuts) (now copies) (now free) (now lows) (now highs)) (now points) (now written) ⌝ }
+    requires { ⌜ (n ≤ capacityLimit) × SomeState tree (lent (now nodes) (now cuts) (now copies) (now free) (now lows) (now highs)) (now points) (now written) ⌝ }
     ensures { λ r. ⌜ AddDone tree (lent (now (nodes .entry)) (now (cuts .entry)) (now (copies .entry)) (now (free .entry)) (now (lows .entry)) (now (highs .entry))) (now (points .entry)) (now (written .entry)) index (take n (now (words .entry))) r (lent (now (nodes .exit)) (now (cuts .exit)) (now (copies .exit)) (now (free .exit)) (now (lows .exit)) (now (highs .exit))) ⌝ }
 {
     let all: &[u64] = words;
@@ -222,25 +244,25 @@ fn header_deleted(tree: RCFTree, answer: DeleteAnswer) -> RCFTree
     }
 }
 
-// The add with a list by its first 256 words, and the header after it. A tree has 256 leaves at most, so a walk takes no more words.
+// The add with a list by as many of its words as a tree has leaves at most, and the header after it. A walk takes no more.
 // Rules out an add that is short of words where the list has enough, and the old header given back for an add that is done.
 pub fn add(
     tree: RCFTree,
-    nodes: &mut [[u16; 4]; 255],
-    cuts: &mut [f32; 255],
-    copies: &mut [u16; 1024],
-    free: &mut [[u16; 2]; 255],
-    lows: &mut [[f32; 8]; 255],
-    highs: &mut [[f32; 8]; 255],
-    points: &[[f32; 8]; 1024],
-    written: &[u8; 1024],
+    nodes: &mut Nodes,
+    cuts: &mut Cuts,
+    copies: &mut Copies,
+    free: &mut Free,
+    lows: &mut [Row; BRANCHES],
+    highs: &mut [Row; BRANCHES],
+    points: &Points,
+    written: &Marks,
     index: usize,
-    words: &[u64; 256],
+    words: &Words,
     n: usize,
-    reply: &mut [usize; 17],
+    reply: &mut Reply,
 ) -> RCFTree
-    requires { ⌜ (n ≤ 256) × SomeState tree (lent (now nodes) (now cuts) (now copies) (now free) (now lows) (now highs)) (now points) (now written) ⌝ }
-    ensures { λ r. ⌜ ((ws : List ℕ) → take n (now (words .entry)) ≡ take 256 ws
+    requires { ⌜ (n ≤ capacityLimit) × SomeState tree (lent (now nodes) (now cuts) (now copies) (now free) (now lows) (now highs)) (now points) (now written) ⌝ }
+    ensures { λ r. ⌜ ((ws : List ℕ) → take n (now (words .entry)) ≡ take capacityLimit ws
         → Does (λ d. add index ws) tree (lent (now (nodes .entry)) (now (cuts .entry)) (now (copies .entry)) (now (free .entry)) (now (lows .entry)) (now (highs .entry))) (now (points .entry)) (now (written .entry)) r (lent (now (nodes .exit)) (now (cuts .exit)) (now (copies .exit)) (now (free .exit)) (now (lows .exit)) (now (highs .exit))) (now (points .entry)) (now (written .entry)) (now (reply .exit))) ⌝ }
 {
     let answer = add_first(
@@ -265,16 +287,16 @@ pub fn add(
 // Rules out a delete whose answer has the index asked for in place of the leaf's, and a refused one that gives another header back.
 pub fn delete(
     tree: RCFTree,
-    nodes: &mut [[u16; 4]; 255],
-    cuts: &mut [f32; 255],
-    copies: &mut [u16; 1024],
-    free: &mut [[u16; 2]; 255],
-    lows: &mut [[f32; 8]; 255],
-    highs: &mut [[f32; 8]; 255],
-    points: &[[f32; 8]; 1024],
-    written: &[u8; 1024],
+    nodes: &mut Nodes,
+    cuts: &mut Cuts,
+    copies: &mut Copies,
+    free: &mut Free,
+    lows: &mut [Row; BRANCHES],
+    highs: &mut [Row; BRANCHES],
+    points: &Points,
+    written: &Marks,
     index: usize,
-    reply: &mut [usize; 17],
+    reply: &mut Reply,
 ) -> RCFTree
     requires { ⌜ SomeState tree (lent (now nodes) (now cuts) (now copies) (now free) (now lows) (now highs)) (now points) (now written) ⌝ }
     ensures { λ r. ⌜ Does (λ d. delete index) tree (lent (now (nodes .entry)) (now (cuts .entry)) (now (copies .entry)) (now (free .entry)) (now (lows .entry)) (now (highs .entry))) (now (points .entry)) (now (written .entry)) r (lent (now (nodes .exit)) (now (cuts .exit)) (now (copies .exit)) (now (free .exit)) (now (lows .exit)) (now (highs .exit))) (now (points .entry)) (now (written .entry)) (now (reply .exit)) ⌝ }
@@ -298,17 +320,17 @@ pub fn delete(
 // Rules out the copies of a leaf answered where a branch is asked for, and numbers left in the reply from the call before.
 pub fn query(
     tree: RCFTree,
-    nodes: &[[u16; 4]; 255],
-    cuts: &[f32; 255],
-    copies: &[u16; 1024],
-    points: &[[f32; 8]; 1024],
-    lows: &[[f32; 8]; 255],
-    highs: &[[f32; 8]; 255],
+    nodes: &Nodes,
+    cuts: &Cuts,
+    copies: &Copies,
+    points: &Points,
+    lows: &[Row; BRANCHES],
+    highs: &[Row; BRANCHES],
     kind: usize,
     id: usize,
-    reply: &mut [usize; 17],
+    reply: &mut Reply,
 )
-    requires { ⌜ SomeBoxRead tree (now nodes) (now points) (now lows) (now highs) × (tree .dimensions ≤ 8) ⌝ }
+    requires { ⌜ SomeBoxRead tree (now nodes) (now points) (now lows) (now highs) × (tree .dimensions ≤ width) ⌝ }
     ensures { λ _. ⌜ ((a : Lent) (marks : List ℕ) → BoxRead a (now (nodes .entry)) (now (lows .entry)) (now (highs .entry)) → a .cuts ≡ now (cuts .entry) → a .copies ≡ now (copies .entry)
         → Does (λ d. query (queryOf kind id)) tree a (now (points .entry)) marks tree a (now (points .entry)) marks (now (reply .exit))) ⌝ }
 {

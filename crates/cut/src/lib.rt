@@ -1,6 +1,9 @@
 // The cut of a box by a random word (cut.rs): the channel that is cut and where, and whether the cut parts a point from the box.
 use boundingbox::BoundingBox;
+use limits::CHANNELS;
+use limits::Row;
 ghost use mathlib.Core.Path.{_≡_};
+ghost use Rattle.limits.specs.Limits.{width};
 ghost use Rattle.boundingbox.specs.Ends.{least, greatest};
 ghost use Rattle.boundingbox.specs.Sides.{gapOf, total};
 ghost use Prim.Native.Nat.{ℕ, _+_, _<_};
@@ -22,6 +25,9 @@ pub enum Separation {
     NoCut,
     Drawn(Cut, bool),
 }
+
+// The sums of the first sides of a box, from none to all.
+type Sums = [f64; CHANNELS + 1];
 
 // The side that is cut, and the amount before it; or no side, where none leaves nothing above zero.
 pub enum Side {
@@ -45,14 +51,14 @@ fn outside_of(low: f32, high: f32, x: f32) -> f64
 }
 
 // How far the point lies outside the box, summed in channel order.
-fn outside_sum(bounding_box: BoundingBox, point: &[f32; 8]) -> f64
-    ensures { λ r. ⌜ r ≡ outsideSum («bounding_box» .«min_values») («bounding_box» .«max_values») (now (point .entry)) 8 ⌝ }
+fn outside_sum(bounding_box: BoundingBox, point: &Row) -> f64
+    ensures { λ r. ⌜ r ≡ outsideSum («bounding_box» .«min_values») («bounding_box» .«max_values») (now (point .entry)) width ⌝ }
 {
     let low = bounding_box.min_values;
     let high = bounding_box.max_values;
     let mut sum: f64 = 0.0;
     let mut i: usize = 0;
-    while i < 8 {
+    while i < CHANNELS {
         sum = sum + outside_of(low[i], high[i], point[i]);
         i += 1;
     }
@@ -88,14 +94,14 @@ fn left_of(rest: f64, side: f64) -> f64
 }
 
 // The first side, of the box with the point in it, that leaves nothing of the range above zero.
-fn side_cut(bounding_box: BoundingBox, point: &[f32; 8], range: f64) -> Side
-    ensures { λ r. ⌜ r ≡ sideFrom (sideOf («bounding_box» .«min_values») («bounding_box» .«max_values») (now (point .entry))) 8 0 range ⌝ }
+fn side_cut(bounding_box: BoundingBox, point: &Row, range: f64) -> Side
+    ensures { λ r. ⌜ r ≡ sideFrom (sideOf («bounding_box» .«min_values») («bounding_box» .«max_values») (now (point .entry))) width 0 range ⌝ }
 {
     let low = bounding_box.min_values;
     let high = bounding_box.max_values;
     let mut rest = range;
     let mut i: usize = 0;
-    while i < 8 {
+    while i < CHANNELS {
         let side = side_with(low[i], high[i], point[i]);
         if side_reaches(rest, side) {
             return Side::At(i, rest);
@@ -141,9 +147,9 @@ impl Cut {
     pub fn random_cut_and_separation(
         bounding_box: BoundingBox,
         word: u64,
-        point: &[f32; 8],
+        point: &Row,
     ) -> Separation
-        ensures { λ r. ⌜ r ≡ separation 8 («bounding_box» .«min_values») («bounding_box» .«max_values») (now (point .entry)) word ⌝ }
+        ensures { λ r. ⌜ r ≡ separation width («bounding_box» .«min_values») («bounding_box» .«max_values») (now (point .entry)) word ⌝ }
     {
         let outside = outside_sum(bounding_box, point);
         if outside == 0.0 {
@@ -160,33 +166,29 @@ impl Cut {
     // The same cut, of a box and a point of coordinates. Their sides are whole numbers, and the sums of these are exact; so each sum by
     // itself tells whether it reaches the range, where `side_cut` waits for one subtraction after another and leaves its loop at any turn.
     // Rules out a side told by a sum that falls short of the range, and a rest from the sum with the side in it.
-    pub fn whole_cut_and_separation(
-        bounding_box: BoundingBox,
-        word: u64,
-        point: &[f32; 8],
-    ) -> Separation
-        requires { ⌜ Readings («bounding_box» .«min_values») («bounding_box» .«max_values») (now point) 8 ⌝ }
-        ensures { λ r. ⌜ r ≡ separation 8 («bounding_box» .«min_values») («bounding_box» .«max_values») (now (point .entry)) word ⌝ }
+    pub fn whole_cut_and_separation(bounding_box: BoundingBox, word: u64, point: &Row) -> Separation
+        requires { ⌜ Readings («bounding_box» .«min_values») («bounding_box» .«max_values») (now point) width ⌝ }
+        ensures { λ r. ⌜ r ≡ separation width («bounding_box» .«min_values») («bounding_box» .«max_values») (now (point .entry)) word ⌝ }
     {
         if bounding_box.contains(point) {
             return Separation::NoCut;
         }
         let sums = running_sums(bounding_box, point);
-        let range = sums[8] * readings::factor(word);
+        let range = sums[CHANNELS] * readings::factor(word);
         let dimension = sums_below(sums, at_least_one(range));
         drawn(bounding_box, point, dimension, range - sums[dimension])
     }
 }
 
-// The sums of the first 0 to 8 sides of the box with the point in it.
-fn running_sums(bounding_box: BoundingBox, point: &[f32; 8]) -> [f64; 9]
-    ensures { λ r. ⌜ ((i : ℕ) → i < 9 → getD r i nan ≡ total (sideOf («bounding_box» .«min_values») («bounding_box» .«max_values») (now (point .entry))) i) ⌝ }
+// The sums of no side, of the first, and so on to all sides of the box with the point in it.
+fn running_sums(bounding_box: BoundingBox, point: &Row) -> Sums
+    ensures { λ r. ⌜ ((i : ℕ) → i < width + 1 → getD r i nan ≡ total (sideOf («bounding_box» .«min_values») («bounding_box» .«max_values») (now (point .entry))) i) ⌝ }
 {
     let low = bounding_box.min_values;
     let high = bounding_box.max_values;
-    let mut sums = [0.0f64; 9];
+    let mut sums = [0.0f64; CHANNELS + 1];
     let mut i: usize = 0;
-    while i < 8 {
+    while i < CHANNELS {
         sums[i + 1] = sums[i] + side_with(low[i], high[i], point[i]);
         i += 1;
     }
@@ -200,13 +202,13 @@ fn below(x: f64, bound: f64) -> usize
     if x < bound { 1 } else { 0 }
 }
 
-// How many of the sums of 1 to 8 sides lie below the bound.
-fn sums_below(sums: [f64; 9], bound: f64) -> usize
-    ensures { λ r. ⌜ r ≡ countBelow (λ (i : ℕ). getD sums (i + 1) nan) bound 8 ⌝ }
+// How many of the sums of one side or more lie below the bound.
+fn sums_below(sums: Sums, bound: f64) -> usize
+    ensures { λ r. ⌜ r ≡ countBelow (λ (i : ℕ). getD sums (i + 1) nan) bound width ⌝ }
 {
     let mut count: usize = 0;
     let mut i: usize = 0;
-    while i < 8 {
+    while i < CHANNELS {
         count = count + below(sums[i + 1], bound);
         i += 1;
     }
@@ -221,8 +223,8 @@ fn at_least_one(x: f64) -> f64
 }
 
 // The cut on the side of a channel, and whether it parts the point from the box.
-fn drawn(bounding_box: BoundingBox, point: &[f32; 8], dimension: usize, rest: f64) -> Separation
-    requires { ⌜ dimension < 8 ⌝ }
+fn drawn(bounding_box: BoundingBox, point: &Row, dimension: usize, rest: f64) -> Separation
+    requires { ⌜ dimension < width ⌝ }
     ensures { λ r. ⌜ r ≡ drawnAt («bounding_box» .«min_values») («bounding_box» .«max_values») (now (point .entry)) (Side.At dimension rest) ⌝ }
 {
     let low = bounding_box.min_values[dimension];

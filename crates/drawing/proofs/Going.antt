@@ -7,6 +7,7 @@ use native.Mathlib.Numerals.{add-one}
 use native.Mathlib.Omega.{arith}
 use lib.ListN.{getD, take}
 use lib.Ieee.{Float}
+use Rattle.limits.specs.Limits.{width}
 use Rattle.boundingbox.specs.Ends.{least, greatest, joined}
 use Rattle.boundingbox.proofs.Joined.{joined-same}
 use Rattle.boundingbox.proofs.Order.{least-same, greatest-same}
@@ -54,7 +55,7 @@ module _ (c k : ℕ) (nodes : List (List ℕ)) (points lows highs : List (List F
   -- at the node of height m
   module _ (m : ℕ) (b : BoundingBox) (r : Highest) (G : Going m b r) where
     -- the box and the point are coordinates, as the draw asks
-    pub going-readings : SomeDrawing c k nodes points lows highs path len leaf words point → Readings (b .«min_values») (b .«max_values») point 8
+    pub going-readings : SomeDrawing c k nodes points lows highs path len leaf words point → Readings (b .«min_values») (b .«max_values») point width
     going-readings s =
         let D = s .drawing in
         let A = G .keeps (s .channels) (s .tree) (s .reading) D .1 in
@@ -74,8 +75,8 @@ module _ (c k : ℕ) (nodes : List (List ℕ)) (points lows highs : List (List F
         some-sibling (s .channels) c k nodes points lows highs (s .reading) m (s .tree) (omega (arith, D .count)) (D .boxed) (D .once) node (e ∙ sibling-is (s .channels) (s .tree) (s .reading) D h)
 
     -- its draw
-    module _ (W : getD words m 0 < 2 ^ 64) (s : Separation) (X : s ≡ separation 8 (b .«min_values») (b .«max_values») point (getD words m 0)) where
-      drawn-in : (d : ℕ) (t : Tree (whole d)) (p : Reading) → In d t p → separation 8 (b .«min_values») (b .«max_values») (p .row) (getD words m 0) ≡ s
+    module _ (W : getD words m 0 < 2 ^ 64) (s : Separation) (X : s ≡ separation width (b .«min_values») (b .«max_values») point (getD words m 0)) where
+      drawn-in : (d : ℕ) (t : Tree (whole d)) (p : Reading) → In d t p → separation width (b .«min_values») (b .«max_values») (p .row) (getD words m 0) ≡ s
       drawn-in d t p D = rw (← D .row) (sym X)
 
       pub kept-held : s ≡ NoCut → (d : ℕ) (t : Tree (whole d)) (p : Reading) → In d t p → Kept d c t p words len r

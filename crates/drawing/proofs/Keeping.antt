@@ -5,6 +5,7 @@ use mathlib.Core.List.{List}
 use Prim.Native.Nat.{ℕ, suc, _^_, _≤_, _<_}
 use native.Mathlib.Omega.{arith}
 use lib.Ieee.{Float}
+use Rattle.limits.specs.Limits.{width}
 use Rattle.boundingbox.specs.declared.BoundingBox.{BoundingBox}
 use Rattle.cut.specs.declared.Cut.{Cut}
 use Rattle.cut.specs.declared.Separation.{Separation}
@@ -50,10 +51,10 @@ module _ (d c : ℕ) (t : Tree (whole d)) (p : Reading) (words : List ℕ) where
     B = tree-box d (sub (whole d) t m p)
 
     abbrev given : Separation
-    given = separation 8 (b .«min_values») (b .«max_values») (p .row) (wordAt words m)
+    given = separation width (b .«min_values») (b .«max_values») (p .row) (wordAt words m)
 
-    same-draw : separation 8 (b .«min_values») (b .«max_values») (p .row) (wordAt words m) ≡ separation 8 (lowOf d c u) (highOf d c u) (p .row) (wordAt words m)
-    same-draw = ap (λ (x : List Float). separation 8 x (b .«max_values») (p .row) (wordAt words m)) L ∙ ap (λ (x : List Float). separation 8 (lowOf d c u) x (p .row) (wordAt words m)) H
+    same-draw : separation width (b .«min_values») (b .«max_values») (p .row) (wordAt words m) ≡ separation width (lowOf d c u) (highOf d c u) (p .row) (wordAt words m)
+    same-draw = ap (λ (x : List Float). separation width x (b .«max_values») (p .row) (wordAt words m)) L ∙ ap (λ (x : List Float). separation width (lowOf d c u) x (p .row) (wordAt words m)) H
 
     pub keeps-held : m ≤ height (whole d) t p → given ≡ NoCut → Kept d c t p words (walk (whole d) t p) r
     keeps-held h e =
@@ -70,7 +71,7 @@ module _ (d c : ℕ) (t : Tree (whole d)) (p : Reading) (words : List ℕ) where
     pub keeps-drawn : (k : Cut) (a : Bool) → given ≡ Drawn k a → Kept d c t p words (suc m) (cond a (record { height = m; cut = k; «bounding_box» = b }) r)
     keeps-drawn k a e = go a parts-a e
       where
-        is : separation 8 (lowOf d c u) (highOf d c u) (p .row) (wordAt words m) ≡ Drawn k a
+        is : separation width (lowOf d c u) (highOf d c u) (p .row) (wordAt words m) ≡ Drawn k a
         is = sym same-draw ∙ e
 
         parts-a : parted (whole d) u p (w m) ≡ a

@@ -5,6 +5,7 @@ use mathlib.Core.List.{List}
 use Prim.Native.Nat.{ℕ, suc, _≤_}
 use native.Mathlib.Omega.{arith}
 use lib.Ieee.{Float}
+use Rattle.limits.specs.Limits.{width}
 use Rattle.boundingbox.specs.declared.BoundingBox.{BoundingBox}
 use Rattle.cuttree.specs.Setting.{Cut, below}
 use Rattle.cuttree.specs.Tree.{Tree, branch, id, height}
@@ -56,6 +57,6 @@ module _ (d c k : ℕ) (nodes : List (List ℕ)) (points lows highs : List (List
   grow-up m t h w node e b r a g =
       let x = g d (sibling (whole d) t m p) _ _ (sym e) (sibling-boxed m t h w) (a .low) (a .high) in
       record {
-        low = x .0 ∙ sym (tab-same 8 _ _ (λ i l. ap (λ n. n .value) (end-up (whole d) (least-end d) i m p t h)));
-        high = x .1 ∙ sym (tab-same 8 _ _ (λ i l. ap (λ n. n .value) (end-up (whole d) (most-end d) i m p t h)));
+        low = x .0 ∙ sym (tab-same width _ _ (λ i l. ap (λ n. n .value) (end-up (whole d) (least-end d) i m p t h)));
+        high = x .1 ∙ sym (tab-same width _ _ (λ i l. ap (λ n. n .value) (end-up (whole d) (most-end d) i m p t h)));
       }

@@ -4,6 +4,7 @@ use mathlib.Core.List.{List, []}
 use Prim.Native.Nat.{ℕ, _≤_, _<_}
 use lib.ListN.{length, getD, take}
 use lib.Ieee.{Float}
+use Rattle.limits.specs.Limits.{capacityLimit, pointLimit}
 use Rattle.cuttree.specs.Setting.{Cut}
 use Rattle.cuttree.specs.Tree.{Tree, walk, ending}
 use Rattle.cuttree.specs.Walk.{sub, kept}
@@ -29,11 +30,11 @@ module _ (d c : ℕ) (t : Tree (whole d)) (p : Reading) where
     pub boxed : Boxed d c k nodes points lows highs t
     pub once : Once d c t
     pub count : len ≡ walk (whole d) t p
-    pub most : len ≤ 256
+    pub most : len ≤ capacityLimit
     pub is-trail : take len path ≡ trail d c t p
     pub enough : len ≤ length words
     pub row : point ≡ p .row
-    pub leaf-small : leaf < 1024
+    pub leaf-small : leaf < pointLimit
     pub leaf-row : getD points leaf [] ≡ ending (whole d) t p .value .row
 
   -- what is kept after m nodes, and the box of its node

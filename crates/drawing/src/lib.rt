@@ -2,10 +2,16 @@
 use boundingbox::BoundingBox;
 use cut::Cut;
 use cut::Separation;
+use limits::BRANCHES;
+use limits::Nodes;
+use limits::Path;
+use limits::Points;
+use limits::Row;
 ghost use mathlib.Core.Path.{_≡_};
 ghost use mathlib.Core.List.{[]};
 ghost use Prim.Native.Nat.{ℕ, _+_, _-_, _≤_, _<_};
 ghost use lib.ListN.{getD};
+ghost use Rattle.limits.specs.Limits.{capacityLimit};
 ghost use Rattle.cuttree.specs.Tree.{Tree};
 ghost use Rattle.wholetree.specs.Reading.{Reading};
 ghost use Rattle.wholetree.specs.Whole.{whole};
@@ -19,8 +25,8 @@ pub struct Highest {
 }
 
 // The sibling of the node of height m on a walk of len nodes.
-fn sibling_at(path: &[[u16; 2]; 256], len: usize, m: usize) -> usize
-    requires { ⌜ (m < len) × (len ≤ 256) ⌝ }
+fn sibling_at(path: &Path, len: usize, m: usize) -> usize
+    requires { ⌜ (m < len) × (len ≤ capacityLimit) ⌝ }
     ensures { λ r. ⌜ r ≡ getD (getD (now (path .entry)) (len - 1 - m) []) 1 0 ⌝ }
 {
     let row = len - 1 - m;
@@ -37,19 +43,19 @@ fn wide(x: u16) -> usize
 // holds the point, every box above does, and the words there change nothing.
 // Rules out the lowest cut that parts, and a box of the walk's node grown by the wrong side.
 pub fn highest_cut(
-    nodes: &[[u16; 4]; 255],
-    points: &[[f32; 8]; 1024],
-    lows: &[[f32; 8]; 255],
-    highs: &[[f32; 8]; 255],
-    path: &[[u16; 2]; 256],
+    nodes: &Nodes,
+    points: &Points,
+    lows: &[Row; BRANCHES],
+    highs: &[Row; BRANCHES],
+    path: &Path,
     len: usize,
     leaf: usize,
     words: &[u64],
-    point: &[f32; 8],
+    point: &Row,
     capacity: usize,
     cached: usize,
 ) -> Highest
-    requires few { ⌜ capacity ≤ 256 ⌝ }
+    requires few { ⌜ capacity ≤ capacityLimit ⌝ }
     requires walked { ⌜ SomeDrawing capacity cached (now nodes) (now points) (now lows) (now highs) (now path) len leaf (now words) (now point) ⌝ }
     ensures { λ r. ⌜ ((d : ℕ) (t : Tree (whole d)) (p : Reading) → Drawing d capacity t p cached (now (nodes .entry)) (now (points .entry)) (now (lows .entry)) (now (highs .entry)) (now (path .entry)) len leaf (now (words .entry)) (now (point .entry)) → Kept d capacity t p (now (words .entry)) len r) ⌝ }
 {

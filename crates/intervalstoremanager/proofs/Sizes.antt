@@ -7,6 +7,7 @@ use native.Mathlib.Omega.{arith}
 use lib.Dec.{eqb, leb, ltb}
 use lib.ListN.{length}
 use borrow.Author.Tests.{le-leb, eqb-true, eqb-false, leb-true, leb-false, ltb-true, ltb-false}
+use Rattle.limits.specs.Limits.{branchLimit}
 use Rattle.intervalstoremanager.specs.Stack.{fresh, afterGet, afterRelease, within, holds, sizes, Proper, FewIntervals}
 use Rattle.intervalstoremanager.specs.Rows.{releasedOn, NeverFull}
 use Rattle.intervalstoremanager.proofs.Tests.{by-test}
@@ -94,6 +95,6 @@ pub never-full : NeverFull
 unfolding releasedOn
 never-full size m xs i w small p o h n =
     let few = few-intervals size (afterRelease xs i) (proper-release size xs i h p) (once-release size xs i p o n) in
-    let fits = le-leb (length (afterRelease xs i)) 255 (omega arith) in
+    let fits = le-leb (length (afterRelease xs i)) branchLimit (omega arith) in
     let on = release-on-stack m xs i w in
     (rw fits at (on .0), rw fits at (on .1))

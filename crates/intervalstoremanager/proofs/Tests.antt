@@ -4,6 +4,7 @@ use mathlib.Core.Bool.{Bool, true, false}
 use Prim.Native.Nat.{_≤_, _<_}
 use native.Mathlib.Omega.{arith}
 use borrow.Author.Tests.{lt-ltb, le-leb, lt-leb}
+use Rattle.limits.specs.Limits.{branchLimit}
 use Rattle.intervalstoremanager.specs.declared.IntervalStoreManager.{IntervalStoreManager}
 use Rattle.intervalstoremanager.specs.Rows.{topped}
 
@@ -11,8 +12,8 @@ pub by-test : {P : Type 0} (b : Bool) → (b ≡ true → P) → (b ≡ false �
 by-test true f g = f refl
 by-test false f g = g refl
 
-pub is-topped : (m : IntervalStoreManager) → 0 < m .«last_in_use» → m .«last_in_use» ≤ 255 → topped m ≡ true
-is-topped m some all = rw (lt-ltb 0 (m .«last_in_use») some, le-leb (m .«last_in_use») 255 all)
+pub is-topped : (m : IntervalStoreManager) → 0 < m .«last_in_use» → m .«last_in_use» ≤ branchLimit → topped m ≡ true
+is-topped m some all = rw (lt-ltb 0 (m .«last_in_use») some, le-leb (m .«last_in_use») branchLimit all)
 
-pub over-topped : (m : IntervalStoreManager) → 255 < m .«last_in_use» → topped m ≡ false
-over-topped m over = rw (lt-ltb 0 (m .«last_in_use») (omega arith), lt-leb (m .«last_in_use») 255 over)
+pub over-topped : (m : IntervalStoreManager) → branchLimit < m .«last_in_use» → topped m ≡ false
+over-topped m over = rw (lt-ltb 0 (m .«last_in_use») (omega arith), lt-leb (m .«last_in_use») branchLimit over)

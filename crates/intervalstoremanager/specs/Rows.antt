@@ -5,6 +5,7 @@ use mathlib.Core.List.{List, [], _∷_}
 use Prim.Native.Nat.{ℕ, _+_, _-_, _≤_, _<_}
 use lib.Dec.{eqb, leb, ltb}
 use lib.ListN.{length, getD, set, replicate}
+use Rattle.limits.specs.Limits.{branchLimit}
 use Rattle.intervalstoremanager.specs.declared.IntervalStoreManager.{IntervalStoreManager}
 use Rattle.intervalstoremanager.specs.declared.Got.{Got}
 use Rattle.intervalstoremanager.specs.declared.Got.the-variants.{Index, Empty}
@@ -19,7 +20,7 @@ upon (x ∷ xs) above = upon xs ((x .0 ∷ x .1 ∷ []) ∷ above)
 
 -- The 255 rows of a stack: those above its top are zero.
 unfoldable pub layout : List (ℕ × ℕ) → List (List ℕ)
-layout xs = upon xs (replicate (255 - length xs) (0 ∷ 0 ∷ []))
+layout xs = upon xs (replicate (branchLimit - length xs) (0 ∷ 0 ∷ []))
 
 two-rows : layout ((2, 2) ∷ (0, 0) ∷ []) ≡ (0 ∷ 0 ∷ []) ∷ (2 ∷ 2 ∷ []) ∷ replicate 253 (0 ∷ 0 ∷ [])
 unfolding layout upon
@@ -31,7 +32,7 @@ inUse m n = record { capacity = m .capacity; «last_in_use» = n }
 
 -- There is a top row, and it is one of the 255.
 abbrev pub topped : IntervalStoreManager → Bool
-topped m = ltb 0 (m .«last_in_use») && leb (m .«last_in_use») 255
+topped m = ltb 0 (m .«last_in_use») && leb (m .«last_in_use») branchLimit
 
 -- The two ends of the interval in the top row.
 abbrev pub start : IntervalStoreManager → List (List ℕ) → ℕ
@@ -60,10 +61,10 @@ joins m rows i = topped m && (eqb (start m rows) (i + 1) || eqb (end m rows + 1)
 
 -- What a push of a row answers, and the rows after it: one row more in use, else, where none is left, `Full`, and nothing is written.
 abbrev pub pushedOf : IntervalStoreManager → Released
-pushedOf m = cond (ltb (m .«last_in_use») 255) (Done (inUse m (m .«last_in_use» + 1))) Full
+pushedOf m = cond (ltb (m .«last_in_use») branchLimit) (Done (inUse m (m .«last_in_use» + 1))) Full
 
 abbrev pub rowsPushed : IntervalStoreManager → List (List ℕ) → ℕ → List (List ℕ)
-rowsPushed m rows i = cond (ltb (m .«last_in_use») 255) (set rows (m .«last_in_use») (i ∷ i ∷ [])) rows
+rowsPushed m rows i = cond (ltb (m .«last_in_use») branchLimit) (set rows (m .«last_in_use») (i ∷ i ∷ [])) rows
 
 -- What `release` answers: the same rows are in use where `i` joins the top row, else `i` is pushed.
 unfoldable pub releasedOf : IntervalStoreManager → List (List ℕ) → ℕ → Released
@@ -79,7 +80,7 @@ rowsReleased m rows i =
 -- The manager of a stack, laid out in rows: it has as many rows in use as the stack has intervals, at most 255.
 pub record Manages (m : IntervalStoreManager) (xs : List (ℕ × ℕ)) : Type 0 where
   pub used : m .«last_in_use» ≡ length xs
-  pub room : length xs ≤ 255
+  pub room : length xs ≤ branchLimit
 
 -- What `get` answers of a stack.
 unfoldable pub gotOn : IntervalStoreManager → List (ℕ × ℕ) → Got
@@ -89,7 +90,7 @@ gotOn m (x ∷ xs) = Index (next (x ∷ xs)) (inUse m (length (afterGet (x ∷ x
 -- What `release` answers of a stack: `Full` where the stack with `i` has more than 255 intervals.
 unfoldable pub releasedOn : IntervalStoreManager → List (ℕ × ℕ) → ℕ → Released
 releasedOn m xs i =
-    cond (leb (length (afterRelease xs i)) 255) (Done (inUse m (length (afterRelease xs i)))) Full
+    cond (leb (length (afterRelease xs i)) branchLimit) (Done (inUse m (length (afterRelease xs i)))) Full
 
 -- The two calls on the rows of a stack: they answer of the stack, and leave the rows of the stack after them, a refused one its own.
 abbrev pub GetOnStack : Type 0
@@ -101,11 +102,11 @@ abbrev pub ReleaseOnStack : Type 0
 ReleaseOnStack =
     (m : IntervalStoreManager) (xs : List (ℕ × ℕ)) (i : ℕ) → Manages m xs →
     (releasedOf m (layout xs) i ≡ releasedOn m xs i) ×
-    (rowsReleased m (layout xs) i ≡ cond (leb (length (afterRelease xs i)) 255) (layout (afterRelease xs i)) (layout xs))
+    (rowsReleased m (layout xs) i ≡ cond (leb (length (afterRelease xs i)) branchLimit) (layout (afterRelease xs i)) (layout xs))
 
 -- Of at most 255 numbers that are free once at most, one that is not free is always taken back.
 abbrev pub NeverFull : Type 0
 NeverFull =
     (size : ℕ) (m : IntervalStoreManager) (xs : List (ℕ × ℕ)) (i : ℕ) → Manages m xs →
-    size ≤ 255 → Proper size xs → Once xs → i < size → holds xs i ≡ 0 →
+    size ≤ branchLimit → Proper size xs → Once xs → i < size → holds xs i ≡ 0 →
     (releasedOf m (layout xs) i ≡ Done (inUse m (length (afterRelease xs i)))) × (rowsReleased m (layout xs) i ≡ layout (afterRelease xs i))

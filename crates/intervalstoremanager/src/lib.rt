@@ -1,15 +1,18 @@
 // The free branch numbers of a tree, handed out and taken back in the Rust's order: a port of intervalstoremanager.rs.
 // The rows are lent by the caller, and the manager of them is passed and returned by value. `change_capacity`, `used` and `get_size`
 // are left out, as no tree calls them. Nothing is required of a caller: any manager, rows and number are answered.
+use limits::BRANCHES;
+use limits::Free;
 ghost use mathlib.Core.Path.{_≡_};
 ghost use mathlib.Core.List.{[], _∷_};
 ghost use Prim.Native.Nat.{_<_};
 ghost use lib.Dec.{eqb};
 ghost use lib.ListN.{length, getD, set};
+ghost use Rattle.limits.specs.Limits.{branchLimit};
 ghost use Rattle.intervalstoremanager.specs.Stack.{fresh};
 ghost use Rattle.intervalstoremanager.specs.Rows.{layout, gotOf, rowsGot, pushedOf, rowsPushed, releasedOf, rowsReleased};
 
-// The rows in use are the first `last_in_use` of the 255 that go with this: a stack of free intervals, its top the last of them.
+// The rows in use are the first `last_in_use` that go with this: a stack of free intervals, its top the last of them.
 pub struct IntervalStoreManager {
     pub capacity: u16,
     pub last_in_use: u16,
@@ -42,8 +45,8 @@ fn wide(x: u16) -> usize
     x as usize
 }
 
-fn interval_at(rows: &[[u16; 2]; IntervalStoreManager::INTERVALS], k: usize) -> Interval
-    requires { ⌜ k < 255 ⌝ }
+fn interval_at(rows: &Free, k: usize) -> Interval
+    requires { ⌜ k < branchLimit ⌝ }
     ensures { λ r. ⌜ (r .start ≡ getD (getD (now (rows .entry)) k []) 0 0) × (r .end ≡ getD (getD (now (rows .entry)) k []) 1 0) ⌝ }
 {
     Interval {
@@ -52,24 +55,21 @@ fn interval_at(rows: &[[u16; 2]; IntervalStoreManager::INTERVALS], k: usize) -> 
     }
 }
 
-fn put(rows: &mut [[u16; 2]; IntervalStoreManager::INTERVALS], k: usize, start: u16, end: u16)
-    requires { ⌜ k < 255 ⌝ }
+fn put(rows: &mut Free, k: usize, start: u16, end: u16)
+    requires { ⌜ k < branchLimit ⌝ }
     ensures { λ _. ⌜ now (rows .exit) ≡ set (now (rows .entry)) k (start ∷ end ∷ []) ⌝ }
 {
     rows[k] = [start, end];
 }
 
 impl IntervalStoreManager {
-    // A tree of 256 leaves has 255 branches: with each free by itself, there are as many intervals.
-    pub const INTERVALS: usize = 255;
-
     // The manager of the numbers 0 to size − 1, all free, and every row but theirs cleared. The Rust underflows at size 0; here no
     // number is free then.
     // Ruled out: numbers that end at `size`; rows above the first left as they were lent.
-    pub fn new(size: u16, rows: &mut [[u16; 2]; Self::INTERVALS]) -> Self
+    pub fn new(size: u16, rows: &mut Free) -> Self
         ensures { λ r. ⌜ r ≡ record { capacity = size; «last_in_use» = length (fresh size) } ⌝ ∗ ⌜ now (rows .exit) ≡ layout (fresh size) ⌝ }
     {
-        *rows = [[0, 0]; Self::INTERVALS];
+        *rows = [[0, 0]; BRANCHES];
         if size == 0 {
             return Self {
                 capacity: 0,
@@ -100,14 +100,14 @@ impl IntervalStoreManager {
     // The start of the top interval is handed out. The test is "below" where the Rust's is "not the same", so that one more than the
     // start fits in whatever rows are lent. On the rows of a stack this is `GetOnStack`, in specs/Rows.antt.
     // Ruled out: handing out the end; leaving the row of a spent interval uncleared.
-    pub fn get(self, rows: &mut [[u16; 2]; Self::INTERVALS]) -> Got
+    pub fn get(self, rows: &mut Free) -> Got
         ensures { λ r. ⌜ r ≡ gotOf self (now (rows .entry)) ⌝ ∗ ⌜ now (rows .exit) ≡ rowsGot self (now (rows .entry)) ⌝ }
     {
         let n = wide(self.last_in_use);
         if n == 0 {
             return Got::Empty;
         }
-        if Self::INTERVALS < n {
+        if BRANCHES < n {
             return Got::Empty;
         }
         let top = interval_at(rows, n - 1);
@@ -126,11 +126,11 @@ impl IntervalStoreManager {
     }
 
     // An interval of one number on top, where there is a row for it.
-    fn push(self, rows: &mut [[u16; 2]; Self::INTERVALS], index: u16) -> Released
+    fn push(self, rows: &mut Free, index: u16) -> Released
         ensures { λ r. ⌜ r ≡ pushedOf self ⌝ ∗ ⌜ now (rows .exit) ≡ rowsPushed self (now (rows .entry)) index ⌝ }
     {
         let n = wide(self.last_in_use);
-        if n < Self::INTERVALS {
+        if n < BRANCHES {
             put(rows, n, index, index);
             return Released::Done(Self {
                 capacity: self.capacity,
@@ -143,14 +143,14 @@ impl IntervalStoreManager {
     // The number joins the top interval at either end, else becomes a new top. On the rows of a stack this is `ReleaseOnStack`, and
     // `NeverFull` says when it is not refused, both in specs/Rows.antt.
     // Ruled out: joining an interval below the top; a new top for a number that touches it.
-    pub fn release(self, rows: &mut [[u16; 2]; Self::INTERVALS], index: u16) -> Released
+    pub fn release(self, rows: &mut Free, index: u16) -> Released
         ensures { λ r. ⌜ r ≡ releasedOf self (now (rows .entry)) index ⌝ ∗ ⌜ now (rows .exit) ≡ rowsReleased self (now (rows .entry)) index ⌝ }
     {
         let n = wide(self.last_in_use);
         if n == 0 {
             return self.push(rows, index);
         }
-        if Self::INTERVALS < n {
+        if BRANCHES < n {
             return Released::Full;
         }
         let top = interval_at(rows, n - 1);

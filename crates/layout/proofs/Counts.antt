@@ -7,6 +7,7 @@ use native.Mathlib.Omega.{arith}
 use lib.Dec.{eqb}
 use lib.ListN.{set}
 use borrow.Author.Tests.{eqb-true, eq-eqb, ne-eqb}
+use Rattle.limits.specs.Limits.{pointLimit}
 use Rattle.cuttree.specs.Tree.{Tree, leaf, branch, is, ending}
 use Rattle.cuttree.proofs.Tests.{by-test}
 use Rattle.cuttree.proofs.Intervals.{is-same}
@@ -34,9 +35,9 @@ module _ (d c : ℕ) where
   count-ending p t o = count-in o (ending-in (whole d) p t)
 
   -- one leaf's copies made v of n
-  pub count-set : (K : List ℕ) (t t′ : Tree (whole d)) (i n v : ℕ) → K ≡ tab 1024 (countAt d c t) → i < 1024 → countAt d c t i ≡ n →
-      ((x : ℕ) → countAt d c t′ x + cond (eqb i x) n 0 ≡ countAt d c t x + cond (eqb i x) v 0) → set K i v ≡ tab 1024 (countAt d c t′)
+  pub count-set : (K : List ℕ) (t t′ : Tree (whole d)) (i n v : ℕ) → K ≡ tab pointLimit (countAt d c t) → i < pointLimit → countAt d c t i ≡ n →
+      ((x : ℕ) → countAt d c t′ x + cond (eqb i x) n 0 ≡ countAt d c t x + cond (eqb i x) v 0) → set K i v ≡ tab pointLimit (countAt d c t′)
   count-set K t t′ i n v k m a e =
       let z : countAt d c t′ i ≡ v = let y : countAt d c t′ i + n ≡ countAt d c t i + v = rw (eq-eqb i i refl) at (e i) in omega arith in
-      subst (λ y. set K i y ≡ tab 1024 (countAt d c t′)) z (set-tab 0 1024 (countAt d c t) (countAt d c t′) K i k m
+      subst (λ y. set K i y ≡ tab pointLimit (countAt d c t′)) z (set-tab 0 pointLimit (countAt d c t) (countAt d c t′) K i k m
       (λ x n′. let y : countAt d c t′ x + 0 ≡ countAt d c t x + 0 = rw (ne-eqb i x (λ w. n′ (sym w))) at (e x) in omega arith))

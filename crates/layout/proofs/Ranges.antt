@@ -3,6 +3,7 @@ use mathlib.Core.Bool.{Bool}
 use Prim.Native.Nat.{ℕ, _<_}
 use native.Mathlib.Omega.{arith}
 use lib.Dec.{ltb}
+use Rattle.limits.specs.Limits.{pointLimit}
 use Rattle.cuttree.specs.Setting.{Cut, below}
 use Rattle.cuttree.specs.Tree.{Tree, branch, ending, forget, OfTree}
 use Rattle.cuttree.proofs.Tests.{by-cond}
@@ -24,7 +25,7 @@ module _ (d c : ℕ) where
   range-rejoin : (b : ℕ) (k : Cut (whole d)) (g : Bool) (l r : Tree (whole d)) (p : Reading) (x : Tree (whole d)) → InRange d c (branch b k g l r) → InRange d c x → InRange d c (rejoin (whole d) b k g l r p x)
   range-rejoin b k g l r p x h e = by-cond (InRange d c) (below (whole d) k p) _ _ (λ _. (h .0, h .1, e, h .3)) (λ _. (h .0, h .1, h .2, e))
 
-  pub range-ending : (p : Reading) (t : Tree (whole d)) → InRange d c t → ending (whole d) t p .index < 1024
+  pub range-ending : (p : Reading) (t : Tree (whole d)) → InRange d c t → ending (whole d) t p .index < pointLimit
   range-ending p t h = rw (sub-leaf (whole d) p t) at (range-node (in-sub d c 0 p t (omega arith)) h)
 
   pub range-forget : (p : Reading) (t : Tree (whole d)) → InRange d c t → OfTree (whole d) (InRange d c) (forget (whole d) p t)

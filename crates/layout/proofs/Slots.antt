@@ -10,6 +10,7 @@ use lib.Dec.{eqb, ltb}
 use lib.ListN.{getD}
 use lib.Ieee.{Float}
 use borrow.Author.Tests.{eqb-true, eq-eqb, ltb-true, ltb-false, lt-ltb, le-ltb}
+use Rattle.limits.specs.Limits.{width, capacityLimit, branchLimit}
 use Rattle.cuttree.specs.Setting.{Cut}
 use Rattle.cuttree.specs.Tree.{Tree, leaf, branch, id}
 use Rattle.cuttree.proofs.Tests.{by-test, cond-true}
@@ -42,7 +43,7 @@ module _ (d c : ℕ) where
       (λ f. let u = branch-of l j (ltb-true 0 (uses d c l j) f) in record { cut = u .cut; lag = u .lag; low = u .low; high = u .high; inside = left (u .inside) })
       (λ f. let u = branch-of r j (omega (arith, ltb-false 0 (uses d c l j) f)) in record { cut = u .cut; lag = u .lag; low = u .low; high = u .high; inside = right (u .inside) }))
 
-  pub range-in : {b : ℕ} {k : Cut (whole d)} {g : Bool} {l r t : Tree (whole d)} → InRange d c t → In (whole d) (branch b k g l r) t → (b + 1 < c) × (k .channel < 8)
+  pub range-in : {b : ℕ} {k : Cut (whole d)} {g : Bool} {l r t : Tree (whole d)} → InRange d c t → In (whole d) (branch b k g l r) t → (b + 1 < c) × (k .channel < width)
   range-in h here = (h .0, h .1)
   range-in h (left i) = range-in (h .2) i
   range-in h (right i) = range-in (h .3) i
@@ -65,8 +66,8 @@ module _ (d c : ℕ) where
     slot-none (branch b k g l r) j h = rw (is-zero b j (omega arith), le-ltb 0 (uses d c l j) (omega arith)) (slot-none r j (omega arith))
 
     -- a leaf has no slot
-    pub leaf-tab : (i : ℕ) (q : Reading) (n : ℕ) → tab 255 (slot d c f z (leaf i q n)) ≡ tab 255 (λ (j : ℕ). z)
-    leaf-tab i q n = same-tab z 255 (slot d c f z (leaf i q n)) (λ (j : ℕ). z) (λ j _. slot-none (leaf i q n) j refl)
+    pub leaf-tab : (i : ℕ) (q : Reading) (n : ℕ) → tab branchLimit (slot d c f z (leaf i q n)) ≡ tab branchLimit (λ (j : ℕ). z)
+    leaf-tab i q n = same-tab z branchLimit (slot d c f z (leaf i q n)) (λ (j : ℕ). z) (λ j _. slot-none (leaf i q n) j refl)
 
     pub slot-in : {b : ℕ} {k : Cut (whole d)} {g : Bool} {l r t : Tree (whole d)} → Once d c t → In (whole d) (branch b k g l r) t → slot d c f z t b ≡ f (branch b k g l r)
     unfolding slot
@@ -80,13 +81,13 @@ module _ (d c : ℕ) where
     slot-node (branch b k g l r) o e h = slot-in o e
 
     -- from slots to what is laid, and back
-    pub tab-laid : (y : A) (xs : List A) (t : Tree (whole d)) → c ≤ 256 → xs ≡ tab 255 (slot d c f z t) → Once d c t → InRange d c t → Laid d c f (λ j. getD xs j y) t
-    tab-laid y xs t m e o h = laid-by f (λ j. getD xs j y) t (λ b k g l r i. entry-of 255 (slot d c f z t) xs e y b (omega (arith, range-in h i)) ∙ slot-in o i)
+    pub tab-laid : (y : A) (xs : List A) (t : Tree (whole d)) → c ≤ capacityLimit → xs ≡ tab branchLimit (slot d c f z t) → Once d c t → InRange d c t → Laid d c f (λ j. getD xs j y) t
+    tab-laid y xs t m e o h = laid-by f (λ j. getD xs j y) t (λ b k g l r i. entry-of branchLimit (slot d c f z t) xs e y b (omega (arith, range-in h i)) ∙ slot-in o i)
 
   -- THE CACHED BOXES, k of them: f is their lower or their upper ends
   module _ (k : ℕ) (f : Tree (whole d) → List Float) where
     box-low : (t : Tree (whole d)) (j : ℕ) → j < k → boxIn d c k f (some t) j ≡ slot d c f noEnds t j
     box-low t j m = cond-true _ _ _ (lt-ltb j k m)
 
-    pub tab-boxes : (xs : List (List Float)) (t : Tree (whole d)) → c ≤ 256 → xs ≡ tab 255 (boxIn d c k f (some t)) → Once d c t → InRange d c t → LaidBelow d c k f (λ j. getD xs j []) t
-    tab-boxes xs t m e o h = laid-below-by f (λ j. getD xs j []) k t (λ b x g l r i z. entry-of 255 (boxIn d c k f (some t)) xs e [] b (omega (arith, range-in h i)) ∙ box-low t b z ∙ slot-in f noEnds o i)
+    pub tab-boxes : (xs : List (List Float)) (t : Tree (whole d)) → c ≤ capacityLimit → xs ≡ tab branchLimit (boxIn d c k f (some t)) → Once d c t → InRange d c t → LaidBelow d c k f (λ j. getD xs j []) t
+    tab-boxes xs t m e o h = laid-below-by f (λ j. getD xs j []) k t (λ b x g l r i z. entry-of branchLimit (boxIn d c k f (some t)) xs e [] b (omega (arith, range-in h i)) ∙ box-low t b z ∙ slot-in f noEnds o i)

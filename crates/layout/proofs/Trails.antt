@@ -14,7 +14,7 @@ use Rattle.cuttree.proofs.Steps.{toward, aside, along, height-step}
 use Rattle.cuttree.proofs.Heights.{sub-top, sub-down, sibling-top, sibling-down}
 use Rattle.wholetree.specs.Reading.{Reading}
 use Rattle.wholetree.specs.Whole.{whole}
-use Rattle.layout.specs.Stands.{trailFrom, trail}
+use Rattle.layout.specs.Stands.{trailFrom, trail, noSibling}
 
 module _ (d c : ℕ) (p : Reading) where
   pub trail-step : (s b : ℕ) (k : Cut (whole d)) (g : Bool) (l r : Tree (whole d)) → trailFrom d c s (branch b k g l r) p ≡ (b ∷ s ∷ []) ∷ trailFrom d c (id (whole d) c (aside (whole d) k p l r)) (toward (whole d) k p l r) p
@@ -56,7 +56,7 @@ module _ (d c : ℕ) (p : Reading) where
     path-at i m = sym (getD-take (walk (whole d) t p) path i [] (omega arith)) ∙ ap (λ y. getD y i []) e
 
     pub path-node : (i m : ℕ) → i + m ≡ height (whole d) t p → getD (getD path i []) 0 0 ≡ id (whole d) c (sub (whole d) t m p)
-    path-node i m h = ap (λ y. getD y 0 0) (path-at i (omega arith)) ∙ trail-node t 65535 i m h
+    path-node i m h = ap (λ y. getD y 0 0) (path-at i (omega arith)) ∙ trail-node t noSibling i m h
 
     pub path-sibling : (i m : ℕ) → suc i + m ≡ height (whole d) t p → getD (getD path (suc i) []) 1 0 ≡ id (whole d) c (sibling (whole d) t m p)
-    path-sibling i m h = ap (λ y. getD y 1 0) (path-at (suc i) (omega arith)) ∙ trail-sibling t 65535 i m h
+    path-sibling i m h = ap (λ y. getD y 1 0) (path-at (suc i) (omega arith)) ∙ trail-sibling t noSibling i m h

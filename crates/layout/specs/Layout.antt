@@ -6,6 +6,7 @@ use Prim.Native.Nat.{ℕ, _-_}
 use lib.Dec.{ltb}
 use lib.ListN.{replicate}
 use lib.Ieee.{Float}
+use Rattle.limits.specs.Limits.{width, pointLimit}
 use Rattle.boundingbox.specs.Sides.{nought}
 use Rattle.cuttree.specs.Tree.{Tree, id}
 use Rattle.wholetree.specs.Reading.{Reading}
@@ -17,7 +18,7 @@ abbrev pub noRow : List ℕ
 noRow = 0 ∷ 0 ∷ 0 ∷ 0 ∷ []
 
 abbrev pub noEnds : List Float
-noEnds = replicate 8 nought
+noEnds = replicate width nought
 
 -- what the table keeps: a row of coordinates for each index, and whether it is written
 pub record Table : Type 0 where
@@ -54,4 +55,4 @@ mark none = 0
 mark (some p) = 1
 
 abbrev pub tableOf : (ℕ → Option Reading) → Table
-tableOf f = record { points = tab 1024 (λ (i : ℕ). pointRow (f i)); written = tab 1024 (λ (i : ℕ). mark (f i)) }
+tableOf f = record { points = tab pointLimit (λ (i : ℕ). pointRow (f i)); written = tab pointLimit (λ (i : ℕ). mark (f i)) }

@@ -5,11 +5,16 @@ use mathlib.Core.List.{List, [], _∷_}
 use Prim.Native.Nat.{ℕ, _+_, _≤_, _<_}
 use lib.ListN.{getD}
 use lib.Ieee.{Float, nan}
+use Rattle.limits.specs.Limits.{width, pointLimit}
 use Rattle.cuttree.specs.Setting.{below}
 use Rattle.cuttree.specs.Tree.{Tree, leaf, branch, id, All}
 use Rattle.wholetree.specs.Reading.{Reading}
 use Rattle.wholetree.specs.Whole.{whole}
 use Rattle.layout.specs.Slots.{rowOf, cutOf, lowOf, highOf, uses}
+
+-- stands in a path in place of the root's sibling
+abbrev pub noSibling : ℕ
+noSibling = 65535
 
 module _ (d c : ℕ) where
   -- R gives f of each branch at its number
@@ -28,8 +33,8 @@ module _ (d c : ℕ) where
 
   -- branch numbers, channels and point indices are in range
   abbrev pub InRange : Tree (whole d) → Type 0
-  InRange (leaf i q n) = i < 1024
-  InRange (branch b k g l r) = (b + 1 < c) × (k .channel < 8) × InRange l × InRange r
+  InRange (leaf i q n) = i < pointLimit
+  InRange (branch b k g l r) = (b + 1 < c) × (k .channel < width) × InRange l × InRange r
 
   -- the rows, the cuts and the points of the table
   pub record Stands (nodes : List (List ℕ)) (cuts : List Float) (points : List (List Float)) (t : Tree (whole d)) : Type 0 where
@@ -49,4 +54,4 @@ module _ (d c : ℕ) where
   trailFrom s (branch b k g l r) p = (b ∷ s ∷ []) ∷ cond (below (whole d) k p) (trailFrom (id (whole d) c r) l p) (trailFrom (id (whole d) c l) r p)
 
   abbrev pub trail : Tree (whole d) → Reading → List (List ℕ)
-  trail t p = trailFrom 65535 t p
+  trail t p = trailFrom noSibling t p

@@ -8,6 +8,7 @@ use borrow.Author.Tests.{lt-ltb, le-ltb}
 use lib.Dec.{ltb}
 use lib.ListN.{length, getD, length-append}
 use lib.Ieee.{Float, nan, binary32, toBits}
+use Rattle.limits.specs.Limits.{capacityLimit, pointLimit}
 use Rattle.lines.specs.Lines.{branchLine, leafLine, Wrote}
 use Rattle.lines.proofs.Writes.{then, long}
 use Rattle.cuttree.specs.Setting.{Cut}
@@ -61,10 +62,10 @@ module _ (c : ℕ) (nodes : List (List ℕ)) (cuts : List Float) (copies : List 
     same-length w F = long (F (w .channels) (w .tree) (w .at-node) (w .listed))
 
     -- LEAVES: the point index is in the table
-    pub in-table : {at : ℕ} → c ≤ node → SomeListed c node at nodes cuts copies → node - c < 1024
+    pub in-table : {at : ℕ} → c ≤ node → SomeListed c node at nodes cuts copies → node - c < pointLimit
     in-table h w = go (w .tree) (w .at-node) (w .listed)
       where
-        go : (t : Tree (whole (w .channels))) → id (whole (w .channels)) c t ≡ node → Listed (w .channels) c nodes cuts copies t → node - c < 1024
+        go : (t : Tree (whole (w .channels))) → id (whole (w .channels)) c t ≡ node → Listed (w .channels) c nodes cuts copies t → node - c < pointLimit
         go (leaf i q n) e B = omega (arith, B .in-range)
         go (branch b x g l r) e B = absurd (omega (arith, B .in-range))
 
@@ -96,10 +97,10 @@ module _ (c : ℕ) (nodes : List (List ℕ)) (cuts : List Float) (copies : List 
       pub small : node + 1 < c
       pub left-some : {before after : List ℕ} {p : ℕ} → Wrote before at (rowLine nodes cuts node) p after → SomeListed c left p nodes cuts copies
       pub right-some : {before x y : List ℕ} {p q : ℕ} → Wrote before at (rowLine nodes cuts node) p x → PrintsNode c left nodes cuts copies p x q y → SomeListed c right q nodes cuts copies
-      pub left-less : deep nodes c 256 left < deep nodes c 256 node
-      pub right-less : deep nodes c 256 right < deep nodes c 256 node
+      pub left-less : deep nodes c capacityLimit left < deep nodes c capacityLimit node
+      pub right-less : deep nodes c capacityLimit right < deep nodes c capacityLimit node
 
-    pub parts : {at : ℕ} → c ≤ 256 → node < c → SomeListed c node at nodes cuts copies → Parts at
+    pub parts : {at : ℕ} → c ≤ capacityLimit → node < c → SomeListed c node at nodes cuts copies → Parts at
     parts {at} few h w = go (w .tree) (w .at-node) (w .once) (w .listed) (w .room)
       where
         go : (t : Tree (whole (w .channels))) → id (whole (w .channels)) c t ≡ node → Once (w .channels) c t → Listed (w .channels) c nodes cuts copies t → at + length (linesOf (w .channels) c t) < 100000000000 → Parts at
@@ -114,10 +115,10 @@ module _ (c : ℕ) (nodes : List (List ℕ)) (cuts : List Float) (copies : List 
             let L = linked d c nodes t (B .rows) in
             let el : id (whole d) c u ≡ left = rw (← e) (sym (L .0)) in
             let er : id (whole d) c v ≡ right = rw (← e) (sym (L .1)) in
-            let n : depth d c t ≤ 256 = omega (arith, depth-few d c t o (B .in-range)) in
-            let here : deep nodes c 256 node ≡ depth d c t = rw (← e) (deep-is d c nodes 256 t n L (B .in-range)) in
-            let there : deep nodes c 256 left ≡ depth d c u = rw (← el) (deep-is d c nodes 256 u (omega arith) (L .2) (bl .in-range)) in
-            let other : deep nodes c 256 right ≡ depth d c v = rw (← er) (deep-is d c nodes 256 v (omega arith) (L .3) (br .in-range)) in
+            let n : depth d c t ≤ capacityLimit = omega (arith, depth-few d c t o (B .in-range)) in
+            let here : deep nodes c capacityLimit node ≡ depth d c t = rw (← e) (deep-is d c nodes capacityLimit t n L (B .in-range)) in
+            let there : deep nodes c capacityLimit left ≡ depth d c u = rw (← el) (deep-is d c nodes capacityLimit u (omega arith) (L .2) (bl .in-range)) in
+            let other : deep nodes c capacityLimit right ≡ depth d c v = rw (← er) (deep-is d c nodes capacityLimit v (omega arith) (L .3) (br .in-range)) in
             let whole-length : at + (length (rowLine nodes cuts node) + length (linesOf d c u) + length (linesOf d c v)) < 100000000000 = rw (← e) (rw (← lines-are d B, length-append, length-append) at m) in
             record {
               small = omega (arith, B .in-range .0);

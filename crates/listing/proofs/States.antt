@@ -8,6 +8,7 @@ use lib.Dec.{eqb}
 use lib.ListN.{length, getD, length-append}
 use lib.Ieee.{Float, nan, binary32, toBits}
 use borrow.Author.Tests.{eqb-true, eqb-false}
+use Rattle.limits.specs.Limits.{width, capacityLimit, branchLimit, pointLimit}
 use Rattle.boundingbox.specs.Sides.{nought}
 use Rattle.lines.specs.Lines.{namesLine, Wrote}
 use Rattle.lines.proofs.Lengths.{branch-few, leaf-few}
@@ -45,12 +46,12 @@ all-by d P (branch b k g l r) h = (all-by d P l (λ i q n j. h i q n (left j)), 
 abbrev branches : (d : ℕ) → Tree (whole d) → ℕ
 branches d t = sum (whole d) (λ i q n. 0) (λ b. 1) t
 
-id-below : (d c : ℕ) (t : Tree (whole d)) → c ≤ 256 → InRange d c t → id (whole d) c t < 10000
+id-below : (d c : ℕ) (t : Tree (whole d)) → c ≤ capacityLimit → InRange d c t → id (whole d) c t < 10000
 id-below d c (leaf i q n) m h = omega arith
 id-below d c (branch b k g l r) m h = omega (arith, h .0)
 
 -- the lines of a tree
-lines-few : (d c : ℕ) (t : Tree (whole d)) → c ≤ 256 → InRange d c t → total (whole d) t < 65536 → length (linesOf d c t) ≤ 31 * branches d t + 19 * leaves (whole d) t
+lines-few : (d c : ℕ) (t : Tree (whole d)) → c ≤ capacityLimit → InRange d c t → total (whole d) t < 65536 → length (linesOf d c t) ≤ 31 * branches d t + 19 * leaves (whole d) t
 lines-few d c (leaf i q n) m h w = omega (arith, leaf-few (i + c) (mass (whole d) (leaf i q n)) (id-below d c (leaf i q n) m h) (omega arith))
 lines-few d c (branch b k g l r) m h w =
     let one = lines-few d c l m (h .2) (omega arith) in
@@ -60,11 +61,11 @@ lines-few d c (branch b k g l r) m h w =
 
 -- A SOUND WORLD'S TREE
 module _ (d c : ℕ) (f : ℕ → Option Reading) (t : Tree (whole d)) (u : List (ℕ × ℕ)) (H : Sound (whole d) c (record { table = f; tree = some t; free = u })) where
-  copies-stand : (copies : List ℕ) → copies ≡ tab 1024 (λ (x : ℕ). countAt d c t x) → All (whole d) (λ i q n. getD copies i 0 ≡ n) t
+  copies-stand : (copies : List ℕ) → copies ≡ tab pointLimit (λ (x : ℕ). countAt d c t x) → All (whole d) (λ i q n. getD copies i 0 ≡ n) t
   copies-stand copies e = all-by d (λ i q n. getD copies i 0 ≡ n) t (λ i q n j.
-      entry-of 1024 (λ (x : ℕ). countAt d c t x) copies e 0 i (index-below (whole d) c (whole-laws d) f t u H j) ∙ at-leaf (whole d) (λ n. n) j (index-once (whole d) c (whole-laws d) f t u H i))
+      entry-of pointLimit (λ (x : ℕ). countAt d c t x) copies e 0 i (index-below (whole d) c (whole-laws d) f t u H j) ∙ at-leaf (whole d) (λ n. n) j (index-once (whole d) c (whole-laws d) f t u H i))
 
-  tree-few : c ≤ 256 → InRange d c t → length (linesOf d c t) ≤ 12769
+  tree-few : c ≤ capacityLimit → InRange d c t → length (linesOf d c t) ≤ 12769
   tree-few m h =
       let a = lines-few d c t m h (omega (arith, H .light)) in
       let b : leaves (whole d) t ≡ suc (branches d t) = leaves-branches (whole d) t in
@@ -90,8 +91,8 @@ module _ (d c k : ℕ) (W : World (whole d)) (tree : RCFTree) (a : Lent) (points
   there h = go (W .tree) refl (S .reachable .sound) (S .reachable .in-row) (S .nodes-are) (S .cuts-are) (S .copies-are) (S .lows-are) (S .highs-are)
     where
       go : (o : Option (Tree (whole d))) → W .tree ≡ o → Sound (whole d) c (record { table = W .table; tree = o; free = W .free }) → OfTree (whole d) (InRow d) o
-          → a .nodes ≡ tab 255 (slotIn d c k (rowOf d c) noRow o) → a .cuts ≡ tab 255 (slotIn d c k (cutOf d c) nought o) → a .copies ≡ tab 1024 (countIn d c k o)
-          → a .lows ≡ tab 255 (boxIn d c k (lowOf d c) o) → a .highs ≡ tab 255 (boxIn d c k (highOf d c) o) → There
+          → a .nodes ≡ tab branchLimit (slotIn d c k (rowOf d c) noRow o) → a .cuts ≡ tab branchLimit (slotIn d c k (cutOf d c) nought o) → a .copies ≡ tab pointLimit (countIn d c k o)
+          → a .lows ≡ tab branchLimit (boxIn d c k (lowOf d c) o) → a .highs ≡ tab branchLimit (boxIn d c k (highOf d c) o) → There
       go none e H I N X C L G = absurd (h (S .total-is ∙ ap (totalOf (whole d)) e))
       go (some t) e H I N X C L G =
           let m = S .limits .3 in
@@ -129,7 +130,7 @@ module _ (d c k : ℕ) (W : World (whole d)) (tree : RCFTree) (a : Lent) (points
 -- WHAT `print_tree` IS TOLD AND GIVES
 module _ (tree : RCFTree) (nodes : List (List ℕ)) (cuts : List Float) (copies : List ℕ) where
   pub some-listed : {at p : ℕ} {before after : List ℕ} → (tree .total ≡ 0 → ⊥) → at < 10000000000 → SomeRead tree nodes cuts copies → Wrote before at namesLine p after
-      → (tree .capacity ≤ 256) × SomeListed (tree .capacity) (tree .root) p nodes cuts copies
+      → (tree .capacity ≤ capacityLimit) × SomeListed (tree .capacity) (tree .root) p nodes cuts copies
   some-listed {at} {p} h m w y =
       let S = w .state .state in
       let v = there (w .state .channels) (w .state .capacity) (w .state .cached) (w .state .world) tree (w .lent) (w .points) (w .marks) S h in
@@ -147,7 +148,7 @@ module _ (tree : RCFTree) (nodes : List (List ℕ)) (cuts : List Float) (copies 
       rw (v .is) (then y ((rw (S .capacity-is, ← e .nodes-are, ← e .cuts-are, ← e .copies-are) at F) d (v .found) (v .at-root) (v .listed)))
 
 -- What printing asks is met: after any list of calls from a fresh tree and an unwritten table.
-pub reads-stand : (d c k : ℕ) → 1 ≤ d → d ≤ 8 → 2 ≤ c → c ≤ 256 → k ≤ c - 1 → (cs : List (Call (whole d)))
+pub reads-stand : (d c k : ℕ) → 1 ≤ d → d ≤ width → 2 ≤ c → c ≤ capacityLimit → k ≤ c - 1 → (cs : List (Call (whole d)))
     → let W = worldAfter (whole d) c (fresh (whole d) c) cs in let a = arraysOf d c k W in SomeRead (headerOf d c k W) (a .nodes) (a .cuts) (a .copies)
 reads-stand d c k l m n o p cs =
     let W = worldAfter (whole d) c (fresh (whole d) c) cs in

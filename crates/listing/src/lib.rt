@@ -1,8 +1,12 @@
 // The printed tree of `treelist`: a line of names, then a line for each node, branch before left before right, read from the arrays that a tree stands in.
+use limits::Copies;
+use limits::Cuts;
+use limits::Nodes;
 use randomcuttree::RCFTree;
 ghost use mathlib.Core.Path.{_≡_};
 ghost use Prim.Native.Nat.{_≤_, _<_};
 ghost use lib.ListN.{getD};
+ghost use Rattle.limits.specs.Limits.{capacityLimit, branchLimit, pointLimit};
 ghost use Rattle.lines.specs.Lines.{Wrote};
 ghost use Rattle.nodestore.specs.Rows.{field};
 ghost use Rattle.listing.specs.Listing.{leafMass, rowLine, PrintsNode, SomeListed};
@@ -21,16 +25,16 @@ fn wide32(x: u32) -> usize
 }
 
 // A number of a branch's row: 0 is its left side, 1 its right, 2 its mass and 3 its channel.
-fn number_of(nodes: &[[u16; 4]; 255], node: usize, i: usize) -> usize
-    requires { ⌜ (node < 255) × (i < 4) ⌝ }
+fn number_of(nodes: &Nodes, node: usize, i: usize) -> usize
+    requires { ⌜ (node < branchLimit) × (i < 4) ⌝ }
     ensures { λ r. ⌜ r ≡ field (now (nodes .entry)) node i ⌝ }
 {
     wide(nodes[node][i])
 }
 
 // The mass of a leaf, which is one less than its copies where it has more than one.
-fn mass_of(copies: &[u16; 1024], index: usize) -> usize
-    requires { ⌜ index < 1024 ⌝ }
+fn mass_of(copies: &Copies, index: usize) -> usize
+    requires { ⌜ index < pointLimit ⌝ }
     ensures { λ r. ⌜ r ≡ leafMass (getD (now (copies .entry)) index 0) ⌝ }
 {
     let k = wide(copies[index]);
@@ -42,14 +46,8 @@ fn mass_of(copies: &[u16; 1024], index: usize) -> usize
 
 // A branch's line.
 // Rules out left and right swapped, and the mass where the channel stands.
-fn print_branch(
-    id: usize,
-    nodes: &[[u16; 4]; 255],
-    cuts: &[f32; 255],
-    out: &mut [u8],
-    at: usize,
-) -> usize
-    requires { ⌜ (id < 255) × (at < 100000000000) ⌝ }
+fn print_branch(id: usize, nodes: &Nodes, cuts: &Cuts, out: &mut [u8], at: usize) -> usize
+    requires { ⌜ (id < branchLimit) × (at < 100000000000) ⌝ }
     ensures { λ r. ⌜ Wrote (now (out .entry)) at (rowLine (now (nodes .entry)) (now (cuts .entry)) id) r (now (out .exit)) ⌝ }
 {
     let cut = wide32(little::pattern_of(cuts[id]));
@@ -64,14 +62,14 @@ fn print_branch(
 // Rules out the right side before the left, and a leaf's copies printed for its mass.
 pub fn print_node(
     id: usize,
-    nodes: &[[u16; 4]; 255],
-    cuts: &[f32; 255],
-    copies: &[u16; 1024],
+    nodes: &Nodes,
+    cuts: &Cuts,
+    copies: &Copies,
     capacity: usize,
     out: &mut [u8],
     at: usize,
 ) -> usize
-    requires few { ⌜ capacity ≤ 256 ⌝ }
+    requires few { ⌜ capacity ≤ capacityLimit ⌝ }
     requires stands { ⌜ SomeListed capacity id at (now nodes) (now cuts) (now copies) ⌝ }
     ensures { λ r. ⌜ PrintsNode capacity id (now (nodes .entry)) (now (cuts .entry)) (now (copies .entry)) at (now (out .entry)) r (now (out .exit)) ⌝ }
 {
@@ -90,9 +88,9 @@ pub fn print_node(
 // Rules out an empty tree with no line of names, and a lone leaf left out.
 pub fn print_tree(
     tree: RCFTree,
-    nodes: &[[u16; 4]; 255],
-    cuts: &[f32; 255],
-    copies: &[u16; 1024],
+    nodes: &Nodes,
+    cuts: &Cuts,
+    copies: &Copies,
     out: &mut [u8],
     at: usize,
 ) -> usize

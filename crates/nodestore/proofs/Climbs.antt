@@ -8,6 +8,7 @@ use lib.Dec.{ltb}
 use lib.ListN.{length, getD, take, set}
 use lib.Seq.{take-take}
 use borrow.Author.Tests.{ltb-true, ltb-false}
+use Rattle.limits.specs.Limits.{capacityLimit, branchLimit}
 use Rattle.cuttree.specs.Setting.{Setting, Cut}
 use Rattle.cuttree.specs.Tree.{Tree, leaf, branch, id, height, walk, total, mass, is}
 use Rattle.cuttree.specs.Walk.{sub, replace}
@@ -21,7 +22,7 @@ use Rattle.wholetree.specs.Reading.{Reading}
 use Rattle.wholetree.specs.Whole.{whole, tab}
 use Rattle.layout.specs.Slots.{uses, slot, rowOf}
 use Rattle.layout.specs.Layout.{noRow}
-use Rattle.layout.specs.Stands.{Once, InRange, trailFrom, trail}
+use Rattle.layout.specs.Stands.{Once, InRange, trailFrom, trail, noSibling}
 use Rattle.layout.proofs.Tabs.{is-tab}
 use Rattle.layout.proofs.Slots.{branch-of, range-in}
 use Rattle.layout.proofs.Replaced.{upper, upper-top, upper-down, upper-uses, upper-at, above-of, in-sub, id-replace, slot-above}
@@ -68,15 +69,15 @@ module _ (d c : ℕ) where
   module _ (t s : Tree S) (p : Reading) (h k : ℕ) (path : List (List ℕ)) (k-is : k + h ≡ height S t p) where
     -- the rows of the new tree, with the old masses above
     pub record Linked (N : List (List ℕ)) : Type 0 where
-      pub size : length N ≡ 255
-      pub off : (j : ℕ) → j < 255 → upper d c t h p j ≡ 0 → getD N j [] ≡ slot d c (rowOf d c) noRow (replace S t h p s) j
+      pub size : length N ≡ branchLimit
+      pub off : (j : ℕ) → j < branchLimit → upper d c t h p j ≡ 0 → getD N j [] ≡ slot d c (rowOf d c) noRow (replace S t h p s) j
       pub on : (m : ℕ) → h < m → m ≤ height S t p → getD N (id S c (sub S t m p)) [] ≡ set (rowOf d c (replace S (sub S t m p) h p s)) 2 (mass S (sub S t m p))
 
-    module _ (N : List (List ℕ)) (w : Linked N) (small : c ≤ 256) (once : Once d c t) (range : InRange d c t) (filled : Filled S t) (walked : take (walk S t p) path ≡ trail d c t p) where
+    module _ (N : List (List ℕ)) (w : Linked N) (small : c ≤ capacityLimit) (once : Once d c t) (range : InRange d c t) (filled : Filled S t) (walked : take (walk S t p) path ≡ trail d c t p) where
       up : (j : ℕ) → times (take k path) j ≡ upper d c t h p j
-      up j = ap (λ y. times y j) (sym (take-take k (walk S t p) path (omega arith)) ∙ ap (take k) walked) ∙ trail-upper p j h t 65535 k k-is
+      up j = ap (λ y. times y j) (sym (take-take k (walk S t p) path (omega arith)) ∙ ap (take k) walked) ∙ trail-upper p j h t noSibling k k-is
 
-      low : (j : ℕ) → 0 < upper d c t h p j → j < 255
+      low : (j : ℕ) → 0 < upper d c t h p j → j < branchLimit
       low j m = let u = branch-of d c t j (omega (arith, upper-uses d c h p j t (omega arith))) in omega (arith, range-in d c range (u .inside))
 
       -- a branch above, as it was and as it becomes
@@ -100,8 +101,8 @@ module _ (d c : ℕ) where
       }
 
       pub weighed : (f : ℕ → ℕ) → Once d c (replace S t h p s) → 0 < total S s → ((x : ℕ) → 0 < x → f x + total S (sub S t h p) ≡ x + total S s) →
-          massOver f (take k path) N ≡ tab 255 (slot d c (rowOf d c) noRow (replace S t h p s))
-      weighed f new pos gain = is-tab [] 255 (slot d c (rowOf d c) noRow (replace S t h p s)) (massOver f (take k path) N) (length-mass f (take k path) N ∙ w .size)
+          massOver f (take k path) N ≡ tab branchLimit (slot d c (rowOf d c) noRow (replace S t h p s))
+      weighed f new pos gain = is-tab [] branchLimit (slot d c (rowOf d c) noRow (replace S t h p s)) (massOver f (take k path) N) (length-mass f (take k path) N ∙ w .size)
           (λ j lt. by-test (ltb 0 (upper d c t h p j))
           (λ x. let a = above-of d c h p j t (omega arith) (ltb-true 0 (upper d c t h p j) x) in
           subst (λ y. getD (massOver f (take k path) N) y [] ≡ slot d c (rowOf d c) noRow (replace S t h p s) y) (a .is-id) (at-branch (a .at) (a .higher) (a .within)))

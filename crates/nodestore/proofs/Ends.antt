@@ -10,6 +10,7 @@ use lib.Dec.{eqb, ltb}
 use lib.ListN.{getD, take, set}
 use lib.Ieee.{Float}
 use borrow.Author.Tests.{lt-ltb, le-ltb, eq-eqb, ne-eqb}
+use Rattle.limits.specs.Limits.{branchLimit, pointLimit, totalLimit}
 use Rattle.boundingbox.specs.Sides.{nought}
 use Rattle.cuttree.specs.Setting.{Setting}
 use Rattle.cuttree.specs.Tree.{Tree, leaf, branch, id, ending, height, walk, total, addCopy, forget, freed}
@@ -55,11 +56,11 @@ module _ {d c n index : ℕ} {N path : List (List ℕ)} {C : List Float} {K : Li
   abbrev S : Setting
   S = whole d
 
-  pub index-low : index < 1024
+  pub index-low : index < pointLimit
   index-low = rw (w .index-is) (range-ending d c p t (w .stored .in-range))
 
   pub copies-are : getD K index 0 ≡ ending S t p .copies
-  copies-are = entry-of 1024 (countAt d c t) K (w .stored .arrays .counts) 0 index index-low ∙ ap (countAt d c t) (w .index-is) ∙ count-ending d c p t (w .stored .apart)
+  copies-are = entry-of pointLimit (countAt d c t) K (w .stored .arrays .counts) 0 index index-low ∙ ap (countAt d c t) (w .index-is) ∙ count-ending d c p t (w .stored .apart)
 
   pub copies-some : 1 ≤ getD K index 0
   copies-some = rw copies-are (all-ending S (λ i q n. 0 < n) p t (w .stored .filled))
@@ -100,7 +101,7 @@ module _ {d c n index : ℕ} {N path : List (List ℕ)} {C : List Float} {K : Li
         lone (leaf j q m) v h i = record {
           rows = v .arrays .rows ∙ leaf-tab d c (rowOf d c) noRow j q m;
           values = v .arrays .values ∙ leaf-tab d c (cutOf d c) nought j q m;
-          counts = set-tab 0 1024 (countAt d c (leaf j q m)) (λ x. 0) K index (v .arrays .counts) index-low (λ x ne. sym (ap (λ y. cond y m 0) (ne-eqb j x (λ y. ne (sym (i ∙ y))))));
+          counts = set-tab 0 pointLimit (countAt d c (leaf j q m)) (λ x. 0) K index (v .arrays .counts) index-low (λ x ne. sym (ap (λ y. cond y m 0) (ne-eqb j x (λ y. ne (sym (i ∙ y))))));
         }
 
     -- of a leaf below a branch
@@ -112,7 +113,7 @@ module _ {d c n index : ℕ} {N path : List (List ℕ)} {C : List Float} {K : Li
       up = omega (arith, w .walked .count)
 
       pub fork-asks : (b s : ℕ) → b ≡ field path (n - 2) 0 → s ≡ field path (n - 1) 1 →
-          (b < 255) × ((0 < n - 2 → field path ((n - 2) - 1) 0 < 255) × Climb 1 65535 (relink (set N b noRow) path (n - 2) b s) (take (n - 2) path))
+          (b < branchLimit) × ((0 < n - 2 → field path ((n - 2) - 1) 0 < branchLimit) × Climb 1 totalLimit (relink (set N b noRow) path (n - 2) b s) (take (n - 2) path))
       fork-asks b s x y = rw (x ∙ fork-is (w .walked) deep, y ∙ sibling-is (w .walked) deep) (
         gone-small d c t p N C K (w .stored) below-root (sym copies-are ∙ one),
         (
@@ -132,10 +133,10 @@ module _ {d c n index : ℕ} {N path : List (List ℕ)} {C : List Float} {K : Li
           (rw (z .0, w .index-is) (gone-arrays d c t p N C K (w .stored) below-root (sym copies-are ∙ one) (n - 2) path up (walk-is (w .walked))), z .1)
 
 -- THE FIRST LEAF
-pub first-arrays : (d c : ℕ) (nodes : List (List ℕ)) (cuts : List Float) (copies : List ℕ) (index : ℕ) (p : Reading) → index < 1024 → Arrays d c nodes cuts copies none → Arrays d c nodes cuts (set copies index 1) (some (leaf index p 1))
+pub first-arrays : (d c : ℕ) (nodes : List (List ℕ)) (cuts : List Float) (copies : List ℕ) (index : ℕ) (p : Reading) → index < pointLimit → Arrays d c nodes cuts copies none → Arrays d c nodes cuts (set copies index 1) (some (leaf index p 1))
 first-arrays d c nodes cuts copies index p m w = record {
   rows = w .rows ∙ sym (leaf-tab d c (rowOf d c) noRow index p 1);
   values = w .values ∙ sym (leaf-tab d c (cutOf d c) nought index p 1);
   counts = let e : countAt d c (leaf index p 1) index ≡ 1 = cond-true _ _ _ (eq-eqb index index refl) in
-      subst (λ y. set copies index y ≡ tab 1024 (countAt d c (leaf index p 1))) e (set-tab 0 1024 (λ x. 0) (countAt d c (leaf index p 1)) copies index (w .counts) m (λ x n. cond-false _ _ _ (ne-eqb index x (λ y. n (sym y)))));
+      subst (λ y. set copies index y ≡ tab pointLimit (countAt d c (leaf index p 1))) e (set-tab 0 pointLimit (λ x. 0) (countAt d c (leaf index p 1)) copies index (w .counts) m (λ x n. cond-false _ _ _ (ne-eqb index x (λ y. n (sym y)))));
 }

@@ -9,6 +9,7 @@ use lib.Dec.{eqb}
 use lib.ListN.{getD, take, set}
 use lib.Ieee.{Float}
 use borrow.Author.Tests.{eqb-true, lt-ltb, le-ltb}
+use Rattle.limits.specs.Limits.{branchLimit, pointLimit}
 use Rattle.boundingbox.specs.Sides.{nought}
 use Rattle.cuttree.specs.Setting.{Setting, Cut, below}
 use Rattle.cuttree.specs.Tree.{Tree, leaf, branch, is, id, height, walk, total, lags, mass, above}
@@ -47,21 +48,21 @@ module _ (d c : ℕ) (t : Tree (whole d)) (p : Reading) (N : List (List ℕ)) (C
   pub mass-at : (v : Tree S) → In S v t → massAt c N K (id S c v) ≡ mass S v
   mass-at (leaf i q n) e =
       let z : (i + c) - c ≡ i = omega arith in
-      let m : getD K i 0 ≡ n = entry-of 1024 (countAt d c t) K (w .arrays .counts) 0 i (range-node d c e (w .in-range)) ∙ count-in d c (w .apart) e in
+      let m : getD K i 0 ≡ n = entry-of pointLimit (countAt d c t) K (w .arrays .counts) 0 i (range-node d c e (w .in-range)) ∙ count-in d c (w .apart) e in
       rw (le-ltb (i + c) c (omega arith), z, m) (sym (mass-leaf S i q n (all-in S (λ i q n. 0 < n) e (w .filled))))
   mass-at (branch b k g l r) e =
       let m = range-in d c (w .in-range) e in
-      rw (lt-ltb b c (omega (arith, m))) (ap (λ y. getD y 2 0) (entry-of 255 (slot d c (rowOf d c) noRow t) N (w .arrays .rows) [] b (omega (arith, m, w .small)) ∙ slot-in d c (rowOf d c) noRow once e))
+      rw (lt-ltb b c (omega (arith, m))) (ap (λ y. getD y 2 0) (entry-of branchLimit (slot d c (rowOf d c) noRow t) N (w .arrays .rows) [] b (omega (arith, m, w .small)) ∙ slot-in d c (rowOf d c) noRow once e))
 
-  pub id-low : (v : Tree S) → In S v t → (id S c v < c → id S c v < 255) × ((id S c v - c < 1024) × (c ≤ id S c v → 1 ≤ getD K (id S c v - c) 0))
+  pub id-low : (v : Tree S) → In S v t → (id S c v < c → id S c v < branchLimit) × ((id S c v - c < pointLimit) × (c ≤ id S c v → 1 ≤ getD K (id S c v - c) 0))
   id-low (leaf i q n) e =
       let z : (i + c) - c ≡ i = omega arith in
       let m = range-node d c e (w .in-range) in
-      ((λ x. absurd (omega arith)), (omega (arith, m), λ x. rw (z, entry-of 1024 (countAt d c t) K (w .arrays .counts) 0 i m ∙ count-in d c (w .apart) e) (all-in S (λ i q n. 0 < n) e (w .filled))))
+      ((λ x. absurd (omega arith)), (omega (arith, m), λ x. rw (z, entry-of pointLimit (countAt d c t) K (w .arrays .counts) 0 i m ∙ count-in d c (w .apart) e) (all-in S (λ i q n. 0 < n) e (w .filled))))
   id-low (branch b k g l r) e = let m = range-in d c (w .in-range) e in ((λ x. omega (arith, m, w .small)), (omega (arith, m), λ x. absurd (omega (arith, m))))
 
   -- THE NEW BRANCH b above the node of height h, with the cut x and the leaf of index i
-  module _ (h b i : ℕ) (x : Cut S) (within : h ≤ height S t p) (fresh : uses d c t b ≡ 0) (small : b < 255) where
+  module _ (h b i : ℕ) (x : Cut S) (within : h ≤ height S t p) (fresh : uses d c t b ≡ 0) (small : b < branchLimit) where
     abbrev old : Tree S
     old = sub S t h p
 
@@ -105,7 +106,7 @@ module _ (d c : ℕ) (t : Tree (whole d)) (p : Reading) (N : List (List ℕ)) (C
     new-cut : cutOf d c new ≡ x .value .value
     new-cut = by-cond (λ y. cutOf d c y ≡ x .value .value) (below S x p) _ _ (λ _. refl) (λ _. refl)
 
-    new-counts : countAt d c t i ≡ 0 → i < 1024 → set K i 1 ≡ tab 1024 (countAt d c (replace S t h p new))
+    new-counts : countAt d c t i ≡ 0 → i < pointLimit → set K i 1 ≡ tab pointLimit (countAt d c (replace S t h p new))
     new-counts none low = count-set d c K t (replace S t h p new) i 0 1 (w .arrays .counts) low none
         (λ y. omega (arith, no-either (eqb i y), sum-replace S (λ i q n. cond (eqb i y) n 0) (λ b. 0) h p new t within, sum-above S (λ i q n. cond (eqb i y) n 0) (λ b. 0) b x i p old))
 
@@ -118,13 +119,13 @@ module _ (d c : ℕ) (t : Tree (whole d)) (p : Reading) (N : List (List ℕ)) (C
           (linked-turned d c t new p h k path k-is (w .apart) (w .small) (w .in-range) walked (set N b (rowOf d c new))
           (placed d c t new old p h b spot k path k-is N (rowOf d c new) (w .small) (w .in-range) (w .arrays .rows) (sym (new-slot (rowOf d c) noRow))))
 
-      pub parent-low : 0 < k → field path (k - 1) 0 < 255
+      pub parent-low : 0 < k → field path (k - 1) 0 < branchLimit
       parent-low = parent-small d c t new p h k path k-is (w .apart) (w .small) (w .in-range) walked
 
       pub new-climb : (high : ℕ) → total S t ≤ high → Climb 1 high linkedRows (take k path)
       new-climb = climbs d c t new p h k path k-is linkedRows linked (w .small) once (w .in-range) (w .filled) walked
 
-      pub new-arrays : countAt d c t i ≡ 0 → i < 1024 → Arrays d c (massOver heavier (take k path) linkedRows) (set C b (x .value .value)) (set K i 1) (some (graft S b i p (h, x) t))
+      pub new-arrays : countAt d c t i ≡ 0 → i < pointLimit → Arrays d c (massOver heavier (take k path) linkedRows) (set C b (x .value .value)) (set K i 1) (some (graft S b i p (h, x) t))
       new-arrays none low =
           let more : total S new ≡ total S old + 1 = omega (arith, sum-above S (λ i q n. n) (λ b. 0) b x i p old) in
           record {

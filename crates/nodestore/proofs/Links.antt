@@ -10,6 +10,7 @@ use lib.ListN.{length, getD, take, set, length-set}
 use lib.Seq.{getD-set-same, getD-set-other}
 use lib.Ieee.{Float, nan}
 use borrow.Author.Tests.{eqb-true, eqb-false, ltb-true, ltb-false}
+use Rattle.limits.specs.Limits.{capacityLimit, branchLimit}
 use Rattle.boundingbox.specs.Sides.{nought}
 use Rattle.cuttree.specs.Setting.{Setting}
 use Rattle.cuttree.specs.Tree.{Tree, leaf, branch, id, height, walk, mass}
@@ -53,8 +54,8 @@ module _ (d c : ℕ) where
   module _ (t s : Tree S) (p : Reading) (h k : ℕ) (path : List (List ℕ)) (k-is : k + h ≡ height S t p) where
     -- the rows of the new tree, and above the node those of the old
     pub record Placed (N : List (List ℕ)) : Type 0 where
-      pub size : length N ≡ 255
-      pub off : (j : ℕ) → j < 255 → upper d c t h p j ≡ 0 → getD N j [] ≡ slot d c (rowOf d c) noRow (replace S t h p s) j
+      pub size : length N ≡ branchLimit
+      pub off : (j : ℕ) → j < branchLimit → upper d c t h p j ≡ 0 → getD N j [] ≡ slot d c (rowOf d c) noRow (replace S t h p s) j
       pub on : (m : ℕ) → h < m → m ≤ height S t p → getD N (id S c (sub S t m p)) [] ≡ rowOf d c (sub S t m p)
 
     -- a branch above whose side keeps its id
@@ -70,11 +71,11 @@ module _ (d c : ℕ) where
     linked-same N w e = record { size = w .size; off = w .off; on = λ m a x. on-same N w m a x (λ _. e) }
 
     -- the branch next above turned to s
-    module _ (apart : Apart d c t) (small : c ≤ 256) (range : InRange d c t) (walked : take (walk S t p) path ≡ trail d c t p) where
+    module _ (apart : Apart d c t) (small : c ≤ capacityLimit) (range : InRange d c t) (walked : take (walk S t p) path ≡ trail d c t p) where
       parent-is : 0 < k → field path (k - 1) 0 ≡ id S c (sub S t (suc h) p)
       parent-is m = path-node d c p path t walked (k - 1) (suc h) (omega arith)
 
-      pub parent-small : 0 < k → field path (k - 1) 0 < 255
+      pub parent-small : 0 < k → field path (k - 1) 0 < branchLimit
       parent-small m = rw (parent-is m) (let x = upper-at d c h (suc h) p (omega arith) t (omega arith) in
           let u = branch-of d c t (id S c (sub S t (suc h) p)) (omega (arith, upper-uses d c h p (id S c (sub S t (suc h) p)) t (omega arith))) in omega (arith, range-in d c range (u .inside)))
 
@@ -94,7 +95,7 @@ module _ (d c : ℕ) where
         at-parent : getD (redirect N parent old (id S c s)) parent [] ≡ set (rowOf d c (replace S (sub S t (suc h) p) h p s)) 2 (mass S (sub S t (suc h) p))
         at-parent =
             let u = sub S t (suc h) p in
-            let lt : parent < length N = omega (arith, w .size, subst (λ x. x < 255) (parent-is some-above) (parent-small some-above)) in
+            let lt : parent < length N = omega (arith, w .size, subst (λ x. x < branchLimit) (parent-is some-above) (parent-small some-above)) in
             let z = row-turned d c h p s u (apart-in d c (in-sub d c (suc h) p t (omega arith)) apart) (sym (height-sub S (suc h) p t (omega arith))) in
             redirect-same N parent old (id S c s) lt ∙ ap (λ y. turned y old (id S c s)) (w .on (suc h) (omega arith) (omega arith))
             ∙ sym (ap (λ y. set y 2 (mass S u)) (z ∙ ap (λ y. set (turned (rowOf d c u) (id S c y) (id S c s)) 2 (mass S (replace S u h p s))) (sub-sub S h (suc h) p (omega arith) t (omega arith)))
@@ -119,7 +120,7 @@ module _ (d c : ℕ) where
   -- WHERE A ROW IS WRITTEN: at b, which is no branch above; v is what stays of the node's place
   pub record Spot (t s v : Tree S) (p : Reading) (h b : ℕ) : Type 0 where
     pub within : h ≤ height S t p
-    pub small : b < 255
+    pub small : b < branchLimit
     pub off-walk : upper d c t h p b ≡ 0
     pub in-old : In S v t
     pub in-new : In S v s
@@ -134,23 +135,23 @@ module _ (d c : ℕ) where
     above-slot : {A : Type 0} (f : Tree S → A) (z : A) (m : ℕ) → h < m → m ≤ height S t p → slot d c f z t (id S c (sub S t m p)) ≡ f (sub S t m p)
     above-slot f z m a e = slot-node d c f z (sub S t m p) (w .once) (in-sub d c m p t e) (uses-sub d c m p t (omega arith) e)
 
-    pub placed : (k : ℕ) (path : List (List ℕ)) (k-is : k + h ≡ height S t p) (N : List (List ℕ)) (row : List ℕ) → c ≤ 256 → InRange d c t → N ≡ tab 255 (slot d c (rowOf d c) noRow t) → row ≡ slot d c (rowOf d c) noRow (replace S t h p s) b → Placed t s p h k path k-is (set N b row)
+    pub placed : (k : ℕ) (path : List (List ℕ)) (k-is : k + h ≡ height S t p) (N : List (List ℕ)) (row : List ℕ) → c ≤ capacityLimit → InRange d c t → N ≡ tab branchLimit (slot d c (rowOf d c) noRow t) → row ≡ slot d c (rowOf d c) noRow (replace S t h p s) b → Placed t s p h k path k-is (set N b row)
     placed k path k-is N row small range n r =
-        let size = length-of 255 (slot d c (rowOf d c) noRow t) N n in
+        let size = length-of branchLimit (slot d c (rowOf d c) noRow t) N n in
         record {
           size = length-set N b row ∙ size;
           off = λ j m a. by-test (eqb j b)
               (λ e. let z : j ≡ b = eqb-true j b e in rw z (getD-set-same N b row [] (omega (arith, size, w .small)) ∙ r))
-              (λ e. let z : j ≢ b = eqb-false j b e in getD-set-other N b j row [] z ∙ entry-of 255 (slot d c (rowOf d c) noRow t) N n [] j m ∙ sym (same-slot (rowOf d c) noRow j z a));
+              (λ e. let z : j ≢ b = eqb-false j b e in getD-set-other N b j row [] z ∙ entry-of branchLimit (slot d c (rowOf d c) noRow t) N n [] j m ∙ sym (same-slot (rowOf d c) noRow j z a));
           on = λ m a e. let j = id S c (sub S t m p) in
               let x = upper-at d c h m p a t e in
               let u = branch-of d c t j (omega (arith, upper-uses d c h p j t (w .within))) in
-              getD-set-other N b j row [] (λ y. absurd (omega (arith, ap (λ i. upper d c t h p i) y, w .off-walk))) ∙ entry-of 255 (slot d c (rowOf d c) noRow t) N n [] j (omega (arith, range-in d c range (u .inside)))
+              getD-set-other N b j row [] (λ y. absurd (omega (arith, ap (λ i. upper d c t h p i) y, w .off-walk))) ∙ entry-of branchLimit (slot d c (rowOf d c) noRow t) N n [] j (omega (arith, range-in d c range (u .inside)))
               ∙ above-slot (rowOf d c) noRow m a e;
         }
 
-    pub cuts-placed : (C : List Float) → C ≡ tab 255 (slot d c (cutOf d c) nought t) → set C b (slot d c (cutOf d c) nought (replace S t h p s) b) ≡ tab 255 (slot d c (cutOf d c) nought (replace S t h p s))
-    cuts-placed C e = set-tab nan 255 (slot d c (cutOf d c) nought t) (slot d c (cutOf d c) nought (replace S t h p s)) C b e (w .small)
+    pub cuts-placed : (C : List Float) → C ≡ tab branchLimit (slot d c (cutOf d c) nought t) → set C b (slot d c (cutOf d c) nought (replace S t h p s) b) ≡ tab branchLimit (slot d c (cutOf d c) nought (replace S t h p s))
+    cuts-placed C e = set-tab nan branchLimit (slot d c (cutOf d c) nought t) (slot d c (cutOf d c) nought (replace S t h p s)) C b e (w .small)
         (λ j n. by-test (ltb 0 (upper d c t h p j))
         (λ x. let a = above-of d c h p j t (w .within) (ltb-true 0 (upper d c t h p j) x) in
         subst (λ y. slot d c (cutOf d c) nought (replace S t h p s) y ≡ slot d c (cutOf d c) nought t y) (a .is-id)

@@ -8,6 +8,7 @@ use lib.Dec.{eqb}
 use lib.ListN.{length, getD, take, drop, set, length-set, drop-of-length-le}
 use lib.Seq.{drop-cons, getD-take, getD-set-same, getD-set-other, length-take-le}
 use borrow.Author.Tests.{eqb-true}
+use Rattle.limits.specs.Limits.{capacityLimit, branchLimit}
 use Rattle.cuttree.specs.Tree.{is}
 use Rattle.cuttree.proofs.Tests.{by-test}
 use Rattle.cuttree.proofs.Intervals.{is-same}
@@ -47,12 +48,12 @@ module _ (f : ℕ → ℕ) where
 
   -- THE LOOP: of the first n rows those from k on are done
   pub record Turn (low high : ℕ) (n₀ path : List (List ℕ)) (n : ℕ) (now : List (List ℕ)) (k b : ℕ) : Type 0 where
-    pub small : b < 255
+    pub small : b < branchLimit
     pub at-least : low ≤ field now b 2
     pub at-most : field now b 2 ≤ high
     pub next : weigh f now b ≡ massOver f (drop k (take n path)) n₀
 
-  module _ (n₀ path : List (List ℕ)) (n : ℕ) (most : n ≤ 256) (long : length path ≡ 256) where
+  module _ (n₀ path : List (List ℕ)) (n : ℕ) (most : n ≤ capacityLimit) (long : length path ≡ capacityLimit) where
     pub turn : {low high : ℕ} → Climb low high n₀ (take n path) → (now : List (List ℕ)) (j k b : ℕ) → now ≡ massOver f (drop j (take n path)) n₀ → j ≡ suc k → k < n → b ≡ field path k 0 → Turn low high n₀ path n now k b
     turn w now j k b g z lt h =
         let e : now ≡ massOver f (drop (suc k) (take n path)) n₀ = g ∙ ap (λ x. massOver f (drop x (take n path)) n₀) z in

@@ -8,6 +8,7 @@ use native.Mathlib.Numerals.{add-one}
 use lib.ListN.{length, getD, take, drop, set, length-set}
 use lib.Seq.{take-suc-set, append-snoc, drop-set-lt, drop-drop}
 use lib.Ieee.{Float, nan}
+use Rattle.limits.specs.Limits.{width, capacityLimit}
 use Rattle.boundingbox.specs.Ends.{channel}
 use Rattle.cuttree.specs.Setting.{Cut, below}
 use Rattle.cuttree.specs.Tree.{Tree, leaf, branch, id, height, walk}
@@ -18,7 +19,7 @@ use Rattle.wholetree.specs.Reading.{Reading, coordinate}
 use Rattle.wholetree.specs.Whole.{whole}
 use Rattle.wholetree.proofs.Readings.{coordinate-is}
 use Rattle.layout.specs.Slots.{rowOf, cutOf}
-use Rattle.layout.specs.Stands.{Laid, InRange, trailFrom, trail}
+use Rattle.layout.specs.Stands.{Laid, InRange, trailFrom, trail, noSibling}
 use Rattle.layout.proofs.Trails.{trail-step}
 use Rattle.nodestore.specs.Rows.{field, stepOf, nodeOf}
 use Rattle.nodestore.specs.Stored.{Walks, Walked}
@@ -42,7 +43,7 @@ module _ (c : ℕ) (N : List (List ℕ)) (C P : List Float) where
 
     -- n rows are written, and the walk stands at the node `at`
     pub record Reaching (t : Tree (whole d)) (path : List (List ℕ)) (n node : ℕ) : Type 0 where
-      pub long : length path ≡ 256
+      pub long : length path ≡ capacityLimit
       pub at : Tree (whole d)
       pub rows : Laid d c (rowOf d c) (λ (j : ℕ). getD N j []) at
       pub values : Laid d c (cutOf d c) (λ (j : ℕ). getD C j nan) at
@@ -52,7 +53,7 @@ module _ (c : ℕ) (N : List (List ℕ)) (C P : List Float) where
       pub written : take n path ++ rest at ≡ trail d c t p
       pub low : walk (whole d) t p ≤ c
 
-    pub start : (root : ℕ) (path : List (List ℕ)) (t : Tree (whole d)) → length path ≡ 256 → Walks d c N C P root t p → Reaching t (set path 0 (root ∷ 65535 ∷ [])) 1 root
+    pub start : (root : ℕ) (path : List (List ℕ)) (t : Tree (whole d)) → length path ≡ capacityLimit → Walks d c N C P root t p → Reaching t (set path 0 (root ∷ noSibling ∷ [])) 1 root
     start root path t n w = record {
       long = length-set path 0 _ ∙ n;
       at = t;
@@ -61,11 +62,11 @@ module _ (c : ℕ) (N : List (List ℕ)) (C P : List Float) where
       in-range = w .in-range;
       node-is = w .root-is;
       count = omega arith;
-      written = ap (λ y. y ++ rest t) (take-suc-set path 0 (root ∷ 65535 ∷ []) (omega arith)) ∙ ap (λ x. (x ∷ 65535 ∷ []) ∷ rest t) (w .root-is) ∙ sym (trail-rest 65535 t);
+      written = ap (λ y. y ++ rest t) (take-suc-set path 0 (root ∷ noSibling ∷ []) (omega arith)) ∙ ap (λ x. (x ∷ noSibling ∷ []) ∷ rest t) (w .root-is) ∙ sym (trail-rest noSibling t);
       low = omega (arith, walk-leaves (whole d) t p, w .few);
     }
 
-    step-is : (b : ℕ) (k : Cut (whole d)) (g : Bool) (l r : Tree (whole d)) (x : ℕ) → x ≡ b → P ≡ p .row → Laid d c (rowOf d c) (λ (j : ℕ). getD N j []) (branch b k g l r) → Laid d c (cutOf d c) (λ (j : ℕ). getD C j nan) (branch b k g l r) → k .channel < 8 →
+    step-is : (b : ℕ) (k : Cut (whole d)) (g : Bool) (l r : Tree (whole d)) (x : ℕ) → x ≡ b → P ≡ p .row → Laid d c (rowOf d c) (λ (j : ℕ). getD N j []) (branch b k g l r) → Laid d c (cutOf d c) (λ (j : ℕ). getD C j nan) (branch b k g l r) → k .channel < width →
         stepOf N C P x ≡ id (whole d) c (toward (whole d) k p l r) ∷ id (whole d) c (aside (whole d) k p l r) ∷ []
     step-is b k g l r x a e h v m =
         let row : getD N x [] ≡ rowOf d c (branch b k g l r) = rw a (h .0) in
@@ -76,11 +77,11 @@ module _ (c : ℕ) (N : List (List ℕ)) (C P : List Float) where
     -- what a turn of the loop needs, and where it comes to
     pub record Turn (t : Tree (whole d)) (path : List (List ℕ)) (n node : ℕ) : Type 0 where
       pub small : node + 1 < c
-      pub chan : field N node 3 < 8
+      pub chan : field N node 3 < width
       pub room : n < c
       pub next : Reaching t (set path n (stepOf N C P node)) (n + 1) (nodeOf (stepOf N C P node))
 
-    pub turn : (t : Tree (whole d)) (path : List (List ℕ)) (n node : ℕ) → c ≤ 256 → P ≡ p .row → Reaching t path n node → node < c → Turn t path n node
+    pub turn : (t : Tree (whole d)) (path : List (List ℕ)) (n node : ℕ) → c ≤ capacityLimit → P ≡ p .row → Reaching t path n node → node < c → Turn t path n node
     turn t path n node m e w lt = go (w .at) (w .rows) (w .values) (w .in-range) (w .node-is) (w .count) (w .written)
       where
         go : (u : Tree (whole d)) → Laid d c (rowOf d c) (λ (j : ℕ). getD N j []) u → Laid d c (cutOf d c) (λ (j : ℕ). getD C j nan) u → InRange d c u → node ≡ id (whole d) c u →
@@ -107,7 +108,7 @@ module _ (c : ℕ) (N : List (List ℕ)) (C P : List Float) where
               });
             }
 
-    pub arrived : (t : Tree (whole d)) (path : List (List ℕ)) (n node : ℕ) → c ≤ 256 → Reaching t path n node → c ≤ node → Walked d c path n t p
+    pub arrived : (t : Tree (whole d)) (path : List (List ℕ)) (n node : ℕ) → c ≤ capacityLimit → Reaching t path n node → c ≤ node → Walked d c path n t p
     arrived t path n node m w le = go (w .at) (w .in-range) (w .node-is) (w .count) (w .written)
       where
         go : (u : Tree (whole d)) → InRange d c u → node ≡ id (whole d) c u → n + height (whole d) u p ≡ walk (whole d) t p → take n path ++ rest u ≡ trail d c t p → Walked d c path n t p

@@ -8,6 +8,7 @@ use native.Mathlib.Omega.{arith}
 use lib.Dec.{eqb}
 use lib.ListN.{getD, take, set}
 use lib.Ieee.{Float}
+use Rattle.limits.specs.Limits.{capacityLimit, branchLimit, pointLimit, totalLimit}
 use Rattle.cut.specs.declared.Cut.{Cut}
 use Rattle.cuttree.specs.Setting.{Setting, Cut as CutOf}
 use Rattle.cuttree.specs.Tree.{Tree, id, height, mass, above}
@@ -32,29 +33,29 @@ module _ {d c n k b index h : ℕ} {N path : List (List ℕ)} {C : List Float} {
   within : h ≤ height S t p
   within = omega (arith, w .place)
 
-  pub place-low : k < 256
+  pub place-low : k < capacityLimit
   place-low = omega (arith, w .place, w .walked .count, w .walked .most)
 
   node-is : field path k 0 ≡ id S c (sub S t h p)
   node-is = path-node d c p path t (walk-is (w .walked)) k h (w .place)
 
-  pub mass-asks : (o : ℕ) → o ≡ field path k 0 → (o < c → o < 255) × ((o - c < 1024) × (c ≤ o → 1 ≤ getD K (o - c) 0))
+  pub mass-asks : (o : ℕ) → o ≡ field path k 0 → (o < c → o < branchLimit) × ((o - c < pointLimit) × (c ≤ o → 1 ≤ getD K (o - c) 0))
   mass-asks o e = rw (e ∙ node-is) (id-low d c t p N C K (w .stored) (sub S t h p) (in-sub d c h p t within))
 
   mass-is : (o : ℕ) → o ≡ field path k 0 → massAt c N K o ≡ mass S (sub S t h p)
   mass-is o e = rw (e ∙ node-is) (mass-at d c t p N C K (w .stored) (sub S t h p) (in-sub d c h p t within))
 
-  pub mass-low : (o : ℕ) → o ≡ field path k 0 → massAt c N K o ≤ 65534
+  pub mass-low : (o : ℕ) → o ≡ field path k 0 → massAt c N K o ≤ totalLimit - 1
   mass-low o e = omega (arith, mass-is o e, sub-total d c h p t within, w .room)
 
   row-is : (o m : ℕ) → o ≡ field path k 0 → m ≡ massAt c N K o → rowFor left (index + c) o m (cut .dimension) ≡ rowOf d c (above S b x index p (sub S t h p))
   row-is o m e g = rw (g ∙ mass-is o e, e ∙ node-is, w .left-is, w .channel-is) (sym (new-row d c t p N C K (w .stored) h b index x within (w .fresh) (w .small)))
 
   pub insert-asks : (o m : ℕ) (row : List ℕ) → o ≡ field path k 0 → m ≡ massAt c N K o → row ≡ rowFor left (index + c) o m (cut .dimension) →
-      (0 < k → field path (k - 1) 0 < 255) × Climb 0 65534 (relink (set N b row) path k o b) (take k path)
+      (0 < k → field path (k - 1) 0 < branchLimit) × Climb 0 (totalLimit - 1) (relink (set N b row) path k o b) (take k path)
   insert-asks o m row e g r = rw (r ∙ row-is o m e g, e ∙ node-is) (
     parent-low d c t p N C K (w .stored) h b index x within (w .fresh) (w .small) k path (w .place) (walk-is (w .walked)),
-    climb-low (new-climb d c t p N C K (w .stored) h b index x within (w .fresh) (w .small) k path (w .place) (walk-is (w .walked)) 65534 (w .room)),
+    climb-low (new-climb d c t p N C K (w .stored) h b index x within (w .fresh) (w .small) k path (w .place) (walk-is (w .walked)) (totalLimit - 1) (w .room)),
   )
 
   pub placed-arrays : (o m : ℕ) (row : List ℕ) → o ≡ field path k 0 → m ≡ massAt c N K o → row ≡ rowFor left (index + c) o m (cut .dimension) →

@@ -9,6 +9,7 @@ use lib.Dec.{eqb, ltb}
 use lib.ListN.{take, set}
 use lib.Ieee.{Float}
 use borrow.Author.Tests.{ltb-true, ltb-false}
+use Rattle.limits.specs.Limits.{branchLimit, pointLimit}
 use Rattle.boundingbox.specs.Sides.{nought}
 use Rattle.cuttree.specs.Setting.{Setting}
 use Rattle.cuttree.specs.Tree.{Tree, id, ending, height, walk}
@@ -61,16 +62,16 @@ module _ (d c : ℕ) where
       pub copy-linked : (k : ℕ) (path : List (List ℕ)) (k-is : k + 0 ≡ height S t p) → Linked d c t s p 0 k path k-is N
       copy-linked k path k-is = linked-same d c t s p 0 k path k-is N
           (record {
-            size = length-of 255 (slot d c (rowOf d c) noRow t) N (w .arrays .rows);
-            off = λ j m a. entry-of 255 (slot d c (rowOf d c) noRow t) N (w .arrays .rows) [] j m ∙ sym (same-slot (rowOf d c) noRow j a);
+            size = length-of branchLimit (slot d c (rowOf d c) noRow t) N (w .arrays .rows);
+            off = λ j m a. entry-of branchLimit (slot d c (rowOf d c) noRow t) N (w .arrays .rows) [] j m ∙ sym (same-slot (rowOf d c) noRow j a);
             on = λ m a e. let j = id S c (sub S t m p) in
                 let u = branch-of d c t j (omega (arith, upper-uses d c 0 p j t (omega arith), upper-at d c 0 m p a t e)) in
-                entry-of 255 (slot d c (rowOf d c) noRow t) N (w .arrays .rows) [] j (omega (arith, range-in d c (w .in-range) (u .inside), w .small)) ∙ leaf-slot (rowOf d c) noRow m a e;
+                entry-of branchLimit (slot d c (rowOf d c) noRow t) N (w .arrays .rows) [] j (omega (arith, range-in d c (w .in-range) (u .inside), w .small)) ∙ leaf-slot (rowOf d c) noRow m a e;
           })
           (sym (ap (id S c) (sub-leaf S p t)))
 
-      copy-cuts : C ≡ tab 255 (slot d c (cutOf d c) nought (replace S t 0 p s))
-      copy-cuts = w .arrays .values ∙ same-tab nought 255 (slot d c (cutOf d c) nought t) (slot d c (cutOf d c) nought (replace S t 0 p s))
+      copy-cuts : C ≡ tab branchLimit (slot d c (cutOf d c) nought (replace S t 0 p s))
+      copy-cuts = w .arrays .values ∙ same-tab nought branchLimit (slot d c (cutOf d c) nought t) (slot d c (cutOf d c) nought (replace S t 0 p s))
           (λ j lt. by-test (ltb 0 (upper d c t 0 p j))
           (λ x. let a = above-of d c 0 p j t (omega arith) (ltb-true 0 (upper d c t 0 p j) x) in
           subst (λ y. slot d c (cutOf d c) nought t y ≡ slot d c (cutOf d c) nought (replace S t 0 p s) y) (a .is-id)
@@ -78,7 +79,7 @@ module _ (d c : ℕ) where
           ∙ sym (slot-above d c (cutOf d c) nought 0 (a .at) p s t once-new (a .higher) (a .within) ∙ cut-replace d c 0 p s (sub S t (a .at) p) (omega (arith, a .higher, height-sub S (a .at) p t (a .within))))))
           (λ x. sym (same-slot (cutOf d c) nought j (omega (arith, ltb-false 0 (upper d c t 0 p j) x)))))
 
-      copy-counts : set K (ending S t p .index) n ≡ tab 1024 (countAt d c (replace S t 0 p s))
+      copy-counts : set K (ending S t p .index) n ≡ tab pointLimit (countAt d c (replace S t 0 p s))
       copy-counts = count-set d c K t (replace S t 0 p s) (ending S t p .index) (ending S t p .copies) n (w .arrays .counts) (range-ending d c p t (w .in-range)) (count-ending d c p t (w .apart))
           (λ x. omega (arith, sum-replace S (λ i q n. cond (eqb i x) n 0) (λ b. 0) 0 p s t (omega arith), ap (λ y. countAt d c y x) (sub-leaf S p t)))
 

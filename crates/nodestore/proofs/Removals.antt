@@ -8,6 +8,7 @@ use native.Mathlib.Omega.{arith}
 use lib.Dec.{eqb}
 use lib.ListN.{take, set}
 use lib.Ieee.{Float}
+use Rattle.limits.specs.Limits.{branchLimit, pointLimit, totalLimit}
 use Rattle.boundingbox.specs.Sides.{nought}
 use Rattle.cuttree.specs.Setting.{Setting}
 use Rattle.cuttree.specs.Tree.{Tree, is, id, ending, height, walk}
@@ -49,7 +50,7 @@ module _ (d c : ℕ) (t : Tree (whole d)) (p : Reading) (N : List (List ℕ)) (C
   fork-uses : (j : ℕ) → uses d c (sub S t 1 p) j ≡ is gone j + uses d c other j
   fork-uses j = omega (arith, sum-fork d (λ i q n. 0) (λ b. is b j) c p t deep)
 
-  pub gone-small : gone < 255
+  pub gone-small : gone < branchLimit
   gone-small = let u = branch-of d c t gone (omega (arith, fork-uses gone, is-same gone, upper-uses d c 1 p gone t deep)) in omega (arith, range-in d c (w .in-range) (u .inside), w .small)
 
   once-new : Once d c (replace S t 1 p other)
@@ -71,7 +72,7 @@ module _ (d c : ℕ) (t : Tree (whole d)) (p : Reading) (N : List (List ℕ)) (C
   empty : {A : Type 0} (f : Tree S → A) (z : A) → slot d c f z (replace S t 1 p other) gone ≡ z
   empty f z = slot-none d c f z (replace S t 1 p other) gone (omega (arith, once gone, fork-uses gone, is-same gone, uses-replace d c t other p 1 gone deep))
 
-  gone-counts : set K (ending S t p .index) 0 ≡ tab 1024 (countAt d c (replace S t 1 p other))
+  gone-counts : set K (ending S t p .index) 0 ≡ tab pointLimit (countAt d c (replace S t 1 p other))
   gone-counts = count-set d c K t (replace S t 1 p other) (ending S t p .index) (ending S t p .copies) 0 (w .arrays .counts) (range-ending d c p t (w .in-range)) (count-ending d c p t (w .apart))
       (λ x. omega (arith, no-either (eqb (ending S t p .index) x), sum-replace S (λ i q n. cond (eqb i x) n 0) (λ b. 0) 1 p other t deep, sum-fork d (λ i q n. cond (eqb i x) n 0) (λ b. 0) c p t deep))
 
@@ -80,11 +81,11 @@ module _ (d c : ℕ) (t : Tree (whole d)) (p : Reading) (N : List (List ℕ)) (C
     linked = linked-turned d c t other p 1 k path k-is (w .apart) (w .small) (w .in-range) walked (set N gone noRow)
         (placed d c t other other p 1 gone spot k path k-is N noRow (w .small) (w .in-range) (w .arrays .rows) (sym (empty (rowOf d c) noRow)))
 
-    pub parent-low : 0 < k → field path (k - 1) 0 < 255
+    pub parent-low : 0 < k → field path (k - 1) 0 < branchLimit
     parent-low = parent-small d c t other p 1 k path k-is (w .apart) (w .small) (w .in-range) walked
 
-    pub gone-climb : Climb 1 65535 (relink (set N gone noRow) path k gone (id S c other)) (take k path)
-    gone-climb = climbs d c t other p 1 k path k-is _ linked (w .small) once (w .in-range) (w .filled) walked 65535 (w .light)
+    pub gone-climb : Climb 1 totalLimit (relink (set N gone noRow) path k gone (id S c other)) (take k path)
+    gone-climb = climbs d c t other p 1 k path k-is _ linked (w .small) once (w .in-range) (w .filled) walked totalLimit (w .light)
 
     pub gone-arrays : Arrays d c (massOver lighter (take k path) (relink (set N gone noRow) path k gone (id S c other))) (set C gone nought) (set K (ending S t p .index) 0) (some (replace S t 1 p other))
     gone-arrays = record {

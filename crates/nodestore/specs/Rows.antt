@@ -5,6 +5,7 @@ use Prim.Native.Nat.{ℕ, _+_, _-_, _≤_, _<_}
 use lib.Dec.{eqb, ltb}
 use lib.ListN.{getD, set}
 use lib.Ieee.{Float, nan, le}
+use Rattle.limits.specs.Limits.{branchLimit}
 use Rattle.boundingbox.specs.Ends.{channel}
 use Rattle.cuttree.specs.Tree.{is}
 
@@ -44,7 +45,7 @@ lighter x = x - 1
 
 -- what this asks: different branches, with masses from low to high
 pub record Climb (low high : ℕ) (n ss : List (List ℕ)) : Type 0 where
-  pub ids : (b : ℕ) → 0 < times ss b → b < 255
+  pub ids : (b : ℕ) → 0 < times ss b → b < branchLimit
   pub once : (b : ℕ) → times ss b ≤ 1
   pub masses : (b : ℕ) → 0 < times ss b → (low ≤ field n b 2) × (field n b 2 ≤ high)
 

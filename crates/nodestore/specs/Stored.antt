@@ -4,9 +4,10 @@ use mathlib.Core.Path.{_≡_}
 use mathlib.Core.Bool.{Bool}
 use mathlib.Core.Option.{Option, some}
 use mathlib.Core.List.{List, []}
-use Prim.Native.Nat.{ℕ, _+_, _≤_, _<_}
+use Prim.Native.Nat.{ℕ, _+_, _≤_, _<_, _-_}
 use lib.ListN.{length, getD, take}
 use lib.Ieee.{Float, nan}
+use Rattle.limits.specs.Limits.{width, capacityLimit, branchLimit, pointLimit, totalLimit}
 use Rattle.boundingbox.specs.Sides.{nought}
 use Rattle.cut.specs.declared.Cut.{Cut}
 use Rattle.cuttree.specs.Setting.{Cut as CutOf, below}
@@ -34,8 +35,8 @@ pub record SomeWalks (c : ℕ) (nodes : List (List ℕ)) (cuts point : List Floa
 
 -- the first n rows of the path are p's walk
 pub record Walked (d c : ℕ) (path : List (List ℕ)) (n : ℕ) (t : Tree (whole d)) (p : Reading) : Type 0 where
-  pub long : length path ≡ 256
-  pub most : n ≤ 256
+  pub long : length path ≡ capacityLimit
+  pub most : n ≤ capacityLimit
   pub count : n ≡ walk (whole d) t p
   pub is-trail : take n path ≡ trail d c t p
 
@@ -47,18 +48,18 @@ pub record SomeWalked (c : ℕ) (path : List (List ℕ)) (n : ℕ) : Type 0 wher
 
 -- THE ARRAYS of a tree or of none: every slot of a branch's row, of a branch's cut and of a leaf's copies
 pub record Arrays (d c : ℕ) (nodes : List (List ℕ)) (cuts : List Float) (copies : List ℕ) (o : Option (Tree (whole d))) : Type 0 where
-  pub rows : nodes ≡ tab 255 (slotIn d c 0 (rowOf d c) noRow o)
-  pub values : cuts ≡ tab 255 (slotIn d c 0 (cutOf d c) nought o)
-  pub counts : copies ≡ tab 1024 (countIn d c 0 o)
+  pub rows : nodes ≡ tab branchLimit (slotIn d c 0 (rowOf d c) noRow o)
+  pub values : cuts ≡ tab branchLimit (slotIn d c 0 (cutOf d c) nought o)
+  pub counts : copies ≡ tab pointLimit (countIn d c 0 o)
 
 -- the arrays are those of t, whose ids are each one node's, and whose numbers are in range
 pub record Stored (d c : ℕ) (nodes : List (List ℕ)) (cuts : List Float) (copies : List ℕ) (t : Tree (whole d)) : Type 0 where
-  pub small : c ≤ 256
+  pub small : c ≤ capacityLimit
   pub arrays : Arrays d c nodes cuts copies (some t)
   pub apart : (x : ℕ) → sum (whole d) (λ i q n. is (i + c) x) (λ b. is b x) t ≤ 1
   pub in-range : InRange d c t
   pub filled : All (whole d) (λ i q n. 0 < n) t
-  pub light : total (whole d) t ≤ 65535
+  pub light : total (whole d) t ≤ totalLimit
 
 -- and the path is p's walk, which ends in the leaf of that index
 pub record Reached (d c : ℕ) (nodes : List (List ℕ)) (cuts : List Float) (copies : List ℕ) (path : List (List ℕ)) (n index : ℕ) (t : Tree (whole d)) (p : Reading) : Type 0 where
@@ -80,13 +81,13 @@ pub record SomeReached (nodes : List (List ℕ)) (copies : List ℕ) (path : Lis
 pub record Graft (d c : ℕ) (nodes : List (List ℕ)) (cuts : List Float) (copies : List ℕ) (path : List (List ℕ)) (k b index : ℕ) (cut : Cut) (left : Bool) (n : ℕ) (t : Tree (whole d)) (p : Reading) (h : ℕ) (x : CutOf (whole d)) : Type 0 where
   pub stored : Stored d c nodes cuts copies t
   pub walked : Walked d c path n t p
-  pub room : total (whole d) t ≤ 65534
+  pub room : total (whole d) t ≤ totalLimit - 1
   pub place : k + h ≡ height (whole d) t p
   pub fresh : uses d c t b ≡ 0
-  pub small : b < 255
+  pub small : b < branchLimit
   pub new : countAt d c t index ≡ 0
-  pub index-small : index < 1024
-  pub channel-small : x .channel < 8
+  pub index-small : index < pointLimit
+  pub channel-small : x .channel < width
   pub channel-is : cut .dimension ≡ x .channel
   pub value-is : cut .value ≡ x .value .value
   pub left-is : left ≡ below (whole d) x p

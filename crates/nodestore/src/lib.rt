@@ -1,5 +1,11 @@
 // The rows, cuts and copies of a cut tree's nodes: the walk of a point, and the edits of a tree written into the arrays that hold it. After nodestore.rs,
 // its boxes left to another crate. A path is lent, as the Rust's vector of node and sibling is.
+use limits::CHANNELS;
+use limits::Copies;
+use limits::Cuts;
+use limits::Nodes;
+use limits::Path;
+use limits::Row;
 ghost use mathlib.Core.Path.{_≡_};
 ghost use mathlib.Core.Bool.{Bool, cond};
 ghost use mathlib.Core.Option.{none, some};
@@ -8,6 +14,7 @@ ghost use Prim.Native.Nat.{ℕ, _+_, _-_, _*_, _<_, _≤_};
 ghost use lib.Dec.{eqb};
 ghost use lib.ListN.{length, getD, set, take, drop};
 ghost use lib.Ieee.{Float};
+ghost use Rattle.limits.specs.Limits.{width, capacityLimit, branchLimit, pointLimit, totalLimit};
 ghost use Rattle.boundingbox.specs.Sides.{nought};
 ghost use Rattle.cuttree.specs.Tree.{Tree, leaf, id, ending, addCopy, forget, freed};
 ghost use Rattle.cuttree.specs.Setting.{Cut as CutOf};
@@ -20,6 +27,9 @@ ghost use Rattle.nodestore.specs.Stored.{Walks, SomeWalks, Walked, SomeW
 ghost use Rattle.cut.specs.declared.Cut.{Cut};
 use cut::Cut;
 
+// The root stands in a path with this in place of a sibling.
+const NO_SIBLING: u16 = 65535;
+
 pub fn wide16(x: u16) -> usize
     ensures { λ r. ⌜ r ≡ x ⌝ }
 {
@@ -28,9 +38,9 @@ pub fn wide16(x: u16) -> usize
 
 fn rows_of(s: &[[u16; 2]]) {}
 
-// A lent path has its 256 rows, which the array's type doesn't tell a proof.
-fn path_length(path: &[[u16; 2]; 256])
-    ensures { λ _. ⌜ length (now (path .entry)) ≡ 256 ⌝ }
+// A lent path has all its rows, which the array's type doesn't tell a proof.
+fn path_length(path: &Path)
+    ensures { λ _. ⌜ length (now (path .entry)) ≡ capacityLimit ⌝ }
 {
     rows_of(path);
 }
@@ -57,9 +67,9 @@ fn in_turn(straight: bool, a: u16, b: u16) -> [u16; 2]
 }
 
 // The side that the point goes to, and the other.
-fn step_at(nodes: &[[u16; 4]; 255], cuts: &[f32; 255], point: &[f32; 8], i: usize) -> [u16; 2]
-    requires { ⌜ i < 255 ⌝ }
-    requires { ⌜ field (now nodes) i 3 < 8 ⌝ }
+fn step_at(nodes: &Nodes, cuts: &Cuts, point: &Row, i: usize) -> [u16; 2]
+    requires { ⌜ i < branchLimit ⌝ }
+    requires { ⌜ field (now nodes) i 3 < width ⌝ }
     ensures { λ r. ⌜ r ≡ stepOf (now (nodes .entry)) (now (cuts .entry)) (now (point .entry)) i ⌝ }
 {
     let d = wide16(nodes[i][3]);
@@ -70,20 +80,20 @@ fn step_at(nodes: &[[u16; 4]; 255], cuts: &[f32; 255], point: &[f32; 8], i: usiz
 
 // The nodes from the root to the leaf, each with its sibling; the root has none. The rows after the walk's stay as they are.
 pub fn set_path(
-    nodes: &[[u16; 4]; 255],
-    cuts: &[f32; 255],
-    point: &[f32; 8],
+    nodes: &Nodes,
+    cuts: &Cuts,
+    point: &Row,
     root: u16,
     capacity: u16,
-    path: &mut [[u16; 2]; 256],
+    path: &mut Path,
 ) -> usize
-    requires { ⌜ capacity ≤ 256 ⌝ }
+    requires { ⌜ capacity ≤ capacityLimit ⌝ }
     requires { ⌜ SomeWalks capacity (now nodes) (now cuts) (now point) root ⌝ }
     ensures walked { λ r. ⌜ ((d : ℕ) (t : Tree (whole d)) (p : Reading) → Walks d capacity (now (nodes .entry)) (now (cuts .entry)) (now (point .entry)) root t p → Walked d capacity (now (path .exit)) r t p) ⌝ }
     ensures rest { λ r. ⌜ drop r (now (path .exit)) ≡ drop r (now (path .entry)) ⌝ }
 {
     path_length(path);
-    path[0] = [root, 65535];
+    path[0] = [root, NO_SIBLING];
     let mut n: usize = 1;
     let mut node = root;
     while node < capacity {
@@ -95,16 +105,16 @@ pub fn set_path(
     n
 }
 
-fn heavier_by_one(nodes: &mut [[u16; 4]; 255], i: usize)
-    requires { ⌜ i < 255 ⌝ }
-    requires { ⌜ field (now nodes) i 2 ≤ 65534 ⌝ }
+fn heavier_by_one(nodes: &mut Nodes, i: usize)
+    requires { ⌜ i < branchLimit ⌝ }
+    requires { ⌜ field (now nodes) i 2 ≤ totalLimit - 1 ⌝ }
     ensures { λ _. ⌜ now (nodes .exit) ≡ weigh heavier (now (nodes .entry)) i ⌝ }
 {
     nodes[i][2] = nodes[i][2] + 1;
 }
 
-fn lighter_by_one(nodes: &mut [[u16; 4]; 255], i: usize)
-    requires { ⌜ i < 255 ⌝ }
+fn lighter_by_one(nodes: &mut Nodes, i: usize)
+    requires { ⌜ i < branchLimit ⌝ }
     requires { ⌜ 1 ≤ field (now nodes) i 2 ⌝ }
     ensures { λ _. ⌜ now (nodes .exit) ≡ weigh lighter (now (nodes .entry)) i ⌝ }
 {
@@ -112,10 +122,10 @@ fn lighter_by_one(nodes: &mut [[u16; 4]; 255], i: usize)
 }
 
 // The masses of the first n nodes of the path, from the last to the root.
-fn manage_ancestors_add(nodes: &mut [[u16; 4]; 255], path: &[[u16; 2]; 256], n: usize)
-    requires { ⌜ n ≤ 256 ⌝ }
-    requires { ⌜ length (now path) ≡ 256 ⌝ }
-    requires { ⌜ Climb 0 65534 (now nodes) (take n (now path)) ⌝ }
+fn manage_ancestors_add(nodes: &mut Nodes, path: &Path, n: usize)
+    requires { ⌜ n ≤ capacityLimit ⌝ }
+    requires { ⌜ length (now path) ≡ capacityLimit ⌝ }
+    requires { ⌜ Climb 0 (totalLimit - 1) (now nodes) (take n (now path)) ⌝ }
     ensures { λ _. ⌜ now (nodes .exit) ≡ massOver heavier (take n (now (path .entry))) (now (nodes .entry)) ⌝ }
 {
     let mut k = n;
@@ -125,10 +135,10 @@ fn manage_ancestors_add(nodes: &mut [[u16; 4]; 255], path: &[[u16; 2]; 256], n: 
     }
 }
 
-fn manage_ancestors_delete(nodes: &mut [[u16; 4]; 255], path: &[[u16; 2]; 256], n: usize)
-    requires { ⌜ n ≤ 256 ⌝ }
-    requires { ⌜ length (now path) ≡ 256 ⌝ }
-    requires { ⌜ Climb 1 65535 (now nodes) (take n (now path)) ⌝ }
+fn manage_ancestors_delete(nodes: &mut Nodes, path: &Path, n: usize)
+    requires { ⌜ n ≤ capacityLimit ⌝ }
+    requires { ⌜ length (now path) ≡ capacityLimit ⌝ }
+    requires { ⌜ Climb 1 totalLimit (now nodes) (take n (now path)) ⌝ }
     ensures { λ _. ⌜ now (nodes .exit) ≡ massOver lighter (take n (now (path .entry))) (now (nodes .entry)) ⌝ }
 {
     let mut k = n;
@@ -139,8 +149,8 @@ fn manage_ancestors_delete(nodes: &mut [[u16; 4]; 255], path: &[[u16; 2]; 256], 
 }
 
 // The side `old` of the branch a is made `new`.
-fn replace_node(nodes: &mut [[u16; 4]; 255], a: usize, old: u16, new: u16)
-    requires { ⌜ a < 255 ⌝ }
+fn replace_node(nodes: &mut Nodes, a: usize, old: u16, new: u16)
+    requires { ⌜ a < branchLimit ⌝ }
     ensures { λ _. ⌜ now (nodes .exit) ≡ redirect (now (nodes .entry)) a old new ⌝ }
 {
     if nodes[a][0] == old {
@@ -151,9 +161,9 @@ fn replace_node(nodes: &mut [[u16; 4]; 255], a: usize, old: u16, new: u16)
 }
 
 // The node `old` below the first k nodes of the path is made `new`.
-fn relink_at(nodes: &mut [[u16; 4]; 255], path: &[[u16; 2]; 256], k: usize, old: u16, new: u16)
-    requires { ⌜ k ≤ 256 ⌝ }
-    requires { ⌜ (0 < k → field (now path) (k - 1) 0 < 255) ⌝ }
+fn relink_at(nodes: &mut Nodes, path: &Path, k: usize, old: u16, new: u16)
+    requires { ⌜ k ≤ capacityLimit ⌝ }
+    requires { ⌜ (0 < k → field (now path) (k - 1) 0 < branchLimit) ⌝ }
     ensures { λ _. ⌜ now (nodes .exit) ≡ relink (now (nodes .entry)) (now (path .entry)) k old new ⌝ }
 {
     if k == 0 {
@@ -163,8 +173,8 @@ fn relink_at(nodes: &mut [[u16; 4]; 255], path: &[[u16; 2]; 256], k: usize, old:
 }
 
 // The row and the cut of a branch.
-fn put_cell(nodes: &mut [[u16; 4]; 255], cuts: &mut [f32; 255], b: usize, row: [u16; 4], cut: f32)
-    requires { ⌜ b < 255 ⌝ }
+fn put_cell(nodes: &mut Nodes, cuts: &mut Cuts, b: usize, row: [u16; 4], cut: f32)
+    requires { ⌜ b < branchLimit ⌝ }
     ensures { λ _. ⌜ now (nodes .exit) ≡ set (now (nodes .entry)) b row ⌝ ∗ ⌜ now (cuts .exit) ≡ set (now (cuts .entry)) b cut ⌝ }
 {
     nodes[b] = row;
@@ -172,19 +182,12 @@ fn put_cell(nodes: &mut [[u16; 4]; 255], cuts: &mut [f32; 255], b: usize, row: [
 }
 
 // The branch b, below the first k nodes of the path, goes; the node s takes its place.
-fn lift(
-    nodes: &mut [[u16; 4]; 255],
-    cuts: &mut [f32; 255],
-    path: &[[u16; 2]; 256],
-    k: usize,
-    b: u16,
-    s: u16,
-)
-    requires { ⌜ b < 255 ⌝ }
-    requires { ⌜ k ≤ 256 ⌝ }
-    requires { ⌜ length (now path) ≡ 256 ⌝ }
-    requires { ⌜ (0 < k → field (now path) (k - 1) 0 < 255) ⌝ }
-    requires { ⌜ Climb 1 65535 (relink (set (now nodes) b noRow) (now path) k b s) (take k (now path)) ⌝ }
+fn lift(nodes: &mut Nodes, cuts: &mut Cuts, path: &Path, k: usize, b: u16, s: u16)
+    requires { ⌜ b < branchLimit ⌝ }
+    requires { ⌜ k ≤ capacityLimit ⌝ }
+    requires { ⌜ length (now path) ≡ capacityLimit ⌝ }
+    requires { ⌜ (0 < k → field (now path) (k - 1) 0 < branchLimit) ⌝ }
+    requires { ⌜ Climb 1 totalLimit (relink (set (now nodes) b noRow) (now path) k b s) (take k (now path)) ⌝ }
     ensures { λ _. ⌜ now (nodes .exit) ≡ massOver lighter (take k (now (path .entry))) (relink (set (now (nodes .entry)) b noRow) (now (path .entry)) k b s) ⌝ ∗ ⌜ now (cuts .exit) ≡ set (now (cuts .entry)) b nought ⌝ }
 {
     put_cell(nodes, cuts, wide16(b), [0, 0, 0, 0], 0.0);
@@ -194,20 +197,20 @@ fn lift(
 
 // The branch b comes, below the first k nodes of the path and above the node `old`.
 fn insert(
-    nodes: &mut [[u16; 4]; 255],
-    cuts: &mut [f32; 255],
-    path: &[[u16; 2]; 256],
+    nodes: &mut Nodes,
+    cuts: &mut Cuts,
+    path: &Path,
     k: usize,
     b: u16,
     row: [u16; 4],
     value: f32,
     old: u16,
 )
-    requires { ⌜ b < 255 ⌝ }
-    requires { ⌜ k ≤ 256 ⌝ }
-    requires { ⌜ length (now path) ≡ 256 ⌝ }
-    requires { ⌜ (0 < k → field (now path) (k - 1) 0 < 255) ⌝ }
-    requires { ⌜ Climb 0 65534 (relink (set (now nodes) b row) (now path) k old b) (take k (now path)) ⌝ }
+    requires { ⌜ b < branchLimit ⌝ }
+    requires { ⌜ k ≤ capacityLimit ⌝ }
+    requires { ⌜ length (now path) ≡ capacityLimit ⌝ }
+    requires { ⌜ (0 < k → field (now path) (k - 1) 0 < branchLimit) ⌝ }
+    requires { ⌜ Climb 0 (totalLimit - 1) (relink (set (now nodes) b row) (now path) k old b) (take k (now path)) ⌝ }
     ensures { λ _. ⌜ now (nodes .exit) ≡ massOver heavier (take k (now (path .entry))) (relink (set (now (nodes .entry)) b row) (now (path .entry)) k old b) ⌝ ∗ ⌜ now (cuts .exit) ≡ set (now (cuts .entry)) b value ⌝ }
 {
     put_cell(nodes, cuts, wide16(b), row, value);
@@ -215,12 +218,12 @@ fn insert(
     manage_ancestors_add(nodes, path, k);
 }
 
-// Equal coordinates in all eight channels.
-pub fn same_point(a: &[f32; 8], b: &[f32; 8]) -> bool
+// Equal coordinates in every channel.
+pub fn same_point(a: &Row, b: &Row) -> bool
     ensures { λ r. ⌜ r ≡ sameRow (now (a .entry)) (now (b .entry)) ⌝ }
 {
     let mut i: usize = 0;
-    while i < 8 {
+    while i < CHANNELS {
         if a[i] == b[i] {
             i += 1;
         } else {
@@ -230,37 +233,37 @@ pub fn same_point(a: &[f32; 8], b: &[f32; 8]) -> bool
     true
 }
 
-fn node_at(path: &[[u16; 2]; 256], i: usize) -> u16
-    requires { ⌜ i < 256 ⌝ }
+fn node_at(path: &Path, i: usize) -> u16
+    requires { ⌜ i < capacityLimit ⌝ }
     ensures { λ r. ⌜ r ≡ field (now (path .entry)) i 0 ⌝ }
 {
     path[i][0]
 }
 
-fn sibling_at(path: &[[u16; 2]; 256], i: usize) -> u16
-    requires { ⌜ i < 256 ⌝ }
+fn sibling_at(path: &Path, i: usize) -> u16
+    requires { ⌜ i < capacityLimit ⌝ }
     ensures { λ r. ⌜ r ≡ field (now (path .entry)) i 1 ⌝ }
 {
     path[i][1]
 }
 
-fn put_copies(copies: &mut [u16; 1024], index: usize, n: u16)
-    requires { ⌜ index < 1024 ⌝ }
+fn put_copies(copies: &mut Copies, index: usize, n: u16)
+    requires { ⌜ index < pointLimit ⌝ }
     ensures { λ _. ⌜ now (copies .exit) ≡ set (now (copies .entry)) index n ⌝ }
 {
     copies[index] = n;
 }
 
-fn one_more(copies: &mut [u16; 1024], index: usize)
-    requires { ⌜ index < 1024 ⌝ }
-    requires { ⌜ getD (now copies) index 0 ≤ 65534 ⌝ }
+fn one_more(copies: &mut Copies, index: usize)
+    requires { ⌜ index < pointLimit ⌝ }
+    requires { ⌜ getD (now copies) index 0 ≤ totalLimit - 1 ⌝ }
     ensures { λ _. ⌜ now (copies .exit) ≡ set (now (copies .entry)) index (getD (now (copies .entry)) index 0 + 1) ⌝ }
 {
     copies[index] = copies[index] + 1;
 }
 
-fn one_less(copies: &mut [u16; 1024], index: usize)
-    requires { ⌜ index < 1024 ⌝ }
+fn one_less(copies: &mut Copies, index: usize)
+    requires { ⌜ index < pointLimit ⌝ }
     requires { ⌜ 1 ≤ getD (now copies) index 0 ⌝ }
     ensures { λ _. ⌜ now (copies .exit) ≡ set (now (copies .entry)) index (getD (now (copies .entry)) index 0 - 1) ⌝ }
 {
@@ -268,7 +271,7 @@ fn one_less(copies: &mut [u16; 1024], index: usize)
 }
 
 // The point index of the leaf that the path ends in.
-pub fn leaf_at(path: &[[u16; 2]; 256], n: usize, capacity: u16) -> usize
+pub fn leaf_at(path: &Path, n: usize, capacity: u16) -> usize
     requires { ⌜ SomeWalked capacity (now path) n ⌝ }
     ensures { λ r. ⌜ ((d : ℕ) (t : Tree (whole d)) (p : Reading) → Walked d capacity (now (path .entry)) n t p → r ≡ ending (whole d) t p .index) ⌝ }
 {
@@ -276,14 +279,8 @@ pub fn leaf_at(path: &[[u16; 2]; 256], n: usize, capacity: u16) -> usize
 }
 
 // One copy more of the leaf that the path ends in.
-pub fn add_copy(
-    nodes: &mut [[u16; 4]; 255],
-    copies: &mut [u16; 1024],
-    path: &[[u16; 2]; 256],
-    n: usize,
-    index: usize,
-)
-    requires { ⌜ SomeReached (now nodes) (now copies) (now path) n index 65534 ⌝ }
+pub fn add_copy(nodes: &mut Nodes, copies: &mut Copies, path: &Path, n: usize, index: usize)
+    requires { ⌜ SomeReached (now nodes) (now copies) (now path) n index (totalLimit - 1) ⌝ }
     ensures { λ _. ⌜ ((d c : ℕ) (cuts : List Float) (t : Tree (whole d)) (p : Reading) → Reached d c (now (nodes .entry)) cuts (now (copies .entry)) (now (path .entry)) n index t p
         → Arrays d c (now (nodes .exit)) cuts (now (copies .exit)) (some (addCopy (whole d) p t))) ⌝ }
 {
@@ -292,14 +289,8 @@ pub fn add_copy(
 }
 
 // One copy less of that leaf, where copies are left.
-pub fn drop_copy(
-    nodes: &mut [[u16; 4]; 255],
-    copies: &mut [u16; 1024],
-    path: &[[u16; 2]; 256],
-    n: usize,
-    index: usize,
-)
-    requires { ⌜ SomeReached (now nodes) (now copies) (now path) n index 65535 ⌝ }
+pub fn drop_copy(nodes: &mut Nodes, copies: &mut Copies, path: &Path, n: usize, index: usize)
+    requires { ⌜ SomeReached (now nodes) (now copies) (now path) n index totalLimit ⌝ }
     requires { ⌜ 2 ≤ getD (now copies) index 0 ⌝ }
     ensures { λ _. ⌜ ((d c : ℕ) (cuts : List Float) (t : Tree (whole d)) (p : Reading) → Reached d c (now (nodes .entry)) cuts (now (copies .entry)) (now (path .entry)) n index t p
         → Arrays d c (now (nodes .exit)) cuts (now (copies .exit)) (forget (whole d) p t) × (freed (whole d) p t ≡ none)) ⌝ }
@@ -309,8 +300,8 @@ pub fn drop_copy(
 }
 
 // The first leaf of an empty tree.
-pub fn add_root(copies: &mut [u16; 1024], index: usize)
-    requires { ⌜ index < 1024 ⌝ }
+pub fn add_root(copies: &mut Copies, index: usize)
+    requires { ⌜ index < pointLimit ⌝ }
     ensures put { λ _. ⌜ now (copies .exit) ≡ set (now (copies .entry)) index 1 ⌝ }
     ensures arrays { λ _. ⌜ ((d c : ℕ) (nodes : List (List ℕ)) (cuts : List Float) (p : Reading) → Arrays d c nodes cuts (now (copies .entry)) none
         → Arrays d c nodes cuts (now (copies .exit)) (some (leaf index p 1))) ⌝ }
@@ -319,8 +310,8 @@ pub fn add_root(copies: &mut [u16; 1024], index: usize)
 }
 
 // The last copy of a lone leaf.
-pub fn remove_root(copies: &mut [u16; 1024], index: usize)
-    requires { ⌜ index < 1024 ⌝ }
+pub fn remove_root(copies: &mut Copies, index: usize)
+    requires { ⌜ index < pointLimit ⌝ }
     requires { ⌜ getD (now copies) index 0 ≡ 1 ⌝ }
     ensures put { λ _. ⌜ now (copies .exit) ≡ set (now (copies .entry)) index 0 ⌝ }
     ensures arrays { λ _. ⌜ ((d c : ℕ) (nodes : List (List ℕ)) (cuts : List Float) (path : List (List ℕ)) (t : Tree (whole d)) (p : Reading) → Reached d c nodes cuts (now (copies .entry)) path 1 index t p
@@ -331,14 +322,14 @@ pub fn remove_root(copies: &mut [u16; 1024], index: usize)
 
 // The last copy of a leaf below a branch: the sibling takes the branch's place. The number of that branch, which is free again.
 pub fn remove_leaf(
-    nodes: &mut [[u16; 4]; 255],
-    cuts: &mut [f32; 255],
-    copies: &mut [u16; 1024],
-    path: &[[u16; 2]; 256],
+    nodes: &mut Nodes,
+    cuts: &mut Cuts,
+    copies: &mut Copies,
+    path: &Path,
     n: usize,
     index: usize,
 ) -> u16
-    requires { ⌜ SomeReached (now nodes) (now copies) (now path) n index 65535 ⌝ }
+    requires { ⌜ SomeReached (now nodes) (now copies) (now path) n index totalLimit ⌝ }
     requires { ⌜ getD (now copies) index 0 ≡ 1 ⌝ }
     requires { ⌜ 2 ≤ n ⌝ }
     ensures { λ r. ⌜ ((d c : ℕ) (t : Tree (whole d)) (p : Reading) → Reached d c (now (nodes .entry)) (now (cuts .entry)) (now (copies .entry)) (now (path .entry)) n index t p
@@ -362,9 +353,9 @@ fn root_of(root: u16, k: usize, new: u16) -> u16
 }
 
 // The id of the root after that: the sibling's where the branch was the root.
-pub fn lifted_root(root: u16, path: &[[u16; 2]; 256], n: usize) -> u16
+pub fn lifted_root(root: u16, path: &Path, n: usize) -> u16
     requires { ⌜ 2 ≤ n ⌝ }
-    requires { ⌜ n ≤ 256 ⌝ }
+    requires { ⌜ n ≤ capacityLimit ⌝ }
     ensures is { λ r. ⌜ r ≡ cond (eqb (n - 2) 0) (field (now (path .entry)) (n - 1) 1) root ⌝ }
     ensures root { λ r. ⌜ ((d c : ℕ) (nodes : List (List ℕ)) (cuts : List Float) (copies : List ℕ) (index : ℕ) (t : Tree (whole d)) (p : Reading) → Reached d c nodes cuts copies (now (path .entry)) n index t p
         → getD copies index 0 ≡ 1 → root ≡ id (whole d) c t → r ≡ rootOf d c 0 (forget (whole d) p t)) ⌝ }
@@ -384,9 +375,9 @@ fn leaf_mass(k: u16) -> u16
 }
 
 // The mass of the node of an id.
-fn mass_of(nodes: &[[u16; 4]; 255], copies: &[u16; 1024], node: u16, capacity: u16) -> u16
-    requires { ⌜ (node < capacity → node < 255) ⌝ }
-    requires { ⌜ node - capacity < 1024 ⌝ }
+fn mass_of(nodes: &Nodes, copies: &Copies, node: u16, capacity: u16) -> u16
+    requires { ⌜ (node < capacity → node < branchLimit) ⌝ }
+    requires { ⌜ node - capacity < pointLimit ⌝ }
     requires { ⌜ (capacity ≤ node → 1 ≤ getD (now copies) (node - capacity) 0) ⌝ }
     ensures { λ r. ⌜ r ≡ massAt capacity (now (nodes .entry)) (now (copies .entry)) node ⌝ }
 {
@@ -397,8 +388,8 @@ fn mass_of(nodes: &[[u16; 4]; 255], copies: &[u16; 1024], node: u16, capacity: u
 }
 
 fn leaf_id(index: usize, capacity: u16) -> u16
-    requires { ⌜ index < 1024 ⌝ }
-    requires { ⌜ capacity ≤ 256 ⌝ }
+    requires { ⌜ index < pointLimit ⌝ }
+    requires { ⌜ capacity ≤ capacityLimit ⌝ }
     ensures { λ r. ⌜ r ≡ index + capacity ⌝ }
 {
     (index as u16) + capacity
@@ -406,8 +397,8 @@ fn leaf_id(index: usize, capacity: u16) -> u16
 
 // The row of a new branch over `old`, with the leaf `new` on its side of the cut.
 fn row_for(left: bool, new: u16, old: u16, mass: u16, dimension: usize) -> [u16; 4]
-    requires { ⌜ mass ≤ 65534 ⌝ }
-    requires { ⌜ dimension < 8 ⌝ }
+    requires { ⌜ mass ≤ totalLimit - 1 ⌝ }
+    requires { ⌜ dimension < width ⌝ }
     ensures { λ r. ⌜ r ≡ rowFor left new old mass dimension ⌝ }
 {
     if left {
@@ -418,10 +409,10 @@ fn row_for(left: bool, new: u16, old: u16, mass: u16, dimension: usize) -> [u16;
 
 // A new value: its leaf, and the branch b above the node below the first k of the path, with the cut given.
 pub fn place_branch(
-    nodes: &mut [[u16; 4]; 255],
-    cuts: &mut [f32; 255],
-    copies: &mut [u16; 1024],
-    path: &[[u16; 2]; 256],
+    nodes: &mut Nodes,
+    cuts: &mut Cuts,
+    copies: &mut Copies,
+    path: &Path,
     k: usize,
     b: u16,
     index: usize,

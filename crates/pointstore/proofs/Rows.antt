@@ -12,6 +12,7 @@ use lib.ListN.{length, set, drop, length-set, drop-of-length-le}
 use lib.Seq.{getD-set-same, getD-set-other, drop-cons}
 use lib.Ieee.{Float, nan, binary32, fits}
 use lib.Ieee.Bits.{is-true}
+use Rattle.limits.specs.Limits.{width}
 use Rattle.readings.specs.Coordinate.{isCoordinate}
 use Rattle.readings.proofs.Tests.{and-true}
 use Rattle.boundingbox.specs.Ends.{channel}
@@ -46,12 +47,12 @@ module _ (f : ℕ → Float) (n i : ℕ) (row : List Float) (w : Filled f n i ro
       go k (inr l) = getD-set-other row i k v nan (λ z. lt-irrefl i (subst (λ (j : ℕ). j < i) z l)) ∙ w .entries k l
 
 -- the coordinates, +0.0 after them
-pub padded-is : (xs row : List Float) (i : ℕ) → 8 ≤ i → Filled (orNought xs) 8 i row → row ≡ padded 8 xs
-padded-is xs row i h w = is-tab nan 8 (orNought xs) row (w .long) (λ k l. w .entries k (omega arith)) ∙ sym (is-tab nan 8 (orNought xs) (padded 8 xs) (padded-length 8 xs) (λ k l. go k l (ltb k (length xs)) refl))
+pub padded-is : (xs row : List Float) (i : ℕ) → width ≤ i → Filled (orNought xs) width i row → row ≡ padded width xs
+padded-is xs row i h w = is-tab nan width (orNought xs) row (w .long) (λ k l. w .entries k (omega arith)) ∙ sym (is-tab nan width (orNought xs) (padded width xs) (padded-length width xs) (λ k l. go k l (ltb k (length xs)) refl))
   where
-    go : (k : ℕ) → k < 8 → (b : Bool) → ltb k (length xs) ≡ b → channel (padded 8 xs) k ≡ cond b (channel xs k) nought
-    go k l true e = padded-at 8 xs k (borrow.Author.Tests.ltb-true k (length xs) e) l
-    go k l false e = padded-beyond 8 xs k (borrow.Author.Tests.ltb-false k (length xs) e) l
+    go : (k : ℕ) → k < width → (b : Bool) → ltb k (length xs) ≡ b → channel (padded width xs) k ≡ cond b (channel xs k) nought
+    go k l true e = padded-at width xs k (borrow.Author.Tests.ltb-true k (length xs) e) l
+    go k l false e = padded-beyond width xs k (borrow.Author.Tests.ltb-false k (length xs) e) l
 
 -- ---- the test of each coordinate
 module _ (xs : List Float) (i : ℕ) (h : i < length xs) (F : T (fits binary32 (channel xs i))) (b : Bool) (e : b ≡ isCoordinate (channel xs i)) where

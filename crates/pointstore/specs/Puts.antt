@@ -6,6 +6,7 @@ use Prim.Native.Nat.{ℕ}
 use lib.Dec.{ltb}
 use lib.ListN.{length}
 use lib.Ieee.{Float}
+use Rattle.limits.specs.Limits.{pointLimit}
 use Rattle.boundingbox.specs.Ends.{channel}
 use Rattle.boundingbox.specs.Sides.{nought}
 use Rattle.cuttree.specs.Sound.{Sound}
@@ -32,7 +33,7 @@ putSays d (boxIs b) = Written
 -- The lent arrays are those of a world that a tree's making and its calls leave: the table, and the copies of each leaf.
 pub record Tabled (d c : ℕ) (W : World (whole d)) (points : List (List Float)) (marks copies : List ℕ) : Type 0 where
   pub table : record { points = points; written = marks } ≡ tableOf (W .table)
-  pub leaves : copies ≡ tab 1024 (countIn d c 0 (W .tree))
+  pub leaves : copies ≡ tab pointLimit (countIn d c 0 (W .tree))
   pub sound : Sound (whole d) c W
 
 -- What a put gives and leaves: the answer, and the table after it, of the call on the world.

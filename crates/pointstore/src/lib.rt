@@ -1,7 +1,14 @@
-// The readings table, which stands in for `PointStore`: a row of eight coordinates for each point index, and a mark where it is written.
+// The readings table, which stands in for `PointStore`: a row of coordinates for each point index, and a mark where it is written.
+use limits::CHANNELS;
+use limits::Copies;
+use limits::Marks;
+use limits::POINTS;
+use limits::Points;
+use limits::Row;
 ghost use mathlib.Core.Path.{_≡_};
 ghost use Prim.Native.Nat.{ℕ};
 ghost use lib.ListN.{replicate};
+ghost use Rattle.limits.specs.Limits.{width, pointLimit};
 ghost use Rattle.layout.specs.Layout.{noEnds};
 ghost use Rattle.wholetree.specs.Reading.{padded};
 ghost use Rattle.wholetree.specs.Whole.{allCoordinates, whole};
@@ -16,18 +23,18 @@ pub enum PutAnswer {
 
 // The rows of a table with nothing written.
 // Rules out a row that is not zero, and minus zeros, which equal zeros but are not them.
-pub fn no_points() -> [[f32; 8]; 1024]
-    ensures { λ r. ⌜ r ≡ replicate 1024 noEnds ⌝ }
+pub fn no_points() -> Points
+    ensures { λ r. ⌜ r ≡ replicate pointLimit noEnds ⌝ }
 {
-    [[0.0; 8]; 1024]
+    [[0.0; CHANNELS]; POINTS]
 }
 
 // Its marks.
 // Rules out a mark that is set, at the first index or the last.
-pub fn no_marks() -> [u8; 1024]
-    ensures { λ r. ⌜ r ≡ replicate 1024 0 ⌝ }
+pub fn no_marks() -> Marks
+    ensures { λ r. ⌜ r ≡ replicate pointLimit 0 ⌝ }
 {
-    [0; 1024]
+    [0; POINTS]
 }
 
 // The coordinate of channel i, +0.0 beyond those given.
@@ -42,12 +49,12 @@ fn coordinate_at(coordinates: &[f32], i: usize) -> f32
 }
 
 // The coordinates as a row of the table.
-fn row_of(coordinates: &[f32]) -> [f32; 8]
-    ensures { λ r. ⌜ r ≡ padded 8 (now (coordinates .entry)) ⌝ }
+fn row_of(coordinates: &[f32]) -> Row
+    ensures { λ r. ⌜ r ≡ padded width (now (coordinates .entry)) ⌝ }
 {
-    let mut row = [0.0f32; 8];
+    let mut row = [0.0f32; CHANNELS];
     let mut i: usize = 0;
-    while i < 8 {
+    while i < CHANNELS {
         row[i] = coordinate_at(coordinates, i);
         i += 1;
     }
@@ -72,15 +79,15 @@ fn all_coordinates(coordinates: &[f32]) -> bool
 // Rules out a put over a leaf's index, and a bad coordinate refused as a wrong count.
 pub fn put(
     dimensions: usize,
-    copies: &[u16; 1024],
-    points: &mut [[f32; 8]; 1024],
-    written: &mut [u8; 1024],
+    copies: &Copies,
+    points: &mut Points,
+    written: &mut Marks,
     index: usize,
     coordinates: &[f32],
 ) -> PutAnswer
     ensures { λ r. ⌜ ((d c : ℕ) (W : World (whole d)) → dimensions ≡ d → Tabled d c W (now (points .entry)) (now (written .entry)) (now (copies .entry)) → PutDone d c W index (now (coordinates .entry)) (now (points .exit)) (now (written .exit)) r) ⌝ }
 {
-    if 1023 < index {
+    if POINTS <= index {
         return PutAnswer::Refused(5);
     }
     if coordinates.len() != dimensions {

@@ -3,12 +3,13 @@ use mathlib.Core.Path.{_≡_, refl, sym, ap, _∙_, subst}
 use mathlib.Core.Bool.{Bool, true, false}
 use mathlib.Core.Option.{Option, none, some}
 use mathlib.Core.List.{List, []}
-use Prim.Native.Nat.{ℕ, _+_, _≤_, _<_}
+use Prim.Native.Nat.{ℕ, _+_, _≤_, _<_, _-_}
 use native.Mathlib.Omega.{arith}
 use lib.Dec.{eqb, leb}
 use lib.ListN.{length, getD}
 use lib.Ieee.{Float}
 use borrow.Author.Tests.{le-leb, lt-leb, eq-eqb, ne-eqb, lt-ltb, le-ltb, leb-false, eqb-false}
+use Rattle.limits.specs.Limits.{branchLimit, pointLimit, totalLimit}
 use Rattle.boundingbox.specs.Sides.{nought}
 use Rattle.intervalstoremanager.specs.declared.IntervalStoreManager.{IntervalStoreManager}
 use Rattle.intervalstoremanager.specs.Stack.{next, afterGet}
@@ -54,15 +55,15 @@ module _ (d c k : ℕ) (W : World (whole d)) (tree : RCFTree) (a : Lent) (points
   done : (ws : List ℕ) (s : Answer (whole d)) (o : Option (Tree (whole d))) (v : List (ℕ × ℕ)) (r : RCFTree) (b : Lent) (x : AddAnswer) → call (whole d) c W (add i ws) ≡ (s, withTree (whole d) W o v) → x ≡ addSays d r s → Lies d c k o v r b → Done ws x b
   done ws s o v r b x e f L = changed d c k W tree a points marks H (addSays d) (call (whole d) c W (add i ws)) s (withTree (whole d) W o v) r b x e f L refl (reachable-call d c k W (add i ws) (H .reachable))
 
-  pub above : (ws : List ℕ) → 1024 ≤ i → Done ws (NotAdded 5) a
-  above ws m = not-done ws (refused indexAbove) (NotAdded 5) (cond-true _ _ _ (le-leb 1024 i m)) refl
+  pub above : (ws : List ℕ) → pointLimit ≤ i → Done ws (NotAdded 5) a
+  above ws m = not-done ws (refused indexAbove) (NotAdded 5) (cond-true _ _ _ (le-leb pointLimit i m)) refl
 
-  module _ (m : i < 1024) where
+  module _ (m : i < pointLimit) where
     abbrev then : List ℕ → Reading → Answer (whole d) × World (whole d)
-    then ws p = refuse (whole d) W full (eqb (totalOf (whole d) (W .tree)) 65535) (enter (whole d) c W (W .tree) i p ws)
+    then ws p = refuse (whole d) W full (eqb (totalOf (whole d) (W .tree)) totalLimit) (enter (whole d) c W (W .tree) i p ws)
 
     pointed : (ws : List ℕ) (o : Option Reading) → W .table i ≡ o → call (whole d) c W (add i ws) ≡ withPoint (whole d) W o (then ws)
-    pointed ws o e = cond-false _ _ _ (lt-leb 1024 i m) ∙ ap (λ (x : Option Reading). withPoint (whole d) W x (then ws)) e
+    pointed ws o e = cond-false _ _ _ (lt-leb pointLimit i m) ∙ ap (λ (x : Option Reading). withPoint (whole d) W x (then ws)) e
 
     pub blank : (ws : List ℕ) → getD marks i 0 ≡ 0 → Done ws (NotAdded 9) a
     blank ws e = not-done ws (refused neverWritten) (NotAdded 9) (pointed ws none (unwritten d c k W tree a points marks H i m e)) refl
@@ -74,12 +75,12 @@ module _ (d c k : ℕ) (W : World (whole d)) (tree : RCFTree) (a : Lent) (points
       P : W .table i ≡ some p
       P = is-written d c k W tree a points marks H i m known .1
 
-      pub at-limit : (ws : List ℕ) → tree .total ≡ 65535 → Done ws (NotAdded 10) a
-      at-limit ws e = not-done ws (refused full) (NotAdded 10) (pointed ws (some p) P ∙ cond-true _ _ _ (eq-eqb (totalOf (whole d) (W .tree)) 65535 (sym (H .total-is) ∙ e))) refl
+      pub at-limit : (ws : List ℕ) → tree .total ≡ totalLimit → Done ws (NotAdded 10) a
+      at-limit ws e = not-done ws (refused full) (NotAdded 10) (pointed ws (some p) P ∙ cond-true _ _ _ (eq-eqb (totalOf (whole d) (W .tree)) totalLimit (sym (H .total-is) ∙ e))) refl
 
-      module _ (room : tree .total ≡ 65535 → ⊥) where
+      module _ (room : tree .total ≡ totalLimit → ⊥) where
         entered : (ws : List ℕ) (o : Option (Tree (whole d))) → W .tree ≡ o → call (whole d) c W (add i ws) ≡ enter (whole d) c W o i p ws
-        entered ws o e = pointed ws (some p) P ∙ cond-false _ _ _ (ne-eqb (totalOf (whole d) (W .tree)) 65535 (λ f. room (H .total-is ∙ f))) ∙ ap (λ (x : Option (Tree (whole d))). enter (whole d) c W x i p ws) e
+        entered ws o e = pointed ws (some p) P ∙ cond-false _ _ _ (ne-eqb (totalOf (whole d) (W .tree)) totalLimit (λ f. room (H .total-is ∙ f))) ∙ ap (λ (x : Option (Tree (whole d))). enter (whole d) c W x i p ws) e
 
         -- ---- the first leaf
         pub first : (ws : List ℕ) → tree .total ≡ 0 → (r : RCFTree) (root : ℕ) (K : List ℕ) → r ≡ headed tree root 1 (tree .manager) → root ≡ i + tree .capacity
@@ -88,9 +89,9 @@ module _ (d c k : ℕ) (W : World (whole d)) (tree : RCFTree) (a : Lent) (points
         first ws z r root K e f h =
             let N : W .tree ≡ none = no-tree d c k W tree a points marks H z in
             let A : Arrays d c (a .nodes) (a .cuts) K (some (leaf i p 1)) = h d c (a .nodes) (a .cuts) p (record {
-              rows = H .nodes-are ∙ ap (λ (o : Option (Tree (whole d))). tab 255 (slotIn d c k (rowOf d c) noRow o)) N;
-              values = H .cuts-are ∙ ap (λ (o : Option (Tree (whole d))). tab 255 (slotIn d c k (cutOf d c) nought o)) N;
-              counts = H .copies-are ∙ ap (λ (o : Option (Tree (whole d))). tab 1024 (countIn d c k o)) N;
+              rows = H .nodes-are ∙ ap (λ (o : Option (Tree (whole d))). tab branchLimit (slotIn d c k (rowOf d c) noRow o)) N;
+              values = H .cuts-are ∙ ap (λ (o : Option (Tree (whole d))). tab branchLimit (slotIn d c k (cutOf d c) nought o)) N;
+              counts = H .copies-are ∙ ap (λ (o : Option (Tree (whole d))). tab pointLimit (countIn d c k o)) N;
             }) in
             done ws (added i 0) (some (leaf i p 1)) (W .free) r _ (Added r i 0) (entered ws none N) refl (record {
               dimensions-are = ap (λ (x : RCFTree). x .dimensions) e ∙ H .dimensions-are;
@@ -103,8 +104,8 @@ module _ (d c k : ℕ) (W : World (whole d)) (tree : RCFTree) (a : Lent) (points
               cuts-are = A .values;
               copies-are = A .counts;
               free-are = H .free-are;
-              lows-are = H .lows-are ∙ ap (λ (o : Option (Tree (whole d))). tab 255 (boxIn d c k (lowOf d c) o)) N ∙ sym (no-boxes d c k p (lowOf d c) (leaf i p 1) refl);
-              highs-are = H .highs-are ∙ ap (λ (o : Option (Tree (whole d))). tab 255 (boxIn d c k (highOf d c) o)) N ∙ sym (no-boxes d c k p (highOf d c) (leaf i p 1) refl);
+              lows-are = H .lows-are ∙ ap (λ (o : Option (Tree (whole d))). tab branchLimit (boxIn d c k (lowOf d c) o)) N ∙ sym (no-boxes d c k p (lowOf d c) (leaf i p 1) refl);
+              highs-are = H .highs-are ∙ ap (λ (o : Option (Tree (whole d))). tab branchLimit (boxIn d c k (highOf d c) o)) N ∙ sym (no-boxes d c k p (highOf d c) (leaf i p 1) refl);
             })
 
         -- ---- a tree that holds something
@@ -135,13 +136,13 @@ module _ (d c k : ℕ) (W : World (whole d)) (tree : RCFTree) (a : Lent) (points
               reach : Reached d c (a .nodes) (a .cuts) (a .copies) path n end t p
               reach = reached d c k t (W .free) p tree a points path n end (getD points i []) walk-in
 
-              pub end-low : end < 1024
+              pub end-low : end < pointLimit
               end-low = index-low reach
 
-              light : total (whole d) t ≤ 65534
+              light : total (whole d) t ≤ totalLimit - 1
               light = omega (arith, walk-in .stored .light, walk-in .lies .total-is, room)
 
-              pub total-low : tree .total ≤ 65534
+              pub total-low : tree .total ≤ totalLimit - 1
               total-low = omega (arith, light, walk-in .lies .total-is)
 
               -- the test of the rows tells whether p is held
@@ -149,7 +150,7 @@ module _ (d c k : ℕ) (W : World (whole d)) (tree : RCFTree) (a : Lent) (points
               test-is b v e f = sym (found-is d c k W tree a points marks H t T i p P end end-is) ∙ sym e ∙ f
 
               -- ---- a copy more
-              pub some-copied : SomeReached (a .nodes) (a .copies) path n end 65534
+              pub some-copied : SomeReached (a .nodes) (a .copies) path n end (totalLimit - 1)
               some-copied = record { channels = d; capacity = c; cuts = a .cuts; tree = t; reading = p; reached = reach; room = light }
 
               pub copied : (ws : List ℕ) (b : Bool) → b ≡ sameRow (getD points end []) (getD points i []) → b ≡ true → (r : RCFTree) (N : List (List ℕ)) (K : List ℕ) → r ≡ headed tree (tree .root) (tree .total + 1) (tree .manager)

@@ -7,6 +7,7 @@ use native.Mathlib.Omega.{arith}
 use lib.ListN.{getD}
 use lib.Ieee.{Float}
 use borrow.Author.Tests.{lt-ltb}
+use Rattle.limits.specs.Limits.{capacityLimit, branchLimit, pointLimit}
 use Rattle.cuttree.specs.Tree.{Tree, leaf, branch, All}
 use Rattle.cuttree.specs.Sound.{Sound}
 use Rattle.cuttree.proofs.Nodes.{In, here, left, right, in-trans}
@@ -41,18 +42,18 @@ module _ (d c : ℕ) (f : ℕ → Option Reading) (t : Tree (whole d)) (u : List
   in-range (branch b k g l r) j h =
       (omega (arith, number-below (whole d) c (whole-laws d) f t u H b (uses-in d c j)), h .0, in-range l (in-trans (whole d) (left here) j) (h .1), in-range r (in-trans (whole d) (right here) j) (h .2))
 
-  leaf-rows : (points : List (List Float)) → points ≡ tab 1024 (λ (i : ℕ). pointRow (f i)) → (v : Tree (whole d)) → All (whole d) (λ i q n. f i ≡ some q) v → All (whole d) (λ i q n. getD points i [] ≡ q .row) v
-  leaf-rows points e (leaf i q n) h = entry-of 1024 (λ (i : ℕ). pointRow (f i)) points e [] i (H .inside i q h) ∙ ap pointRow h
+  leaf-rows : (points : List (List Float)) → points ≡ tab pointLimit (λ (i : ℕ). pointRow (f i)) → (v : Tree (whole d)) → All (whole d) (λ i q n. f i ≡ some q) v → All (whole d) (λ i q n. getD points i [] ≡ q .row) v
+  leaf-rows points e (leaf i q n) h = entry-of pointLimit (λ (i : ℕ). pointRow (f i)) points e [] i (H .inside i q h) ∙ ap pointRow h
   leaf-rows points e (branch b k g l r) h = (leaf-rows points e l (h .0), leaf-rows points e r (h .1))
 
   -- the cached ends of one kind
-  laid-boxes : (k : ℕ) (end : Tree (whole d) → List Float) (xs : List (List Float)) → c ≤ 256 → InRange d c t → xs ≡ tab 255 (boxIn d c k end (some t)) → LaidBelow d c k end (λ (j : ℕ). getD xs j []) t
+  laid-boxes : (k : ℕ) (end : Tree (whole d) → List Float) (xs : List (List Float)) → c ≤ capacityLimit → InRange d c t → xs ≡ tab branchLimit (boxIn d c k end (some t)) → LaidBelow d c k end (λ (j : ℕ). getD xs j []) t
   laid-boxes k end xs m R e = laid-below-by d c end (λ (j : ℕ). getD xs j []) k t (λ b x g l r i h.
-      entry-of 255 (boxIn d c k end (some t)) xs e [] b (omega (arith, range-in d c R i)) ∙ rw (lt-ltb b k h) (slot-in d c end noEnds (once d c f t u H) i))
+      entry-of branchLimit (boxIn d c k end (some t)) xs e [] b (omega (arith, range-in d c R i)) ∙ rw (lt-ltb b k h) (slot-in d c end noEnds (once d c f t u H) i))
 
-  module _ (k : ℕ) (nodes : List (List ℕ)) (points lows highs : List (List Float)) (C : c ≤ 256) (I : InRow d t)
-      (N : nodes ≡ tab 255 (slot d c (rowOf d c) noRow t)) (P : points ≡ tab 1024 (λ (i : ℕ). pointRow (f i)))
-      (L : lows ≡ tab 255 (boxIn d c k (lowOf d c) (some t))) (G : highs ≡ tab 255 (boxIn d c k (highOf d c) (some t))) where
+  module _ (k : ℕ) (nodes : List (List ℕ)) (points lows highs : List (List Float)) (C : c ≤ capacityLimit) (I : InRow d t)
+      (N : nodes ≡ tab branchLimit (slot d c (rowOf d c) noRow t)) (P : points ≡ tab pointLimit (λ (i : ℕ). pointRow (f i)))
+      (L : lows ≡ tab branchLimit (boxIn d c k (lowOf d c) (some t))) (G : highs ≡ tab branchLimit (boxIn d c k (highOf d c) (some t))) where
     pub boxed : Boxed d c k nodes points lows highs t
     boxed = let R : InRange d c t = in-range t here I in record {
       links = linked d c nodes t (tab-laid d c (rowOf d c) noRow [] nodes t C N (once d c f t u H) R);

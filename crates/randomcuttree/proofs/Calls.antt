@@ -8,6 +8,7 @@ use native.Mathlib.Omega.{arith}
 use lib.Dec.{ltb}
 use lib.ListN.{getD}
 use lib.Ieee.{Float}
+use Rattle.limits.specs.Limits.{pointLimit}
 use Rattle.intervalstoremanager.specs.declared.IntervalStoreManager.{IntervalStoreManager}
 use Rattle.cuttree.specs.Tree.{Tree, ending, found, total}
 use Rattle.cuttree.specs.Run.{World, Answer, totalOf}
@@ -74,18 +75,18 @@ module _ (d c k : ℕ) (W : World (whole d)) (tree : RCFTree) (a : Lent) (points
       })
 
   -- the mark of an index tells whether it is written
-  pub unwritten : (i : ℕ) → i < 1024 → getD marks i 0 ≡ 0 → W .table i ≡ none
-  unwritten i l e = go (W .table i) (sym (entry-of 1024 (λ (j : ℕ). mark (W .table j)) marks (ap (λ (x : Table). x .written) (H .table-is)) 0 i l) ∙ e)
+  pub unwritten : (i : ℕ) → i < pointLimit → getD marks i 0 ≡ 0 → W .table i ≡ none
+  unwritten i l e = go (W .table i) (sym (entry-of pointLimit (λ (j : ℕ). mark (W .table j)) marks (ap (λ (x : Table). x .written) (H .table-is)) 0 i l) ∙ e)
     where
       go : (o : Option Reading) → mark o ≡ 0 → o ≡ none
       go none h = refl
       go (some p) h = absurd (omega (arith, h))
 
-  pub is-written : (i : ℕ) → i < 1024 → (getD marks i 0 ≡ 0 → ⊥) → (p : Reading) × (W .table i ≡ some p)
+  pub is-written : (i : ℕ) → i < pointLimit → (getD marks i 0 ≡ 0 → ⊥) → (p : Reading) × (W .table i ≡ some p)
   is-written i l e = go (W .table i) refl
     where
       go : (o : Option Reading) → W .table i ≡ o → (p : Reading) × (W .table i ≡ some p)
-      go none h = absurd (e (entry-of 1024 (λ (j : ℕ). mark (W .table j)) marks (ap (λ (x : Table). x .written) (H .table-is)) 0 i l ∙ ap mark h))
+      go none h = absurd (e (entry-of pointLimit (λ (j : ℕ). mark (W .table j)) marks (ap (λ (x : Table). x .written) (H .table-is)) 0 i l ∙ ap mark h))
       go (some p) h = (p, h)
 
   -- a tree holds nothing exactly when there is none

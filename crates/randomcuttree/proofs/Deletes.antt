@@ -7,6 +7,7 @@ use Prim.Native.Nat.{ℕ, _≤_, _<_}
 use lib.ListN.{getD}
 use lib.Ieee.{Float}
 use borrow.Author.Tests.{le-leb, lt-leb}
+use Rattle.limits.specs.Limits.{pointLimit}
 use Rattle.cuttree.specs.Setting.{Setting}
 use Rattle.cuttree.specs.Tree.{Tree, ending, found}
 use Rattle.cuttree.specs.Run.{World, Answer, refused, deleted, indexAbove, neverWritten, treeEmpty, notHeld, delete, call, withPoint, leave}
@@ -39,20 +40,20 @@ module _ (d : ℕ) (W : World (whole d)) (i : ℕ) where
   S = whole d
 
   -- what is asked of a written index
-  asked : (c : ℕ) → i < 1024 → call S c W (delete i) ≡ withPoint S W (W .table i) (λ p. leave S W (W .tree) p)
-  asked c l = cond-false _ _ _ (lt-leb 1024 i l)
+  asked : (c : ℕ) → i < pointLimit → call S c W (delete i) ≡ withPoint S W (W .table i) (λ p. leave S W (W .tree) p)
+  asked c l = cond-false _ _ _ (lt-leb pointLimit i l)
 
   module _ (c k : ℕ) (tree : RCFTree) (a : Lent) (points : List (List Float)) (marks : List ℕ) (H : State d c k W tree a points marks) where
     refusing : (s : Answer S) (r : DeleteAnswer) → call S c W (delete i) ≡ (s, W) → r ≡ deleteSays d tree s → Called d c k (deleteSays d) (call S c W (delete i)) r a points marks
     refusing s r e f = unchanged d c k W tree a points marks H (deleteSays d) _ s r e (f ∙ ap (λ x. deleteSays d x s) (header-is d c k W tree a points marks H))
 
-    pub refused-5 : 1024 ≤ i → Called d c k (deleteSays d) (call S c W (delete i)) (NotDeleted 5) a points marks
-    refused-5 l = refusing (refused indexAbove) _ (cond-true _ _ _ (le-leb 1024 i l)) refl
+    pub refused-5 : pointLimit ≤ i → Called d c k (deleteSays d) (call S c W (delete i)) (NotDeleted 5) a points marks
+    refused-5 l = refusing (refused indexAbove) _ (cond-true _ _ _ (le-leb pointLimit i l)) refl
 
-    pub refused-9 : i < 1024 → getD marks i 0 ≡ 0 → Called d c k (deleteSays d) (call S c W (delete i)) (NotDeleted 9) a points marks
+    pub refused-9 : i < pointLimit → getD marks i 0 ≡ 0 → Called d c k (deleteSays d) (call S c W (delete i)) (NotDeleted 9) a points marks
     refused-9 l m = refusing (refused neverWritten) _ (asked c l ∙ ap (λ o. withPoint S W o (λ p. leave S W (W .tree) p)) (unwritten d c k W tree a points marks H i l m)) refl
 
-    module _ (l : i < 1024) (m : getD marks i 0 ≡ 0 → ⊥) where
+    module _ (l : i < pointLimit) (m : getD marks i 0 ≡ 0 → ⊥) where
       abbrev p : Reading
       p = is-written d c k W tree a points marks H i l m .0
 
@@ -66,7 +67,7 @@ module _ (d : ℕ) (W : World (whole d)) (i : ℕ) where
       refused-12 n = refusing (refused treeEmpty) _ (leaving none (no-tree d c k W tree a points marks H n)) refl
 
 -- the walk, in a tree that holds something
-module _ (d k : ℕ) (W : World (whole d)) (tree : RCFTree) (a : Lent) (points : List (List Float)) (marks : List ℕ) (H : State d (tree .capacity) k W tree a points marks) (i : ℕ) (l : i < 1024) (m : getD marks i 0 ≡ 0 → ⊥) (s : tree .total ≡ 0 → ⊥) where
+module _ (d k : ℕ) (W : World (whole d)) (tree : RCFTree) (a : Lent) (points : List (List Float)) (marks : List ℕ) (H : State d (tree .capacity) k W tree a points marks) (i : ℕ) (l : i < pointLimit) (m : getD marks i 0 ≡ 0 → ⊥) (s : tree .total ≡ 0 → ⊥) where
   abbrev q : Reading
   q = is-written d (tree .capacity) k W tree a points marks H i l m .0
 
@@ -93,7 +94,7 @@ module _ (d k : ℕ) (W : World (whole d)) (tree : RCFTree) (a : Lent) (points :
       leaf-is : leaf ≡ ending (whole d) t q .index
       leaf-is = e d t q (w d t q goes)
 
-      pub leaf-low : leaf < 1024
+      pub leaf-low : leaf < pointLimit
       leaf-low = rw leaf-is (range-ending d (tree .capacity) q t (in-range d (tree .capacity) k W (H .reachable) t T))
 
       ends : Walking d (tree .capacity) k t (W .free) q tree a points path n leaf (getD points i [])

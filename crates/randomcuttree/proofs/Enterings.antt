@@ -7,6 +7,7 @@ use Prim.Native.Nat.{ℕ, zero, suc, _+_, _-_, _≤_, _<_}
 use native.Mathlib.Omega.{arith}
 use lib.ListN.{getD, take}
 use lib.Ieee.{Float, le}
+use Rattle.limits.specs.Limits.{width, capacityLimit, branchLimit, pointLimit, totalLimit}
 use Rattle.boundingbox.specs.Ends.{channel, joined, least, greatest}
 use Rattle.intervalstoremanager.specs.declared.IntervalStoreManager.{IntervalStoreManager}
 use Rattle.intervalstoremanager.specs.declared.Got.{Got}
@@ -42,9 +43,9 @@ use Rattle.randomcuttree.proofs.Reaches.{draw-channel}
 use Rattle.randomcuttree.proofs.Manager.{get-done, get-empty}
 
 -- the cut that is kept is on one of the eight channels of a row
-kept-channel : (d : ℕ) (t : Tree (whole d)) (p : Reading) (w : ℕ → ℕ) (m : ℕ) → kept (whole d) t p w (noCut d) m .1 .channel < 8
+kept-channel : (d : ℕ) (t : Tree (whole d)) (p : Reading) (w : ℕ → ℕ) (m : ℕ) → kept (whole d) t p w (noCut d) m .1 .channel < width
 kept-channel d t p w zero = omega arith
-kept-channel d t p w (suc m) = by-cond (λ (x : ℕ × Cut (whole d)). x .1 .channel < 8) (parted (whole d) (sub (whole d) t m p) p (w m)) _ _ (λ _. draw-channel d (lo (whole d) (sub (whole d) t m p)) (hi (whole d) (sub (whole d) t m p)) p (w m)) (λ _. kept-channel d t p w m)
+kept-channel d t p w (suc m) = by-cond (λ (x : ℕ × Cut (whole d)). x .1 .channel < width) (parted (whole d) (sub (whole d) t m p) p (w m)) _ _ (λ _. draw-channel d (lo (whole d) (sub (whole d) t m p)) (hi (whole d) (sub (whole d) t m p)) p (w m)) (λ _. kept-channel d t p w m)
 
 module _ (tree : RCFTree) (a : Lent) (points : List (List Float)) (path : List (List ℕ)) (n leaf index : ℕ) (words : List ℕ) (point : List Float) where
   abbrev c : ℕ
@@ -73,13 +74,13 @@ module _ (tree : RCFTree) (a : Lent) (points : List (List Float)) (path : List (
     abbrev W : Walking d c k t u p tree a points path n leaf point
     W = E .walking
 
-    pub cached-few : k ≤ 255
+    pub cached-few : k ≤ branchLimit
     cached-few = omega (arith, W .cached-few, W .small)
 
-    pub above-few : (h : ℕ) → n - 1 - h ≤ 256
+    pub above-few : (h : ℕ) → n - 1 - h ≤ capacityLimit
     above-few h = omega (arith, W .walked .most)
 
-    pub total-fits : tree .total ≤ 65534
+    pub total-fits : tree .total ≤ totalLimit - 1
     total-fits = omega (arith, W .lies .total-is, E .room)
 
     size-is : tree .manager .capacity ≡ c - 1
@@ -91,7 +92,7 @@ module _ (tree : RCFTree) (a : Lent) (points : List (List Float)) (path : List (
     proper : Proper (tree .manager .capacity) u
     proper = subst (λ x. Proper x u) (sym size-is) (W .proper)
 
-    size-few : tree .manager .capacity ≤ 255
+    size-few : tree .manager .capacity ≤ branchLimit
     size-few = omega (arith, size-is, W .small)
 
     -- there is a free number
@@ -109,11 +110,11 @@ module _ (tree : RCFTree) (a : Lent) (points : List (List Float)) (path : List (
         is-trail = W .walked .is-trail;
         enough = E .enough;
         row = W .row;
-        leaf-small = subst (λ x. x < 1024) (sym (W .index-is)) (range-ending d c p t (W .boxed .in-range));
+        leaf-small = subst (λ x. x < pointLimit) (sym (W .index-is)) (range-ending d c p t (W .boxed .in-range));
         leaf-row = ap (λ x. getD points x []) (W .index-is) ∙ all-ending (whole d) (λ i q n. getD points i [] ≡ q .row) p t (W .boxed .leaves);
       })
 
-      pub some-drawing : (w ≤ 256) × SomeDrawing w k (a .nodes) points (a .lows) (a .highs) path n leaf words point
+      pub some-drawing : (w ≤ capacityLimit) × SomeDrawing w k (a .nodes) points (a .lows) (a .highs) path n leaf words point
       some-drawing = (omega (arith, W .small), record { channels = d; tree = t; reading = p; drawing = drawing })
 
       -- the highest cut
@@ -133,11 +134,11 @@ module _ (tree : RCFTree) (a : Lent) (points : List (List Float)) (path : List (
         place : (n - 1 - r .height) + r .height ≡ height (whole d) t p
         place = omega (arith, height-low, W .walked .count)
 
-        channel-low : cut .channel < 8
+        channel-low : cut .channel < width
         channel-low = kept-channel d t p (wordAt words) n
 
-        pub dimension-low : r .cut .dimension < 8
-        dimension-low = subst (λ x. x < 8) (sym (K .channel-is)) channel-low
+        pub dimension-low : r .cut .dimension < width
+        dimension-low = subst (λ x. x < width) (sym (K .channel-is)) channel-low
 
         left-is : le (channel point (r .cut .dimension)) (r .cut .value) ≡ below (whole d) cut p
         left-is =

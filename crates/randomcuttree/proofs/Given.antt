@@ -8,6 +8,7 @@ use native.Mathlib.Omega.{arith}
 use lib.Dec.{ltb}
 use lib.ListN.{getD}
 use lib.Ieee.{Float, nan}
+use Rattle.limits.specs.Limits.{width, branchLimit, pointLimit}
 use Rattle.boundingbox.specs.Padding.{Padded}
 use Rattle.cuttree.specs.Tree.{Tree, leaf, branch, is, id, sum, All, OfTree, leaves}
 use Rattle.cuttree.specs.Run.{World}
@@ -66,13 +67,13 @@ module _ (d c k : ℕ) (W : World (whole d)) (R : Reachable d c k W) (t : Tree (
   pub few : 2 ≤ c → leaves (whole d) t ≤ c
   few h = omega (arith, leaves-branches (whole d) t, sound .fits)
 
-  pub narrow : All (whole d) (λ i q n. Padded (q .row) d 8) t
+  pub narrow : All (whole d) (λ i q n. Padded (q .row) d width) t
   narrow = all-map (whole d) _ _ t (λ i q n e. R .narrow i q e) (sound .agree)
 
   -- the points of the table
   module _ (points : List (List Float)) (marks : List ℕ) (E : record { points = points; written = marks } ≡ tableOf (W .table)) where
     pub point-at : (i : ℕ) (q : Reading) → W .table i ≡ some q → getD points i [] ≡ q .row
-    point-at i q e = entry-of 1024 (λ (j : ℕ). pointRow (W .table j)) points (ap (λ (x : Table). x .points) E) [] i (R .sound .inside i q e) ∙ ap pointRow e
+    point-at i q e = entry-of pointLimit (λ (j : ℕ). pointRow (W .table j)) points (ap (λ (x : Table). x .points) E) [] i (R .sound .inside i q e) ∙ ap pointRow e
 
     pub leaves-stand : All (whole d) (λ i q n. getD points i [] ≡ q .row) t
     leaves-stand = all-map (whole d) _ _ t (λ i q n e. point-at i q e) (sound .agree)
@@ -85,17 +86,17 @@ module _ (d c k : ℕ) (W : World (whole d)) (tree : RCFTree) (a : Lent) (points
   abbrev R : Reachable d c k W
   R = H .reachable
 
-  rows-are : a .nodes ≡ tab 255 (slot d c (rowOf d c) noRow t)
-  rows-are = H .nodes-are ∙ ap (λ (o : Option (Tree (whole d))). tab 255 (slotIn d c k (rowOf d c) noRow o)) T
+  rows-are : a .nodes ≡ tab branchLimit (slot d c (rowOf d c) noRow t)
+  rows-are = H .nodes-are ∙ ap (λ (o : Option (Tree (whole d))). tab branchLimit (slotIn d c k (rowOf d c) noRow o)) T
 
-  values-are : a .cuts ≡ tab 255 (slot d c (cutOf d c) nought t)
-  values-are = H .cuts-are ∙ ap (λ (o : Option (Tree (whole d))). tab 255 (slotIn d c k (cutOf d c) nought o)) T
+  values-are : a .cuts ≡ tab branchLimit (slot d c (cutOf d c) nought t)
+  values-are = H .cuts-are ∙ ap (λ (o : Option (Tree (whole d))). tab branchLimit (slotIn d c k (cutOf d c) nought o)) T
 
-  pub lows-of : a .lows ≡ tab 255 (boxIn d c k (lowOf d c) (some t))
-  lows-of = H .lows-are ∙ ap (λ (o : Option (Tree (whole d))). tab 255 (boxIn d c k (lowOf d c) o)) T
+  pub lows-of : a .lows ≡ tab branchLimit (boxIn d c k (lowOf d c) (some t))
+  lows-of = H .lows-are ∙ ap (λ (o : Option (Tree (whole d))). tab branchLimit (boxIn d c k (lowOf d c) o)) T
 
-  pub highs-of : a .highs ≡ tab 255 (boxIn d c k (highOf d c) (some t))
-  highs-of = H .highs-are ∙ ap (λ (o : Option (Tree (whole d))). tab 255 (boxIn d c k (highOf d c) o)) T
+  pub highs-of : a .highs ≡ tab branchLimit (boxIn d c k (highOf d c) (some t))
+  highs-of = H .highs-are ∙ ap (λ (o : Option (Tree (whole d))). tab branchLimit (boxIn d c k (highOf d c) o)) T
 
   rows-laid : Laid d c (rowOf d c) (λ (j : ℕ). getD (a .nodes) j []) t
   rows-laid = tab-laid d c (rowOf d c) noRow [] (a .nodes) t (H .limits .3) rows-are (once d c k W R t T) (in-range d c k W R t T)
@@ -106,7 +107,7 @@ module _ (d c k : ℕ) (W : World (whole d)) (tree : RCFTree) (a : Lent) (points
   pub stored : Stored d c (a .nodes) (a .cuts) (a .copies) t
   stored = record {
     small = H .limits .3;
-    arrays = record { rows = rows-are; values = values-are; counts = H .copies-are ∙ ap (λ (o : Option (Tree (whole d))). tab 1024 (countIn d c k o)) T };
+    arrays = record { rows = rows-are; values = values-are; counts = H .copies-are ∙ ap (λ (o : Option (Tree (whole d))). tab pointLimit (countIn d c k o)) T };
     apart = apart d c k W R t T;
     in-range = in-range d c k W R t T;
     filled = sound d c k W R t T .filled;

@@ -8,6 +8,7 @@ use native.Mathlib.Omega.{arith}
 use lib.Dec.{ltb}
 use lib.ListN.{getD}
 use borrow.Author.Tests.{ltb-true, ltb-false, lt-ltb}
+use Rattle.limits.specs.Limits.{pointLimit}
 use Rattle.cuttree.specs.Setting.{Cut}
 use Rattle.cuttree.specs.Tree.{Tree, leaf, branch, id, total, mass, All}
 use Rattle.cuttree.specs.Sound.{Sound}
@@ -46,7 +47,7 @@ module _ (d c : ℕ) (f : ℕ → Option Reading) (t : Tree (whole d)) (u : List
     -- what the arrays say of a leaf's id
     pub record LeafAt (n : ℕ) : Type 0 where
       pub above : c ≤ x
-      pub within : x - c < 1024
+      pub within : x - c < pointLimit
       pub copies : countAt d c t (x - c) ≡ n
       pub some-copies : 0 < n
 
@@ -61,7 +62,7 @@ module _ (d c : ℕ) (f : ℕ → Option Reading) (t : Tree (whole d)) (u : List
           some-copies = all-in (whole d) (λ i q n. 0 < n) j (H .filled);
         }
 
-    pub no-leaf : (c ≤ x → x - c < 1024 → countAt d c t (x - c) ≡ 0) → copiesFound (whole d) (look (whole d) c t x) ≡ refused noSuchNode
+    pub no-leaf : (c ≤ x → x - c < pointLimit → countAt d c t (x - c) ≡ 0) → copiesFound (whole d) (look (whole d) c t x) ≡ refused noSuchNode
     no-leaf h = go (look (whole d) c t x) refl
       where
         go : (o : Option (Tree (whole d))) → look (whole d) c t x ≡ o → copiesFound (whole d) o ≡ refused noSuchNode

@@ -8,6 +8,7 @@ use native.Mathlib.Omega.{arith}
 use lib.Dec.{leb, ltb}
 use lib.Ieee.{Float}
 use borrow.Author.Tests.{leb-true}
+use Rattle.limits.specs.Limits.{width, capacityLimit, branchLimit, pointLimit}
 use Rattle.readings.specs.Share.{isShare}
 use Rattle.boundingbox.specs.Sides.{nought}
 use Rattle.cuttree.specs.Run.{fresh}
@@ -25,7 +26,7 @@ use Rattle.randomcuttree.specs.Making.{channelsTaken, capacityTaken, cac
 either : {A : Type 0} (b : Bool) (x : A) → cond b x x ≡ x
 either b x = by-cond (λ (y : _). y ≡ x) b x x (λ _. refl) (λ _. refl)
 
-pub fresh-state : (d c k : ℕ) → (1 ≤ d) × (d ≤ 8) × (2 ≤ c) × (c ≤ 256) × (k ≤ c - 1) → (points : List (List Float)) (marks : List ℕ)
+pub fresh-state : (d c k : ℕ) → (1 ≤ d) × (d ≤ width) × (2 ≤ c) × (c ≤ capacityLimit) × (k ≤ c - 1) → (points : List (List Float)) (marks : List ℕ)
     → record { points = points; written = marks } ≡ tableOf (λ i. none) → State d c k (fresh (whole d) c) (emptyTree d c k) (cleared c) points marks
 fresh-state d c k l points marks e = record {
   dimensions-are = refl;
@@ -34,12 +35,12 @@ fresh-state d c k l points marks e = record {
   root-is = refl;
   total-is = refl;
   manager-is = refl;
-  nodes-are = constant 255 noRow _ (λ i. refl);
-  cuts-are = constant 255 nought _ (λ i. refl);
-  copies-are = constant 1024 0 _ (λ i. refl);
+  nodes-are = constant branchLimit noRow _ (λ i. refl);
+  cuts-are = constant branchLimit nought _ (λ i. refl);
+  copies-are = constant pointLimit 0 _ (λ i. refl);
   free-are = refl;
-  lows-are = constant 255 noEnds _ (λ i. either (ltb i k) noEnds);
-  highs-are = constant 255 noEnds _ (λ i. either (ltb i k) noEnds);
+  lows-are = constant branchLimit noEnds _ (λ i. either (ltb i k) noEnds);
+  highs-are = constant branchLimit noEnds _ (λ i. either (ltb i k) noEnds);
   table-is = e;
   reachable = reachable-fresh d c k (l .2);
   limits = l;
@@ -78,7 +79,7 @@ module _ (d c : ℕ) (s : Float) (a : Lent) where
         arrays = rw (D, C, h) f;
         state = λ other g points marks t.
             let z : emptyTree d c (cachedBy s c) ≡ other = cc in
-            let x = in-bounds 1 8 d D in
-            let y = in-bounds 2 256 c C in
+            let x = in-bounds 1 width d D in
+            let y = in-bounds 2 capacityLimit c C in
             rw (← z, f) (fresh-state d c (cachedBy s c) (x .0, x .1, y .0, y .1, omega arith) points marks t);
       }

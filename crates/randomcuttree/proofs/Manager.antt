@@ -4,6 +4,7 @@ use mathlib.Core.List.{List, [], _∷_}
 use Prim.Native.Nat.{ℕ, _≤_, _<_}
 use native.Mathlib.Omega.{arith}
 use lib.ListN.{length}
+use Rattle.limits.specs.Limits.{branchLimit}
 use Rattle.intervalstoremanager.specs.declared.IntervalStoreManager.{IntervalStoreManager}
 use Rattle.intervalstoremanager.specs.declared.Got.{Got}
 use Rattle.intervalstoremanager.specs.declared.Got.the-variants.{Index, Empty}
@@ -22,7 +23,7 @@ unfolding gotOn
 got-some m [] h = absurd (omega arith)
 got-some m (x ∷ xs) h = refl
 
-module _ (m : IntervalStoreManager) (rows : List (List ℕ)) (u : List (ℕ × ℕ)) (M : m ≡ managerOf (m .capacity) u) (L : rows ≡ layout u) (S : m .capacity ≤ 255) (P : Proper (m .capacity) u) (O : Once u) where
+module _ (m : IntervalStoreManager) (rows : List (List ℕ)) (u : List (ℕ × ℕ)) (M : m ≡ managerOf (m .capacity) u) (L : rows ≡ layout u) (S : m .capacity ≤ branchLimit) (P : Proper (m .capacity) u) (O : Once u) where
   manages : Manages m u
   manages = record { used = ap (λ (x : IntervalStoreManager). x .«last_in_use») M; room = omega (arith, few-intervals (m .capacity) u P O .0, few-intervals (m .capacity) u P O .1) }
 

@@ -8,6 +8,7 @@ use native.Mathlib.Omega.{arith}
 use lib.Dec.{eqb, leb, ltb}
 use lib.ListN.{length}
 use lib.Ieee.{Float}
+use Rattle.limits.specs.Limits.{width, pointLimit, totalLimit}
 use Rattle.cut.specs.declared.Separation.{Separation}
 use Rattle.cut.specs.declared.Separation.the-variants.{NoCut, Drawn}
 use Rattle.cut.specs.Draw.{separation}
@@ -29,14 +30,14 @@ use Rattle.wholetree.proofs.Laws.{whole-laws}
 use Rattle.randomcuttree.specs.State.{InRow, Reachable}
 
 module _ (d : ℕ) where
-  pub draw-channel : (lo hi : ℕ → Number) (p : Reading) (w : ℕ) → whole d .draw lo hi p w .channel < 8
-  draw-channel lo hi p w = go (separation 8 (ends lo) (ends hi) (p .row) (w % 2 ^ 64)) refl
+  pub draw-channel : (lo hi : ℕ → Number) (p : Reading) (w : ℕ) → whole d .draw lo hi p w .channel < width
+  draw-channel lo hi p w = go (separation width (ends lo) (ends hi) (p .row) (w % 2 ^ 64)) refl
     where
-      go : (s : Separation) → separation 8 (ends lo) (ends hi) (p .row) (w % 2 ^ 64) ≡ s → cutIn s .channel < 8
+      go : (s : Separation) → separation width (ends lo) (ends hi) (p .row) (w % 2 ^ 64) ≡ s → cutIn s .channel < width
       go NoCut e = omega arith
-      go (Drawn k b) e = drawn-below 8 (ends lo) (ends hi) (p .row) (w % 2 ^ 64) k b e
+      go (Drawn k b) e = drawn-below width (ends lo) (ends hi) (p .row) (w % 2 ^ 64) k b e
 
-  above-in : (b : ℕ) (k : Cut (whole d)) (i : ℕ) (p : Reading) (t : Tree (whole d)) → k .channel < 8 → InRow d t → InRow d (above (whole d) b k i p t)
+  above-in : (b : ℕ) (k : Cut (whole d)) (i : ℕ) (p : Reading) (t : Tree (whole d)) → k .channel < width → InRow d t → InRow d (above (whole d) b k i p t)
   above-in b k i p t h w = by-cond (InRow d) (below (whole d) k p) _ _ (λ _. (h, tt, w)) (λ _. (h, w, tt))
 
   insert-in : (b i : ℕ) (p : Reading) (w : ℕ → ℕ) (t : Tree (whole d)) → InRow d t → InRow d (insert (whole d) b i p w t)
@@ -78,9 +79,9 @@ module _ (d : ℕ) where
     leave-in W (some t) h w p = by-cond After (not (found (whole d) t p)) _ _ (λ _. h) (λ _. forget-in p t w)
 
     call-in : (W : World (whole d)) (x : Call (whole d)) → OfTree (whole d) (InRow d) (W .tree) → After (call (whole d) c W x)
-    call-in W (put i xs) h = by-cond After (leb 1024 i) _ _ (λ _. h) (λ _. by-cond After (not (whole d .counted xs)) _ _ (λ _. h) (λ _. by-cond After (not (whole d .good xs)) _ _ (λ _. h) (λ _. by-cond After (isLeaf (whole d) (W .tree) i) _ _ (λ _. h) (λ _. h))))
-    call-in W (add i ws) h = by-cond After (leb 1024 i) _ _ (λ _. h) (λ _. point-in W (W .table i) _ h (λ p. by-cond After (eqb (totalOf (whole d) (W .tree)) 65535) _ _ (λ _. h) (λ _. enter-in W (W .tree) h h i p ws)))
-    call-in W (delete i) h = by-cond After (leb 1024 i) _ _ (λ _. h) (λ _. point-in W (W .table i) _ h (λ p. leave-in W (W .tree) h h p))
+    call-in W (put i xs) h = by-cond After (leb pointLimit i) _ _ (λ _. h) (λ _. by-cond After (not (whole d .counted xs)) _ _ (λ _. h) (λ _. by-cond After (not (whole d .good xs)) _ _ (λ _. h) (λ _. by-cond After (isLeaf (whole d) (W .tree) i) _ _ (λ _. h) (λ _. h))))
+    call-in W (add i ws) h = by-cond After (leb pointLimit i) _ _ (λ _. h) (λ _. point-in W (W .table i) _ h (λ p. by-cond After (eqb (totalOf (whole d) (W .tree)) totalLimit) _ _ (λ _. h) (λ _. enter-in W (W .tree) h h i p ws)))
+    call-in W (delete i) h = by-cond After (leb pointLimit i) _ _ (λ _. h) (λ _. point-in W (W .table i) _ h (λ p. leave-in W (W .tree) h h p))
     call-in W (query q) h = h
 
     -- ---- the table: a put that is taken has as many coordinates as channels, and no other call writes it
@@ -101,24 +102,24 @@ module _ (d : ℕ) where
     leave-tabled W (some t) p = by-cond (Same W) (not (found (whole d) t p)) _ _ (λ _. refl) (λ _. refl)
 
     pub add-table : (W : World (whole d)) (i : ℕ) (ws : List ℕ) → call (whole d) c W (add i ws) .1 .table ≡ W .table
-    add-table W i ws = by-cond (Same W) (leb 1024 i) _ _ (λ _. refl) (λ _. point-tabled W (W .table i) _ (λ p. by-cond (Same W) (eqb (totalOf (whole d) (W .tree)) 65535) _ _ (λ _. refl) (λ _. enter-tabled W (W .tree) i p ws)))
+    add-table W i ws = by-cond (Same W) (leb pointLimit i) _ _ (λ _. refl) (λ _. point-tabled W (W .table i) _ (λ p. by-cond (Same W) (eqb (totalOf (whole d) (W .tree)) totalLimit) _ _ (λ _. refl) (λ _. enter-tabled W (W .tree) i p ws)))
 
     pub delete-table : (W : World (whole d)) (i : ℕ) → call (whole d) c W (delete i) .1 .table ≡ W .table
-    delete-table W i = by-cond (Same W) (leb 1024 i) _ _ (λ _. refl) (λ _. point-tabled W (W .table i) _ (λ p. leave-tabled W (W .tree) p))
+    delete-table W i = by-cond (Same W) (leb pointLimit i) _ _ (λ _. refl) (λ _. point-tabled W (W .table i) _ (λ p. leave-tabled W (W .tree) p))
 
     abbrev Narrow : (ℕ → Option Reading) → Type 0
-    Narrow f = (i : ℕ) (p : Reading) → f i ≡ some p → Padded (p .row) d 8
+    Narrow f = (i : ℕ) (p : Reading) → f i ≡ some p → Padded (p .row) d width
 
     abbrev NarrowAfter : Answer (whole d) × World (whole d) → Type 0
-    NarrowAfter x = (i : ℕ) (p : Reading) → x .1 .table i ≡ some p → Padded (p .row) d 8
+    NarrowAfter x = (i : ℕ) (p : Reading) → x .1 .table i ≡ some p → Padded (p .row) d width
 
     write-narrow : (f : ℕ → Option Reading) (i : ℕ) (xs : List Float) → length xs ≡ d → allCoordinates xs ≡ true → Narrow f → Narrow (write (whole d) f i (reading xs))
-    write-narrow f i xs l g h j p = by-cond (λ (o : Option Reading). o ≡ some p → Padded (p .row) d 8) (eqb j i) (some (reading xs)) (f j)
-        (λ _ e. let z : reading xs ≡ p = cc in subst (λ (q : Reading). Padded (q .row) d 8) z (λ m a b. ap (λ (r : List Float). channel r m) (reading-row xs (yes g)) ∙ padded-beyond 8 xs m (omega arith) b))
+    write-narrow f i xs l g h j p = by-cond (λ (o : Option Reading). o ≡ some p → Padded (p .row) d width) (eqb j i) (some (reading xs)) (f j)
+        (λ _ e. let z : reading xs ≡ p = cc in subst (λ (q : Reading). Padded (q .row) d width) z (λ m a b. ap (λ (r : List Float). channel r m) (reading-row xs (yes g)) ∙ padded-beyond width xs m (omega arith) b))
         (λ _. h j p)
 
     narrow-call : (W : World (whole d)) (x : Call (whole d)) → Narrow (W .table) → Narrow (call (whole d) c W x .1 .table)
-    narrow-call W (put i xs) h = by-cond NarrowAfter (leb 1024 i) _ _ (λ _. h) (λ _. by-cond NarrowAfter (not (eqb (length xs) d)) _ _ (λ _. h) (λ l. by-cond NarrowAfter (not (allCoordinates xs)) _ _ (λ _. h)
+    narrow-call W (put i xs) h = by-cond NarrowAfter (leb pointLimit i) _ _ (λ _. h) (λ _. by-cond NarrowAfter (not (eqb (length xs) d)) _ _ (λ _. h) (λ l. by-cond NarrowAfter (not (allCoordinates xs)) _ _ (λ _. h)
         (λ g. by-cond NarrowAfter (isLeaf (whole d) (W .tree) i) _ _ (λ _. h) (λ _. write-narrow (W .table) i xs (eqb-true (length xs) d (not-false _ l)) (not-false _ g) h))))
     narrow-call W (add i ws) h = subst Narrow (sym (add-table W i ws)) h
     narrow-call W (delete i) h = subst Narrow (sym (delete-table W i)) h

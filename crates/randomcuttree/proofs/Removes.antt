@@ -9,6 +9,7 @@ use lib.Dec.{ltb}
 use lib.ListN.{getD}
 use lib.Ieee.{Float}
 use borrow.Author.Tests.{lt-ltb, le-ltb, ne-eqb}
+use Rattle.limits.specs.Limits.{branchLimit, pointLimit, totalLimit}
 use Rattle.intervalstoremanager.specs.declared.IntervalStoreManager.{IntervalStoreManager}
 use Rattle.intervalstoremanager.specs.Rows as Rows
 use Rattle.intervalstoremanager.specs.Stack.{afterRelease, holds, Proper, Once as FreeOnce}
@@ -42,9 +43,9 @@ use Rattle.randomcuttree.specs.Edits.{Lies, Walking}
 use Rattle.randomcuttree.proofs.Given.{linked}
 
 -- a lone leaf has no boxes
-pub no-boxes : (d c k : ℕ) (p : Reading) (f : Tree (whole d) → List Float) (s : Tree (whole d)) → height (whole d) s p ≡ 0 → tab 255 (boxIn d c k f (some s)) ≡ tab 255 (boxIn d c k f none)
+pub no-boxes : (d c k : ℕ) (p : Reading) (f : Tree (whole d) → List Float) (s : Tree (whole d)) → height (whole d) s p ≡ 0 → tab branchLimit (boxIn d c k f (some s)) ≡ tab branchLimit (boxIn d c k f none)
 no-boxes d c k p f (branch b x g l r) h = absurd (omega arith)
-no-boxes d c k p f (leaf i q x) h = same-tab noEnds 255 (boxIn d c k f (some (leaf i q x))) (boxIn d c k f none) (λ j _. ap (λ (y : List Float). cond (ltb j k) y noEnds) (slot-none d c f noEnds (leaf i q x) j refl))
+no-boxes d c k p f (leaf i q x) h = same-tab noEnds branchLimit (boxIn d c k f (some (leaf i q x))) (boxIn d c k f none) (λ j _. ap (λ (y : List Float). cond (ltb j k) y noEnds) (slot-none d c f noEnds (leaf i q x) j refl))
 
 module _ (d c k : ℕ) (t : Tree (whole d)) (u : List (ℕ × ℕ)) (p : Reading) (tree : RCFTree) (a : Lent) (points : List (List Float)) (path : List (List ℕ)) (n index : ℕ) (point : List Float) (G : Walking d c k t u p tree a points path n index point) where
   abbrev S : Setting
@@ -53,7 +54,7 @@ module _ (d c k : ℕ) (t : Tree (whole d)) (u : List (ℕ × ℕ)) (p : Reading
   pub reached : Reached d c (a .nodes) (a .cuts) (a .copies) path n index t p
   reached = record { stored = G .stored; walked = G .walked; index-is = G .index-is }
 
-  pub some-reached : SomeReached (a .nodes) (a .copies) path n index 65535
+  pub some-reached : SomeReached (a .nodes) (a .copies) path n index totalLimit
   some-reached = record { channels = d; capacity = c; cuts = a .cuts; tree = t; reading = p; reached = reached; room = G .stored .light }
 
   pub one-row : n < 2 → Reached d c (a .nodes) (a .cuts) (a .copies) path 1 index t p
@@ -61,7 +62,7 @@ module _ (d c k : ℕ) (t : Tree (whole d)) (u : List (ℕ × ℕ)) (p : Reading
 
   -- the header and the arrays of any tree or none, from their parts
   pub lying : (o : Option (Tree S)) (v : List (ℕ × ℕ)) (r : RCFTree) (root total : ℕ) (m : IntervalStoreManager) (b : Lent) → r ≡ headed tree root total m → root ≡ rootOf d c k o → total ≡ totalOf S o → m ≡ managerOf (c - 1) v
-      → Arrays d c (b .nodes) (b .cuts) (b .copies) o → b .free ≡ Rows.layout v → b .lows ≡ tab 255 (boxIn d c k (lowOf d c) o) → b .highs ≡ tab 255 (boxIn d c k (highOf d c) o) → Lies d c k o v r b
+      → Arrays d c (b .nodes) (b .cuts) (b .copies) o → b .free ≡ Rows.layout v → b .lows ≡ tab branchLimit (boxIn d c k (lowOf d c) o) → b .highs ≡ tab branchLimit (boxIn d c k (highOf d c) o) → Lies d c k o v r b
   lying o v r root total m b e x y z A f l h = record {
     dimensions-are = ap (λ (x : RCFTree). x .dimensions) e ∙ G .lies .dimensions-are;
     capacity-is = ap (λ (x : RCFTree). x .capacity) e ∙ G .lies .capacity-is;
@@ -77,11 +78,11 @@ module _ (d c k : ℕ) (t : Tree (whole d)) (u : List (ℕ × ℕ)) (p : Reading
     highs-are = h;
   }
     where
-      any-cached : {B : Type 0} (f : Tree S → B) (z : B) (o : Option (Tree S)) → tab 255 (slotIn d c 0 f z o) ≡ tab 255 (slotIn d c k f z o)
+      any-cached : {B : Type 0} (f : Tree S → B) (z : B) (o : Option (Tree S)) → tab branchLimit (slotIn d c 0 f z o) ≡ tab branchLimit (slotIn d c k f z o)
       any-cached f z none = refl
       any-cached f z (some s) = refl
 
-      counts-cached : (o : Option (Tree S)) → tab 1024 (countIn d c 0 o) ≡ tab 1024 (countIn d c k o)
+      counts-cached : (o : Option (Tree S)) → tab pointLimit (countIn d c 0 o) ≡ tab pointLimit (countIn d c k o)
       counts-cached none = refl
       counts-cached (some s) = refl
 
@@ -104,8 +105,8 @@ module _ (d c k : ℕ) (t : Tree (whole d)) (u : List (ℕ × ℕ)) (p : Reading
       let boxes = less-boxes d c k t p (G .once) more _ z in
       rw (A .1) (lying (forget S p t) u r _ _ _ _ e
       (G .lies .root-is ∙ sym (ap (rootOf d c k) z ∙ less-root _ t)) fewer (G .lies .manager-is) (A .0) (G .lies .free-are)
-      (G .lies .lows-are ∙ sym (ap (λ (o : Option (Tree S)). tab 255 (boxIn d c k (lowOf d c) o)) z ∙ boxes .0))
-      (G .lies .highs-are ∙ sym (ap (λ (o : Option (Tree S)). tab 255 (boxIn d c k (highOf d c) o)) z ∙ boxes .1)))
+      (G .lies .lows-are ∙ sym (ap (λ (o : Option (Tree S)). tab branchLimit (boxIn d c k (lowOf d c) o)) z ∙ boxes .0))
+      (G .lies .highs-are ∙ sym (ap (λ (o : Option (Tree S)). tab branchLimit (boxIn d c k (highOf d c) o)) z ∙ boxes .1)))
 
   pub one-copy : getD (a .copies) index 0 ≤ 1 → getD (a .copies) index 0 ≡ 1
   one-copy m = omega (arith, copies-some reached)
@@ -121,12 +122,12 @@ module _ (d c k : ℕ) (t : Tree (whole d)) (u : List (ℕ × ℕ)) (p : Reading
       let z = last-alone S p t flat (last-copy m) .0 in
       rw (A .1) (lying (forget S p t) u r _ _ _ _ e
       (ap (λ x. x - 1) (G .lies .capacity-is) ∙ sym (ap (rootOf d c k) z)) fewer (G .lies .manager-is) (A .0) (G .lies .free-are)
-      (G .lies .lows-are ∙ no-boxes d c k p (lowOf d c) t flat ∙ sym (ap (λ (o : Option (Tree S)). tab 255 (boxIn d c k (lowOf d c) o)) z))
-      (G .lies .highs-are ∙ no-boxes d c k p (highOf d c) t flat ∙ sym (ap (λ (o : Option (Tree S)). tab 255 (boxIn d c k (highOf d c) o)) z)))
+      (G .lies .lows-are ∙ no-boxes d c k p (lowOf d c) t flat ∙ sym (ap (λ (o : Option (Tree S)). tab branchLimit (boxIn d c k (lowOf d c) o)) z))
+      (G .lies .highs-are ∙ no-boxes d c k p (highOf d c) t flat ∙ sym (ap (λ (o : Option (Tree S)). tab branchLimit (boxIn d c k (highOf d c) o)) z)))
 
   -- the number of the branch that goes is free again
   pub back : (b : ℕ) → freed S p t ≡ some b → (m : IntervalStoreManager) (free : List (List ℕ))
-      → ((v : List (ℕ × ℕ)) → tree .manager ≡ managerOf (tree .manager .capacity) v → a .free ≡ Rows.layout v → tree .manager .capacity ≤ 255 → Proper (tree .manager .capacity) v → FreeOnce v → b < tree .manager .capacity → holds v b ≡ 0
+      → ((v : List (ℕ × ℕ)) → tree .manager ≡ managerOf (tree .manager .capacity) v → a .free ≡ Rows.layout v → tree .manager .capacity ≤ branchLimit → Proper (tree .manager .capacity) v → FreeOnce v → b < tree .manager .capacity → holds v b ≡ 0
       → (m ≡ managerOf (tree .manager .capacity) (afterRelease v b)) × (free ≡ Rows.layout (afterRelease v b)))
       → (m ≡ managerOf (c - 1) (afterRelease u b)) × (free ≡ Rows.layout (afterRelease u b))
   back b e m free h =
@@ -174,5 +175,5 @@ module _ (d c k : ℕ) (t : Tree (whole d)) (u : List (ℕ × ℕ)) (p : Reading
           let boxes = (rw (cap-is ∙ G .lies .capacity-is, cached-is ∙ G .lies .cached-is, dimensions-are ∙ G .lies .dimensions-are) at B) d t p walks forgotten in
           rw (A .1) (lying (forget S p t) (afterRelease u b) r _ _ _ _ e
           (x ∙ ap (rootOf d c 0) (lift .0) ∙ sym (ap (rootOf d c k) (lift .0))) fewer (M .0) (A .0) (M .1)
-          (boxes .0 ∙ sym (ap (λ (o : Option (Tree S)). tab 255 (boxIn d c k (lowOf d c) o)) (lift .0)))
-          (boxes .1 ∙ sym (ap (λ (o : Option (Tree S)). tab 255 (boxIn d c k (highOf d c) o)) (lift .0))))
+          (boxes .0 ∙ sym (ap (λ (o : Option (Tree S)). tab branchLimit (boxIn d c k (lowOf d c) o)) (lift .0)))
+          (boxes .1 ∙ sym (ap (λ (o : Option (Tree S)). tab branchLimit (boxIn d c k (highOf d c) o)) (lift .0))))

@@ -6,6 +6,7 @@ use mathlib.Core.List.{List, [], _∷_}
 use Prim.Native.Nat.{ℕ, _-_}
 use lib.Dec.{leb}
 use lib.Ieee.{Float}
+use Rattle.limits.specs.Limits.{pointLimit}
 use Rattle.cuttree.specs.Tree.{Tree}
 use Rattle.cuttree.specs.Run.{World, Call, Answer, put, call, worldAfter, fresh, isLeaf}
 use Rattle.cuttree.proofs.Tests.{by-cond}
@@ -45,13 +46,13 @@ abbrev Kept : (d : ℕ) → World (whole d) → Answer (whole d) × World (whole
 Kept d W x = (x .1 .tree ≡ W .tree) × (x .1 .free ≡ W .free)
 
 put-kept : (d c : ℕ) (W : World (whole d)) (i : ℕ) (xs : List Float) → Kept d W (call (whole d) c W (put i xs))
-put-kept d c W i xs = by-cond (Kept d W) (leb 1024 i) _ _ (λ _. (refl, refl)) (λ _. by-cond (Kept d W) (not (whole d .counted xs)) _ _ (λ _. (refl, refl)) (λ _. by-cond (Kept d W) (not (whole d .good xs)) _ _ (λ _. (refl, refl))
+put-kept d c W i xs = by-cond (Kept d W) (leb pointLimit i) _ _ (λ _. (refl, refl)) (λ _. by-cond (Kept d W) (not (whole d .counted xs)) _ _ (λ _. (refl, refl)) (λ _. by-cond (Kept d W) (not (whole d .good xs)) _ _ (λ _. (refl, refl))
     (λ _. by-cond (Kept d W) (isLeaf (whole d) (W .tree) i) _ _ (λ _. (refl, refl)) (λ _. (refl, refl)))))
 
 pub puts-keep : PutsKeep
 puts-keep d c k W tree a points marks H = (record { table = H .table-is; leaves = H .copies-are ∙ counts (W .tree); sound = H .reachable .sound }, after)
   where
-    counts : (o : Option (Tree (whole d))) → tab 1024 (countIn d c k o) ≡ tab 1024 (countIn d c 0 o)
+    counts : (o : Option (Tree (whole d))) → tab pointLimit (countIn d c k o) ≡ tab pointLimit (countIn d c 0 o)
     counts none = refl
     counts (some t) = refl
 

@@ -9,6 +9,7 @@ use lib.Dec.{ltb}
 use lib.ListN.{getD}
 use lib.Ieee.{Float, nan}
 use borrow.Author.Tests.{ltb-true, ltb-false}
+use Rattle.limits.specs.Limits.{capacityLimit, branchLimit, pointLimit}
 use Rattle.boundingbox.specs.Sides.{nought}
 use Rattle.boundingbox.specs.declared.BoundingBox.{BoundingBox}
 use Rattle.cuttree.specs.Setting.{Cut}
@@ -38,18 +39,18 @@ use Rattle.randomcuttree.proofs.Boxings.{boxed-in, boxed}
 
 -- ---- copies
 module _ (tree : RCFTree) (copies : List ℕ) (x : ℕ) where
-  pub no-copies : (tree .capacity ≤ x → x - tree .capacity < 1024 → getD copies (x - tree .capacity) 0 ≡ 0) → CopiesTold tree copies x (CopiesAnswer.NoLeaf 16)
+  pub no-copies : (tree .capacity ≤ x → x - tree .capacity < pointLimit → getD copies (x - tree .capacity) 0 ≡ 0) → CopiesTold tree copies x (CopiesAnswer.NoLeaf 16)
   no-copies h d c k W a points marks S e = go (W .tree) (S .reachable .sound) (sym e ∙ S .copies-are)
     where
-      go : (o : Option (Tree (whole d))) → Sound (whole d) c (record { table = W .table; tree = o; free = W .free }) → copies ≡ tab 1024 (countIn d c k o) → CopiesAnswer.NoLeaf 16 ≡ copiesSay d (copiesFound (whole d) (lookIn (whole d) c o x))
+      go : (o : Option (Tree (whole d))) → Sound (whole d) c (record { table = W .table; tree = o; free = W .free }) → copies ≡ tab pointLimit (countIn d c k o) → CopiesAnswer.NoLeaf 16 ≡ copiesSay d (copiesFound (whole d) (lookIn (whole d) c o x))
       go none H E = refl
       go (some t) H E =
           let m = rw (S .capacity-is) at h in
-          rw (no-leaf d c (W .table) t (W .free) H x (λ p q. sym (entry-of 1024 (countIn d c k (some t)) copies E 0 (x - c) q) ∙ m p q)) refl
+          rw (no-leaf d c (W .table) t (W .free) H x (λ p q. sym (entry-of pointLimit (countIn d c k (some t)) copies E 0 (x - c) q) ∙ m p q)) refl
 
-  pub copies-told : tree .capacity ≤ x → x - tree .capacity < 1024 → (getD copies (x - tree .capacity) 0 ≡ 0 → ⊥) → (n : ℕ) → n ≡ getD copies (x - tree .capacity) 0 → CopiesTold tree copies x (CopiesAnswer.Copies n)
+  pub copies-told : tree .capacity ≤ x → x - tree .capacity < pointLimit → (getD copies (x - tree .capacity) 0 ≡ 0 → ⊥) → (n : ℕ) → n ≡ getD copies (x - tree .capacity) 0 → CopiesTold tree copies x (CopiesAnswer.Copies n)
   copies-told p q r n z d c k W a points marks S e = go (W .tree) (S .reachable .sound)
-      (z ∙ ap (λ (m : ℕ). getD copies (x - m) 0) (S .capacity-is) ∙ entry-of 1024 (countIn d c k (W .tree)) copies (sym e ∙ S .copies-are) 0 (x - c) (omega (arith, S .capacity-is)))
+      (z ∙ ap (λ (m : ℕ). getD copies (x - m) 0) (S .capacity-is) ∙ entry-of pointLimit (countIn d c k (W .tree)) copies (sym e ∙ S .copies-are) 0 (x - c) (omega (arith, S .capacity-is)))
     where
       go : (o : Option (Tree (whole d))) → Sound (whole d) c (record { table = W .table; tree = o; free = W .free }) → n ≡ countIn d c k o (x - c) → CopiesAnswer.Copies n ≡ copiesSay d (copiesFound (whole d) (lookIn (whole d) c o x))
       go none H y = absurd (r (sym z ∙ y))
@@ -63,39 +64,39 @@ module _ (nodes : List (List ℕ)) (x : ℕ) where
   abbrev massRead : ℕ
   massRead = getD (getD nodes x []) 2 0
 
-  module _ (d c : ℕ) (f : ℕ → Option Reading) (t : Tree (whole d)) (u : List (ℕ × ℕ)) (H : Sound (whole d) c (record { table = f; tree = some t; free = u })) (C : c ≤ 256) (E : nodes ≡ tab 255 (slot d c (rowOf d c) noRow t)) where
-    row-is : x < 255 → getD nodes x [] ≡ slot d c (rowOf d c) noRow t x
-    row-is h = entry-of 255 (slot d c (rowOf d c) noRow t) nodes E [] x h
+  module _ (d c : ℕ) (f : ℕ → Option Reading) (t : Tree (whole d)) (u : List (ℕ × ℕ)) (H : Sound (whole d) c (record { table = f; tree = some t; free = u })) (C : c ≤ capacityLimit) (E : nodes ≡ tab branchLimit (slot d c (rowOf d c) noRow t)) where
+    row-is : x < branchLimit → getD nodes x [] ≡ slot d c (rowOf d c) noRow t x
+    row-is h = entry-of branchLimit (slot d c (rowOf d c) noRow t) nodes E [] x h
 
-    unused : (x < 255 → massRead ≡ 0) → uses d c t x ≡ 0
-    unused h = by-test (ltb x 255)
-        (λ e. let l = ltb-true x 255 e in without-mass d c f t u H x (ap (λ (r : List ℕ). getD r 2 0) (sym (row-is l)) ∙ h l))
+    unused : (x < branchLimit → massRead ≡ 0) → uses d c t x ≡ 0
+    unused h = by-test (ltb x branchLimit)
+        (λ e. let l = ltb-true x branchLimit e in without-mass d c f t u H x (ap (λ (r : List ℕ). getD r 2 0) (sym (row-is l)) ∙ h l))
         (λ e. by-test (ltb 0 (uses d c t x))
-        (λ w. absurd (omega (arith, branch-below d c f t u H x (ltb-true 0 (uses d c t x) w), ltb-false x 255 e)))
+        (λ w. absurd (omega (arith, branch-below d c f t u H x (ltb-true 0 (uses d c t x) w), ltb-false x branchLimit e)))
         (λ w. omega (arith, ltb-false 0 (uses d c t x) w)))
 
-    used : x < 255 → (massRead ≡ 0 → ⊥) → Branch d c t x
+    used : x < branchLimit → (massRead ≡ 0 → ⊥) → Branch d c t x
     used l h = branch-of d c t x (with-mass d c f t u H x (λ e. h (ap (λ (r : List ℕ). getD r 2 0) (row-is l) ∙ e)))
 
   -- in an empty tree there is none
-  none-there : (d c k : ℕ) → nodes ≡ tab 255 (slotIn d c k (rowOf d c) noRow none) → x < 255 → massRead ≡ 0
-  none-there d c k E l = ap (λ (r : List ℕ). getD r 2 0) (entry-of 255 (slotIn d c k (rowOf d c) noRow none) nodes E [] x l)
+  none-there : (d c k : ℕ) → nodes ≡ tab branchLimit (slotIn d c k (rowOf d c) noRow none) → x < branchLimit → massRead ≡ 0
+  none-there d c k E l = ap (λ (r : List ℕ). getD r 2 0) (entry-of branchLimit (slotIn d c k (rowOf d c) noRow none) nodes E [] x l)
 
 module _ (tree : RCFTree) (nodes : List (List ℕ)) (cuts : List Float) (x : ℕ) where
-  pub no-row : (x < 255 → massRead nodes x ≡ 0) → BranchTold tree nodes cuts x (BranchAnswer.NoBranch 16)
+  pub no-row : (x < branchLimit → massRead nodes x ≡ 0) → BranchTold tree nodes cuts x (BranchAnswer.NoBranch 16)
   no-row h d c k W a points marks S e e′ = go (W .tree) (S .reachable .sound) (sym e ∙ S .nodes-are)
     where
-      go : (o : Option (Tree (whole d))) → Sound (whole d) c (record { table = W .table; tree = o; free = W .free }) → nodes ≡ tab 255 (slotIn d c k (rowOf d c) noRow o) → BranchAnswer.NoBranch 16 ≡ branchSays d (branchFound (whole d) c (lookIn (whole d) c o x))
+      go : (o : Option (Tree (whole d))) → Sound (whole d) c (record { table = W .table; tree = o; free = W .free }) → nodes ≡ tab branchLimit (slotIn d c k (rowOf d c) noRow o) → BranchAnswer.NoBranch 16 ≡ branchSays d (branchFound (whole d) c (lookIn (whole d) c o x))
       go none H E = refl
       go (some t) H E = rw (no-branch d c (W .table) t (W .free) H x (unused nodes x d c (W .table) t (W .free) H (S .limits .3) E h) .0) refl
 
   abbrev rowRead : BranchRow
   rowRead = let r = getD nodes x [] in record { cut = record { dimension = getD r 3 0; value = getD cuts x nan }; left = getD r 0 0; right = getD r 1 0; mass = getD r 2 0 }
 
-  pub row-told : x < 255 → (massRead nodes x ≡ 0 → ⊥) → (r : BranchRow) → r ≡ rowRead → BranchTold tree nodes cuts x (BranchAnswer.Branch r)
+  pub row-told : x < branchLimit → (massRead nodes x ≡ 0 → ⊥) → (r : BranchRow) → r ≡ rowRead → BranchTold tree nodes cuts x (BranchAnswer.Branch r)
   row-told l h r z d c k W a points marks S e e′ = go (W .tree) (S .reachable .sound) (sym e ∙ S .nodes-are) (sym e′ ∙ S .cuts-are)
     where
-      go : (o : Option (Tree (whole d))) → Sound (whole d) c (record { table = W .table; tree = o; free = W .free }) → nodes ≡ tab 255 (slotIn d c k (rowOf d c) noRow o) → cuts ≡ tab 255 (slotIn d c k (cutOf d c) nought o)
+      go : (o : Option (Tree (whole d))) → Sound (whole d) c (record { table = W .table; tree = o; free = W .free }) → nodes ≡ tab branchLimit (slotIn d c k (rowOf d c) noRow o) → cuts ≡ tab branchLimit (slotIn d c k (cutOf d c) nought o)
           → BranchAnswer.Branch r ≡ branchSays d (branchFound (whole d) c (lookIn (whole d) c o x))
       go none H E F = absurd (h (none-there nodes x d c k E l))
       go (some t) H E F = by (used nodes x d c (W .table) t (W .free) H (S .limits .3) E l h)
@@ -104,19 +105,19 @@ module _ (tree : RCFTree) (nodes : List (List ℕ)) (cuts : List Float) (x : ℕ
           by B =
               let o = once d c (W .table) t (W .free) H in
               let row = row-is nodes x d c (W .table) t (W .free) H (S .limits .3) E l ∙ slot-in d c (rowOf d c) noRow o (B .inside) in
-              let value = entry-of 255 (slot d c (cutOf d c) nought t) cuts F nan x l ∙ slot-in d c (cutOf d c) nought o (B .inside) in
+              let value = entry-of branchLimit (slot d c (cutOf d c) nought t) cuts F nan x l ∙ slot-in d c (cutOf d c) nought o (B .inside) in
               rw (branch-found d c (W .table) t (W .free) H x B, z, row, value) refl
 
 -- ---- boxes
 module _ (tree : RCFTree) (nodes : List (List ℕ)) (points lows highs : List (List Float)) (x : ℕ) where
-  pub box-refused : (x < 255 → massRead nodes x ≡ 0) → BoxTold tree nodes points lows highs x (noBox 16)
+  pub box-refused : (x < branchLimit → massRead nodes x ≡ 0) → BoxTold tree nodes points lows highs x (noBox 16)
   box-refused h d c k W a marks S e = go (W .tree) (S .reachable .sound) (sym (e .nodes-are) ∙ S .nodes-are)
     where
-      go : (o : Option (Tree (whole d))) → Sound (whole d) c (record { table = W .table; tree = o; free = W .free }) → nodes ≡ tab 255 (slotIn d c k (rowOf d c) noRow o) → noBox 16 ≡ boxSays d (boxFound (whole d) (lookIn (whole d) c o x))
+      go : (o : Option (Tree (whole d))) → Sound (whole d) c (record { table = W .table; tree = o; free = W .free }) → nodes ≡ tab branchLimit (slotIn d c k (rowOf d c) noRow o) → noBox 16 ≡ boxSays d (boxFound (whole d) (lookIn (whole d) c o x))
       go none H E = refl
       go (some t) H E = rw (no-branch d c (W .table) t (W .free) H x (unused nodes x d c (W .table) t (W .free) H (S .limits .3) E h) .1) refl
 
-  module _ (l : x < 255) (h : massRead nodes x ≡ 0 → ⊥) where
+  module _ (l : x < branchLimit) (h : massRead nodes x ≡ 0 → ⊥) where
     -- the branch of the id, whose box stands in the arrays
     record BoxAt (d c k : ℕ) (o : Option (Tree (whole d))) : Type 0 where
       pub node : Cut (whole d) × Bool × Tree (whole d) × Tree (whole d)
@@ -127,8 +128,8 @@ module _ (tree : RCFTree) (nodes : List (List ℕ)) (points lows highs : List (L
     box-at : (d c k : ℕ) (W : World (whole d)) (a : Lent) (marks : List ℕ) → State d c k W tree a points marks → BoxRead a nodes lows highs → BoxAt d c k (W .tree)
     box-at d c k W a marks S e = go (W .tree) (S .reachable .sound) (S .reachable .in-row) (sym (e .nodes-are) ∙ S .nodes-are) (sym (e .lows-are) ∙ S .lows-are) (sym (e .highs-are) ∙ S .highs-are)
       where
-        go : (o : Option (Tree (whole d))) → Sound (whole d) c (record { table = W .table; tree = o; free = W .free }) → OfTree (whole d) (InRow d) o → nodes ≡ tab 255 (slotIn d c k (rowOf d c) noRow o)
-            → lows ≡ tab 255 (boxIn d c k (lowOf d c) o) → highs ≡ tab 255 (boxIn d c k (highOf d c) o) → BoxAt d c k o
+        go : (o : Option (Tree (whole d))) → Sound (whole d) c (record { table = W .table; tree = o; free = W .free }) → OfTree (whole d) (InRow d) o → nodes ≡ tab branchLimit (slotIn d c k (rowOf d c) noRow o)
+            → lows ≡ tab branchLimit (boxIn d c k (lowOf d c) o) → highs ≡ tab branchLimit (boxIn d c k (highOf d c) o) → BoxAt d c k o
         go none H I E L G = absurd (h (none-there nodes x d c k E l))
         go (some t) H I E L G =
             let B = used nodes x d c (W .table) t (W .free) H (S .limits .3) E l h in
@@ -140,7 +141,7 @@ module _ (tree : RCFTree) (nodes : List (List ℕ)) (points lows highs : List (L
               boxes = boxed-in d c k nodes points lows highs (B .inside) b;
             }
 
-    pub some-boxed : SomeBoxRead tree nodes points lows highs → (tree .capacity ≤ 256) × SomeBoxed (tree .capacity) (tree .cached) x nodes points lows highs
+    pub some-boxed : SomeBoxRead tree nodes points lows highs → (tree .capacity ≤ capacityLimit) × SomeBoxed (tree .capacity) (tree .cached) x nodes points lows highs
     some-boxed w =
         let S = w .state .state in
         let B = box-at (w .state .channels) (w .state .capacity) (w .state .cached) (w .state .world) (w .lent) (w .marks) S (w .read) in

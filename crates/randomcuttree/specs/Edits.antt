@@ -6,6 +6,7 @@ use mathlib.Core.List.{List}
 use Prim.Native.Nat.{ℕ, _-_, _≤_, _<_}
 use lib.ListN.{length}
 use lib.Ieee.{Float}
+use Rattle.limits.specs.Limits.{width, capacityLimit, branchLimit, pointLimit}
 use Rattle.boundingbox.specs.Sides.{nought}
 use Rattle.boundingbox.specs.Padding.{Padded}
 use Rattle.intervalstoremanager.specs.Rows as Rows
@@ -32,23 +33,23 @@ module _ (d c k : ℕ) where
     pub root-is : tree .root ≡ rootOf d c k o
     pub total-is : tree .total ≡ totalOf (whole d) o
     pub manager-is : tree .manager ≡ record { capacity = c - 1; «last_in_use» = length u }
-    pub nodes-are : a .nodes ≡ tab 255 (slotIn d c k (rowOf d c) noRow o)
-    pub cuts-are : a .cuts ≡ tab 255 (slotIn d c k (cutOf d c) nought o)
-    pub copies-are : a .copies ≡ tab 1024 (countIn d c k o)
+    pub nodes-are : a .nodes ≡ tab branchLimit (slotIn d c k (rowOf d c) noRow o)
+    pub cuts-are : a .cuts ≡ tab branchLimit (slotIn d c k (cutOf d c) nought o)
+    pub copies-are : a .copies ≡ tab pointLimit (countIn d c k o)
     pub free-are : a .free ≡ Rows.layout u
-    pub lows-are : a .lows ≡ tab 255 (boxIn d c k (lowOf d c) o)
-    pub highs-are : a .highs ≡ tab 255 (boxIn d c k (highOf d c) o)
+    pub lows-are : a .lows ≡ tab branchLimit (boxIn d c k (lowOf d c) o)
+    pub highs-are : a .highs ≡ tab branchLimit (boxIn d c k (highOf d c) o)
 
   -- p's walk in the tree t, which ends in the leaf of that index
   pub record Walking (t : Tree (whole d)) (u : List (ℕ × ℕ)) (p : Reading) (tree : RCFTree) (a : Lent) (points : List (List Float)) (path : List (List ℕ)) (n leaf : ℕ) (point : List Float) : Type 0 where
-    pub small : c ≤ 256
+    pub small : c ≤ capacityLimit
     pub some-room : 2 ≤ c
     pub cached-few : k ≤ c - 1
     pub lies : Lies (some t) u tree a
     pub stored : Stored d c (a .nodes) (a .cuts) (a .copies) t
     pub boxed : Boxed d c k (a .nodes) points (a .lows) (a .highs) t
     pub once : Once d c t
-    pub narrow : All (whole d) (λ i q n. Padded (q .row) d 8) t
+    pub narrow : All (whole d) (λ i q n. Padded (q .row) d width) t
     pub proper : Proper (c - 1) u
     pub free-once : FreeOnce u
     pub walked : Walked d c path n t p

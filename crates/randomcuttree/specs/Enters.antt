@@ -6,6 +6,7 @@ use mathlib.Core.List.{List}
 use Prim.Native.Nat.{ℕ, _-_, _≤_, _<_}
 use lib.ListN.{length, getD}
 use lib.Ieee.{Float}
+use Rattle.limits.specs.Limits.{pointLimit, totalLimit}
 use Rattle.intervalstoremanager.specs.Stack.{next, afterGet}
 use Rattle.cuttree.specs.Tree.{Tree, found, total, insert}
 use Rattle.wholetree.specs.Reading.{Reading}
@@ -21,12 +22,12 @@ module _ (d c k : ℕ) where
   pub record Entering (t : Tree (whole d)) (u : List (ℕ × ℕ)) (p : Reading) (tree : RCFTree) (a : Lent) (points : List (List Float)) (path : List (List ℕ)) (n leaf index : ℕ) (words : List ℕ) (point : List Float) : Type 0 where
     pub walking : Walking d c k t u p tree a points path n leaf point
     pub absent : found (whole d) t p ≡ false
-    pub room : total (whole d) t ≤ 65534
+    pub room : total (whole d) t ≤ totalLimit - 1
     pub some-free : 0 < length u
     pub number-below : next u < c - 1
     pub number-fresh : uses d c t (next u) ≡ 0
     pub index-fresh : countAt d c t index ≡ 0
-    pub index-small : index < 1024
+    pub index-small : index < pointLimit
     pub enough : n ≤ length words
 
 -- some tree is entered

@@ -7,6 +7,7 @@ use Prim.Native.Nat.{ℕ, _-_, min}
 use lib.Dec.{leb}
 use lib.ListN.{length, replicate}
 use lib.Ieee.{Float}
+use Rattle.limits.specs.Limits.{width, capacityLimit, branchLimit, pointLimit}
 use Rattle.readings.specs.Share.{isShare, cachedPart}
 use Rattle.boundingbox.specs.Sides.{nought}
 use Rattle.intervalstoremanager.specs.Stack as Stack
@@ -21,10 +22,10 @@ use Rattle.randomcuttree.specs.State.{Lent, State}
 
 -- '1 to 8 channels'; 'Capacity c is 2 to 256'
 abbrev pub channelsTaken : ℕ → Bool
-channelsTaken d = leb 1 d && leb d 8
+channelsTaken d = leb 1 d && leb d width
 
 abbrev pub capacityTaken : ℕ → Bool
-capacityTaken c = leb 2 c && leb c 256
+capacityTaken c = leb 2 c && leb c capacityLimit
 
 -- 'Branches below the whole part of share × c are cached': there are c − 1 branches at most
 abbrev pub cachedBy : Float → ℕ → ℕ
@@ -53,12 +54,12 @@ madeBy d c s =
 -- the arrays of an empty tree
 abbrev pub cleared : ℕ → Lent
 cleared c = record {
-  nodes = replicate 255 noRow;
-  cuts = replicate 255 nought;
-  copies = replicate 1024 0;
+  nodes = replicate branchLimit noRow;
+  cuts = replicate branchLimit nought;
+  copies = replicate pointLimit 0;
   free = Rows.layout (Stack.fresh (c - 1));
-  lows = replicate 255 noEnds;
-  highs = replicate 255 noEnds;
+  lows = replicate branchLimit noEnds;
+  highs = replicate branchLimit noEnds;
 }
 
 -- the arrays after a making: a refused one writes nothing

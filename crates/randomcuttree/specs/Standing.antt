@@ -2,6 +2,7 @@
 use mathlib.Core.List.{List}
 use Prim.Native.Nat.{ℕ, _-_, _≤_}
 use lib.Ieee.{Float}
+use Rattle.limits.specs.Limits.{width, capacityLimit, branchLimit, pointLimit}
 use Rattle.boundingbox.specs.Sides.{nought}
 use Rattle.intervalstoremanager.specs.Rows as Rows
 use Rattle.cuttree.specs.Run.{World, Call, put, call, worldAfter, fresh}
@@ -16,18 +17,18 @@ use Rattle.randomcuttree.specs.State.{Lent, State, headerOf}
 -- the arrays of a world
 abbrev pub arraysOf : (d c k : ℕ) → World (whole d) → Lent
 arraysOf d c k W = record {
-  nodes = tab 255 (slotIn d c k (rowOf d c) noRow (W .tree));
-  cuts = tab 255 (slotIn d c k (cutOf d c) nought (W .tree));
-  copies = tab 1024 (countIn d c k (W .tree));
+  nodes = tab branchLimit (slotIn d c k (rowOf d c) noRow (W .tree));
+  cuts = tab branchLimit (slotIn d c k (cutOf d c) nought (W .tree));
+  copies = tab pointLimit (countIn d c k (W .tree));
   free = Rows.layout (W .free);
-  lows = tab 255 (boxIn d c k (lowOf d c) (W .tree));
-  highs = tab 255 (boxIn d c k (highOf d c) (W .tree));
+  lows = tab branchLimit (boxIn d c k (lowOf d c) (W .tree));
+  highs = tab branchLimit (boxIn d c k (highOf d c) (W .tree));
 }
 
 -- After any list of calls from a fresh tree and an unwritten table there is a state: what add and delete ask of their caller is met by trees
 -- of any number of branches.
 abbrev pub StatesStand : Type 0
-StatesStand = (d c k : ℕ) → 1 ≤ d → d ≤ 8 → 2 ≤ c → c ≤ 256 → k ≤ c - 1 → (cs : List (Call (whole d)))
+StatesStand = (d c k : ℕ) → 1 ≤ d → d ≤ width → 2 ≤ c → c ≤ capacityLimit → k ≤ c - 1 → (cs : List (Call (whole d)))
     → let W = worldAfter (whole d) c (fresh (whole d) c) cs in State d c k W (headerOf d c k W) (arraysOf d c k W) (tableOf (W .table) .points) (tableOf (W .table) .written)
 
 -- A put is told its table by a state, and leaves one: header and arrays stay as they are.

@@ -5,6 +5,7 @@ use mathlib.Core.List.{List}
 use Prim.Native.Nat.{ℕ, _-_, _≤_, _<_}
 use lib.ListN.{length}
 use lib.Ieee.{Float}
+use Rattle.limits.specs.Limits.{width, capacityLimit, branchLimit, pointLimit}
 use Rattle.boundingbox.specs.Sides.{nought}
 use Rattle.boundingbox.specs.Padding.{Padded}
 use Rattle.intervalstoremanager.specs.declared.IntervalStoreManager.{IntervalStoreManager}
@@ -21,7 +22,7 @@ use Rattle.randomcuttree.specs.declared.RCFTree.{RCFTree}
 -- every branch is cut on one of the eight channels of a row
 abbrev pub InRow : (d : ℕ) → Tree (whole d) → Type 0
 InRow d (leaf i q n) = Unit {0}
-InRow d (branch b k g l r) = (k .channel < 8) × InRow d l × InRow d r
+InRow d (branch b k g l r) = (k .channel < width) × InRow d l × InRow d r
 
 -- the lent arrays
 pub record Lent : Type 0 where
@@ -46,7 +47,7 @@ module _ (d c k : ℕ) where
     pub sound : Sound (whole d) c W
     pub in-row : OfTree (whole d) (InRow d) (W .tree)
     -- a reading has +0.0 in the channels beyond the tree's
-    pub narrow : (i : ℕ) (p : Reading) → W .table i ≡ some p → Padded (p .row) d 8
+    pub narrow : (i : ℕ) (p : Reading) → W .table i ≡ some p → Padded (p .row) d width
 
   -- the header of a world's tree
   abbrev pub headerOf : World (whole d) → RCFTree
@@ -67,15 +68,15 @@ module _ (d c k : ℕ) where
     pub root-is : tree .root ≡ rootOf d c k (W .tree)
     pub total-is : tree .total ≡ totalOf (whole d) (W .tree)
     pub manager-is : tree .manager ≡ record { capacity = c - 1; «last_in_use» = length (W .free) }
-    pub nodes-are : a .nodes ≡ tab 255 (slotIn d c k (rowOf d c) noRow (W .tree))
-    pub cuts-are : a .cuts ≡ tab 255 (slotIn d c k (cutOf d c) nought (W .tree))
-    pub copies-are : a .copies ≡ tab 1024 (countIn d c k (W .tree))
+    pub nodes-are : a .nodes ≡ tab branchLimit (slotIn d c k (rowOf d c) noRow (W .tree))
+    pub cuts-are : a .cuts ≡ tab branchLimit (slotIn d c k (cutOf d c) nought (W .tree))
+    pub copies-are : a .copies ≡ tab pointLimit (countIn d c k (W .tree))
     pub free-are : a .free ≡ Rows.layout (W .free)
-    pub lows-are : a .lows ≡ tab 255 (boxIn d c k (lowOf d c) (W .tree))
-    pub highs-are : a .highs ≡ tab 255 (boxIn d c k (highOf d c) (W .tree))
+    pub lows-are : a .lows ≡ tab branchLimit (boxIn d c k (lowOf d c) (W .tree))
+    pub highs-are : a .highs ≡ tab branchLimit (boxIn d c k (highOf d c) (W .tree))
     pub table-is : record { points = points; written = marks } ≡ tableOf (W .table)
     pub reachable : Reachable W
-    pub limits : (1 ≤ d) × (d ≤ 8) × (2 ≤ c) × (c ≤ 256) × (k ≤ c - 1)
+    pub limits : (1 ≤ d) × (d ≤ width) × (2 ≤ c) × (c ≤ capacityLimit) × (k ≤ c - 1)
 
 -- What a state function asks of its caller: that the lent state is one that a making and its calls leave.
 pub record SomeState (tree : RCFTree) (a : Lent) (points : List (List Float)) (marks : List ℕ) : Type 0 where

@@ -4,12 +4,25 @@ use cut::Cut;
 use intervalstoremanager::Got;
 use intervalstoremanager::IntervalStoreManager;
 use intervalstoremanager::Released;
+use limits::BRANCHES;
+use limits::CAPACITY;
+use limits::CHANNELS;
+use limits::Copies;
+use limits::Cuts;
+use limits::Free;
+use limits::Marks;
+use limits::Nodes;
+use limits::POINTS;
+use limits::Path;
+use limits::Points;
+use limits::Row;
 ghost use mathlib.Core.Path.{_≡_};
 ghost use mathlib.Core.Bool.{_&&_};
 ghost use mathlib.Core.List.{List, []};
 ghost use Prim.Native.Nat.{ℕ, _≤_, _<_, min};
 ghost use lib.Dec.{leb};
 ghost use lib.ListN.{getD, replicate};
+ghost use Rattle.limits.specs.Limits.{branchLimit, pointLimit};
 ghost use Rattle.readings.specs.Share.{cachedPart};
 ghost use Rattle.boundingbox.specs.Sides.{nought};
 ghost use Rattle.intervalstoremanager.specs.Rows as Rows;
@@ -101,28 +114,28 @@ fn cached_of(share: f64, capacity: u16, branches: usize) -> usize
 
 // Clears what a tree keeps of its branches and leaves.
 fn clear(
-    nodes: &mut [[u16; 4]; 255],
-    cuts: &mut [f32; 255],
-    copies: &mut [u16; 1024],
-    lows: &mut [[f32; 8]; 255],
-    highs: &mut [[f32; 8]; 255],
+    nodes: &mut Nodes,
+    cuts: &mut Cuts,
+    copies: &mut Copies,
+    lows: &mut [Row; BRANCHES],
+    highs: &mut [Row; BRANCHES],
 )
-    ensures rows { λ _. ⌜ now (nodes .exit) ≡ replicate 255 noRow ⌝ }
-    ensures values { λ _. ⌜ now (cuts .exit) ≡ replicate 255 nought ⌝ }
-    ensures counts { λ _. ⌜ now (copies .exit) ≡ replicate 1024 0 ⌝ }
-    ensures lower { λ _. ⌜ now (lows .exit) ≡ replicate 255 noEnds ⌝ }
-    ensures upper { λ _. ⌜ now (highs .exit) ≡ replicate 255 noEnds ⌝ }
+    ensures rows { λ _. ⌜ now (nodes .exit) ≡ replicate branchLimit noRow ⌝ }
+    ensures values { λ _. ⌜ now (cuts .exit) ≡ replicate branchLimit nought ⌝ }
+    ensures counts { λ _. ⌜ now (copies .exit) ≡ replicate pointLimit 0 ⌝ }
+    ensures lower { λ _. ⌜ now (lows .exit) ≡ replicate branchLimit noEnds ⌝ }
+    ensures upper { λ _. ⌜ now (highs .exit) ≡ replicate branchLimit noEnds ⌝ }
 {
-    *nodes = [[0; 4]; 255];
-    *cuts = [0.0; 255];
-    *copies = [0; 1024];
-    *lows = [[0.0; 8]; 255];
-    *highs = [[0.0; 8]; 255];
+    *nodes = [[0; 4]; BRANCHES];
+    *cuts = [0.0; BRANCHES];
+    *copies = [0; POINTS];
+    *lows = [[0.0; CHANNELS]; BRANCHES];
+    *highs = [[0.0; CHANNELS]; BRANCHES];
 }
 
 // The mass in a branch's row. A branch has one of at least 1, and a row of no branch is zero.
-fn mass_at(nodes: &[[u16; 4]; 255], node: usize) -> usize
-    requires { ⌜ node < 255 ⌝ }
+fn mass_at(nodes: &Nodes, node: usize) -> usize
+    requires { ⌜ node < branchLimit ⌝ }
     ensures { λ r. ⌜ r ≡ getD (getD (now (nodes .entry)) node []) 2 0 ⌝ }
 {
     wide(nodes[node][2])
@@ -135,19 +148,15 @@ fn no_box() -> BoxAnswer
     BoxAnswer {
         refusal: 16,
         bounding_box: BoundingBox {
-            min_values: [0.0; 8],
-            max_values: [0.0; 8],
+            min_values: [0.0; CHANNELS],
+            max_values: [0.0; CHANNELS],
         },
     }
 }
 
-// A branch number put back. A stack of numbers below 255, each free once at most, always has a row for it.
-fn put_back(
-    manager: IntervalStoreManager,
-    free: &mut [[u16; 2]; 255],
-    b: u16,
-) -> IntervalStoreManager
-    ensures { λ r. ⌜ ((u : List (ℕ × ℕ)) → manager ≡ managerOf (manager .capacity) u → now (free .entry) ≡ Rows.layout u → manager .capacity ≤ 255 → Proper (manager .capacity) u → Once u → b < manager .capacity → holds u b ≡ 0
+// A branch number put back. A stack of a tree's branch numbers, each free once at most, always has a row for it.
+fn put_back(manager: IntervalStoreManager, free: &mut Free, b: u16) -> IntervalStoreManager
+    ensures { λ r. ⌜ ((u : List (ℕ × ℕ)) → manager ≡ managerOf (manager .capacity) u → now (free .entry) ≡ Rows.layout u → manager .capacity ≤ branchLimit → Proper (manager .capacity) u → Once u → b < manager .capacity → holds u b ≡ 0
         → (r ≡ managerOf (manager .capacity) (afterRelease u b)) × (now (free .exit) ≡ Rows.layout (afterRelease u b))) ⌝ }
 {
     let released = manager.release(free, b);
@@ -174,17 +183,17 @@ fn headed_by(tree: RCFTree, root: u16, total: usize, manager: IntervalStoreManag
 // The last copy of a leaf below a branch: the sibling takes the branch's place, the branch's number is free again, and the boxes above are repaired.
 fn remove_last(
     tree: RCFTree,
-    nodes: &mut [[u16; 4]; 255],
-    cuts: &mut [f32; 255],
-    copies: &mut [u16; 1024],
-    free: &mut [[u16; 2]; 255],
-    lows: &mut [[f32; 8]; 255],
-    highs: &mut [[f32; 8]; 255],
-    points: &[[f32; 8]; 1024],
-    path: &[[u16; 2]; 256],
+    nodes: &mut Nodes,
+    cuts: &mut Cuts,
+    copies: &mut Copies,
+    free: &mut Free,
+    lows: &mut [Row; BRANCHES],
+    highs: &mut [Row; BRANCHES],
+    points: &Points,
+    path: &Path,
     n: usize,
     leaf: usize,
-    point: &[f32; 8],
+    point: &Row,
 ) -> RCFTree
     requires held { ⌜ SomeHeld tree (lent (now nodes) (now cuts) (now copies) (now free) (now lows) (now highs)) (now points) (now path) n leaf (now point) ⌝ }
     requires last { ⌜ getD (now copies) leaf 0 ≤ 1 ⌝ }
@@ -213,17 +222,17 @@ fn remove_last(
 // One copy less of the leaf that the path ends in.
 fn remove_copy(
     tree: RCFTree,
-    nodes: &mut [[u16; 4]; 255],
-    cuts: &mut [f32; 255],
-    copies: &mut [u16; 1024],
-    free: &mut [[u16; 2]; 255],
-    lows: &mut [[f32; 8]; 255],
-    highs: &mut [[f32; 8]; 255],
-    points: &[[f32; 8]; 1024],
-    path: &[[u16; 2]; 256],
+    nodes: &mut Nodes,
+    cuts: &mut Cuts,
+    copies: &mut Copies,
+    free: &mut Free,
+    lows: &mut [Row; BRANCHES],
+    highs: &mut [Row; BRANCHES],
+    points: &Points,
+    path: &Path,
     n: usize,
     leaf: usize,
-    point: &[f32; 8],
+    point: &Row,
 ) -> RCFTree
     requires held { ⌜ SomeHeld tree (lent (now nodes) (now cuts) (now copies) (now free) (now lows) (now highs)) (now points) (now path) n leaf (now point) ⌝ }
     ensures { λ r. ⌜ Forgets tree (lent (now (nodes .entry)) (now (cuts .entry)) (now (copies .entry)) (now (free .entry)) (now (lows .entry)) (now (highs .entry))) (now (points .entry)) (now (path .entry)) n leaf (now (point .entry)) r (lent (now (nodes .exit)) (now (cuts .exit)) (now (copies .exit)) (now (free .exit)) (now (lows .exit)) (now (highs .exit))) ⌝ }
@@ -255,19 +264,19 @@ fn remove_copy(
 // A reading that no leaf has: the highest cut that parts, a free number for the new branch, its row and its box, and the boxes above it grown.
 fn insert_leaf(
     tree: RCFTree,
-    nodes: &mut [[u16; 4]; 255],
-    cuts: &mut [f32; 255],
-    copies: &mut [u16; 1024],
-    free: &mut [[u16; 2]; 255],
-    lows: &mut [[f32; 8]; 255],
-    highs: &mut [[f32; 8]; 255],
-    points: &[[f32; 8]; 1024],
-    path: &[[u16; 2]; 256],
+    nodes: &mut Nodes,
+    cuts: &mut Cuts,
+    copies: &mut Copies,
+    free: &mut Free,
+    lows: &mut [Row; BRANCHES],
+    highs: &mut [Row; BRANCHES],
+    points: &Points,
+    path: &Path,
     n: usize,
     leaf: usize,
     index: usize,
     words: &[u64],
-    point: &[f32; 8],
+    point: &Row,
 ) -> RCFTree
     requires { ⌜ SomeEntering tree (lent (now nodes) (now cuts) (now copies) (now free) (now lows) (now highs)) (now points) (now path) n leaf index (now words) (now point) ⌝ }
     ensures { λ r. ⌜ Enters tree (lent (now (nodes .entry)) (now (cuts .entry)) (now (copies .entry)) (now (free .entry)) (now (lows .entry)) (now (highs .entry))) (now (points .entry)) (now (path .entry)) n leaf index (now (words .entry)) (now (point .entry)) r (lent (now (nodes .exit)) (now (cuts .exit)) (now (copies .exit)) (now (free .exit)) (now (lows .exit)) (now (highs .exit))) ⌝ }
@@ -315,13 +324,13 @@ fn insert_leaf(
 
 impl RCFTree {
     // Document 01's limits: channels, leaves, point indices and copies.
-    pub const CHANNELS: usize = 8;
+    pub const CHANNELS: usize = limits::CHANNELS;
 
-    pub const CAPACITY: usize = 256;
+    pub const CAPACITY: usize = limits::CAPACITY;
 
-    pub const POINTS: usize = 1024;
+    pub const POINTS: usize = limits::POINTS;
 
-    pub const TOTAL: usize = 65535;
+    pub const TOTAL: usize = limits::TOTAL;
 
     // An empty tree, its arrays cleared; or a refusal, in document 01's order, and nothing written.
     // Rules out capacity 1 taken, and a refused making that has cleared an array.
@@ -329,12 +338,12 @@ impl RCFTree {
         dimensions: usize,
         capacity: usize,
         cache_fraction: f64,
-        nodes: &mut [[u16; 4]; 255],
-        cuts: &mut [f32; 255],
-        copies: &mut [u16; 1024],
-        free: &mut [[u16; 2]; 255],
-        lows: &mut [[f32; 8]; 255],
-        highs: &mut [[f32; 8]; 255],
+        nodes: &mut Nodes,
+        cuts: &mut Cuts,
+        copies: &mut Copies,
+        free: &mut Free,
+        lows: &mut [Row; BRANCHES],
+        highs: &mut [Row; BRANCHES],
     ) -> Made
         ensures { λ r. ⌜ MakeDone dimensions capacity «cache_fraction»
             (record { nodes = now (nodes .entry); cuts = now (cuts .entry); copies = now (copies .entry); free = now (free .entry); lows = now (lows .entry); highs = now (highs .entry) })
@@ -365,7 +374,7 @@ impl RCFTree {
 
     // The copies of a leaf by its id.
     // Rules out copies answered for a branch's id, and 0 copies in place of the refusal.
-    pub fn copies_of(self, copies: &[u16; 1024], id: usize) -> CopiesAnswer
+    pub fn copies_of(self, copies: &Copies, id: usize) -> CopiesAnswer
         ensures { λ r. ⌜ CopiesTold self (now (copies .entry)) id r ⌝ }
     {
         let capacity = wide(self.capacity);
@@ -385,11 +394,10 @@ impl RCFTree {
 
     // The row of a branch by its number.
     // Rules out the sides swapped, and a row of zeros in place of the refusal.
-    pub fn branch_of(self, nodes: &[[u16; 4]; 255], cuts: &[f32; 255], id: usize) -> BranchAnswer
+    pub fn branch_of(self, nodes: &Nodes, cuts: &Cuts, id: usize) -> BranchAnswer
         ensures { λ r. ⌜ BranchTold self (now (nodes .entry)) (now (cuts .entry)) id r ⌝ }
     {
-        // A tree of 256 leaves has 255 branches.
-        if 254 < id {
+        if BRANCHES <= id {
             return BranchAnswer::NoBranch(16);
         }
         let mass = mass_at(nodes, id);
@@ -412,16 +420,16 @@ impl RCFTree {
     // Rules out the box of a leaf answered, and a cached row taken for a branch that is not cached.
     pub fn box_of(
         self,
-        nodes: &[[u16; 4]; 255],
-        points: &[[f32; 8]; 1024],
-        lows: &[[f32; 8]; 255],
-        highs: &[[f32; 8]; 255],
+        nodes: &Nodes,
+        points: &Points,
+        lows: &[Row; BRANCHES],
+        highs: &[Row; BRANCHES],
         id: usize,
     ) -> BoxAnswer
         requires { ⌜ SomeBoxRead self (now nodes) (now points) (now lows) (now highs) ⌝ }
         ensures { λ r. ⌜ BoxTold self (now (nodes .entry)) (now (points .entry)) (now (lows .entry)) (now (highs .entry)) id r ⌝ }
     {
-        if 254 < id {
+        if BRANCHES <= id {
             return no_box();
         }
         if mass_at(nodes, id) == 0 {
@@ -447,14 +455,14 @@ impl RCFTree {
     // Rules out words taken for a value that is held, and a full tree told before the value is looked for.
     pub fn add(
         self,
-        nodes: &mut [[u16; 4]; 255],
-        cuts: &mut [f32; 255],
-        copies: &mut [u16; 1024],
-        free: &mut [[u16; 2]; 255],
-        lows: &mut [[f32; 8]; 255],
-        highs: &mut [[f32; 8]; 255],
-        points: &[[f32; 8]; 1024],
-        written: &[u8; 1024],
+        nodes: &mut Nodes,
+        cuts: &mut Cuts,
+        copies: &mut Copies,
+        free: &mut Free,
+        lows: &mut [Row; BRANCHES],
+        highs: &mut [Row; BRANCHES],
+        points: &Points,
+        written: &Marks,
         index: usize,
         words: &[u64],
     ) -> AddAnswer
@@ -475,7 +483,7 @@ impl RCFTree {
             let root = index as u16 + self.capacity;
             return AddAnswer::Added(headed_by(self, root, 1, self.manager), index, 0);
         }
-        let mut path = [[0u16; 2]; 256];
+        let mut path = [[0u16; 2]; CAPACITY];
         let n = nodestore::set_path(
             nodes,
             cuts,
@@ -522,14 +530,14 @@ impl RCFTree {
     // Rules out the index asked for answered in place of the leaf's, and a delete that leaves the last copy's branch.
     pub fn delete(
         self,
-        nodes: &mut [[u16; 4]; 255],
-        cuts: &mut [f32; 255],
-        copies: &mut [u16; 1024],
-        free: &mut [[u16; 2]; 255],
-        lows: &mut [[f32; 8]; 255],
-        highs: &mut [[f32; 8]; 255],
-        points: &[[f32; 8]; 1024],
-        written: &[u8; 1024],
+        nodes: &mut Nodes,
+        cuts: &mut Cuts,
+        copies: &mut Copies,
+        free: &mut Free,
+        lows: &mut [Row; BRANCHES],
+        highs: &mut [Row; BRANCHES],
+        points: &Points,
+        written: &Marks,
         index: usize,
     ) -> DeleteAnswer
         requires { ⌜ SomeState self (lent (now nodes) (now cuts) (now copies) (now free) (now lows) (now highs)) (now points) (now written) ⌝ }
@@ -544,7 +552,7 @@ impl RCFTree {
         if self.total == 0 {
             return DeleteAnswer::NotDeleted(12);
         }
-        let mut path = [[0u16; 2]; 256];
+        let mut path = [[0u16; 2]; CAPACITY];
         let n = nodestore::set_path(
             nodes,
             cuts,

@@ -6,7 +6,7 @@ use replay::Answer;
 use replay::Tally;
 ghost use Prim.Native.Nat.{_<_};
 
-type Rows = [[u16; 2]; IntervalStoreManager::INTERVALS];
+type Rows = [[u16; 2]; limits::BRANCHES];
 
 // The number for no answer. The file has it where nothing is left; here it also stands for a number that is not taken back, and for a
 // row that is not in use.
@@ -95,7 +95,7 @@ fn top(manager: IntervalStoreManager, rows: &Rows) -> Answer {
     if n == 0 {
         return one(0);
     }
-    if n > IntervalStoreManager::INTERVALS {
+    if n > limits::BRANCHES {
         return one(NONE);
     }
     with_row(manager.last_in_use, rows, n - 1)
@@ -104,7 +104,7 @@ fn top(manager: IntervalStoreManager, rows: &Rows) -> Answer {
 // Whether the rows from `from` on are zero.
 fn is_clear_from(rows: &Rows, from: usize) -> bool {
     let mut k = from;
-    while k < IntervalStoreManager::INTERVALS {
+    while k < limits::BRANCHES {
         if rows[k][0] != 0 {
             return false;
         }
@@ -119,7 +119,7 @@ fn is_clear_from(rows: &Rows, from: usize) -> bool {
 // An interval that stands, after its number. The rows above those in use, which the file does not have, have to be zero.
 fn interval(manager: IntervalStoreManager, number: u16, rows: &Rows) -> Answer {
     let k = index(number);
-    if k >= IntervalStoreManager::INTERVALS {
+    if k >= limits::BRANCHES {
         return one(NONE);
     }
     if number >= manager.last_in_use {
@@ -197,7 +197,7 @@ fn replay_one(number: u64, state: Replay, rows: &mut Rows) -> Replay {
 
 // A proved loop has to end, and nothing says that the input does; so records are counted up to a number that no input has.
 fn replay_all() -> Replay {
-    let mut rows = [[0u16, 0u16]; IntervalStoreManager::INTERVALS];
+    let mut rows = [[0u16, 0u16]; limits::BRANCHES];
     let mut state = Replay {
         manager: IntervalStoreManager::new(0, &mut rows),
         sequences: 0,

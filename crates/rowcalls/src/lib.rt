@@ -1,10 +1,24 @@
 // One op row of treelist's text, carried out on the lent state.
+use calls::Coordinates;
+use calls::Reply;
+use calls::Words;
 use form::Row;
+use limits::BRANCHES;
+use limits::CAPACITY;
+use limits::CHANNELS;
+use limits::Copies;
+use limits::Cuts;
+use limits::Free;
+use limits::Marks;
+use limits::Nodes;
+use limits::Points;
+use limits::Row;
 use randomcuttree::RCFTree;
 ghost use mathlib.Core.Path.{_≡_};
 ghost use mathlib.Core.Option.{some};
-ghost use Prim.Native.Nat.{min};
+ghost use Prim.Native.Nat.{_+_, min};
 ghost use lib.ListN.{length, take};
+ghost use Rattle.limits.specs.Limits.{width, capacityLimit};
 ghost use Rattle.text.specs.Pieces.{pieces};
 ghost use Rattle.text.specs.Fields.{wordsFrom, coordinatesFrom};
 ghost use Rattle.form.specs.Rows.{Op, rowOf};
@@ -20,37 +34,40 @@ fn at_most(n: usize, most: usize) -> usize
 }
 
 // The first nine coordinates of a row, from a place on, and how many of them there are. No tree has nine channels, so a longer list is refused like one of nine.
-fn first_coordinates(row: &[u8], start: usize, coordinates: &mut [f32; 9]) -> usize
-    ensures first { λ r. ⌜ take r (now (coordinates .exit)) ≡ take 9 (coordinatesFrom (now (row .entry)) start) ⌝ }
-    ensures count { λ r. ⌜ r ≡ min (length (coordinatesFrom (now (row .entry)) start)) 9 ⌝ }
+fn first_coordinates(row: &[u8], start: usize, coordinates: &mut Coordinates) -> usize
+    ensures first { λ r. ⌜ take r (now (coordinates .exit)) ≡ take (width + 1) (coordinatesFrom (now (row .entry)) start) ⌝ }
+    ensures count { λ r. ⌜ r ≡ min (length (coordinatesFrom (now (row .entry)) start)) (width + 1) ⌝ }
 {
-    at_most(text::read_coordinates(row, start, coordinates), 9)
+    at_most(
+        text::read_coordinates(row, start, coordinates),
+        CHANNELS + 1,
+    )
 }
 
-// The first 256 words of a row, from a place on, and how many of them there are. No add looks at more.
-fn first_words(row: &[u8], start: usize, words: &mut [u64; 256]) -> usize
-    ensures first { λ r. ⌜ take r (now (words .exit)) ≡ take 256 (wordsFrom (now (row .entry)) start) ⌝ }
-    ensures count { λ r. ⌜ r ≡ min (length (wordsFrom (now (row .entry)) start)) 256 ⌝ }
+// The first words of a row, from a place on, as many as an add looks at, and how many of them there are.
+fn first_words(row: &[u8], start: usize, words: &mut Words) -> usize
+    ensures first { λ r. ⌜ take r (now (words .exit)) ≡ take capacityLimit (wordsFrom (now (row .entry)) start) ⌝ }
+    ensures count { λ r. ⌜ r ≡ min (length (wordsFrom (now (row .entry)) start)) capacityLimit ⌝ }
 {
-    at_most(text::read_words(row, start, words), 256)
+    at_most(text::read_words(row, start, words), CAPACITY)
 }
 
 // The call of an op row: its answer's numbers in the reply, with 0 after them, and the header after it.
 // Rules out a row's rest read from another place, and a delete done as an add.
 pub fn call_row(
     tree: RCFTree,
-    nodes: &mut [[u16; 4]; 255],
-    cuts: &mut [f32; 255],
-    copies: &mut [u16; 1024],
-    free: &mut [[u16; 2]; 255],
-    lows: &mut [[f32; 8]; 255],
-    highs: &mut [[f32; 8]; 255],
-    points: &mut [[f32; 8]; 1024],
-    written: &mut [u8; 1024],
+    nodes: &mut Nodes,
+    cuts: &mut Cuts,
+    copies: &mut Copies,
+    free: &mut Free,
+    lows: &mut [Row; BRANCHES],
+    highs: &mut [Row; BRANCHES],
+    points: &mut Points,
+    written: &mut Marks,
     row: &[u8],
-    coordinates: &mut [f32; 9],
-    words: &mut [u64; 256],
-    reply: &mut [usize; 17],
+    coordinates: &mut Coordinates,
+    words: &mut Words,
+    reply: &mut Reply,
 ) -> RCFTree
     requires { ⌜ SomeOp (now row) × SomeState tree (lent (now nodes) (now cuts) (now copies) (now free) (now lows) (now highs)) (now points) (now written) ⌝ }
     ensures { λ r. ⌜ ((o : Op) → rowOf (pieces 32 (now (row .entry))) ≡ some o

@@ -8,6 +8,7 @@ use native.Mathlib.Omega.{arith}
 use lib.ListN.{length, replicate}
 use lib.Ieee.{Float}
 use borrow.Author.Tests.{leb-true, leb-false}
+use Rattle.limits.specs.Limits.{pointLimit}
 use Rattle.cuttree.specs.Run.{fresh}
 use Rattle.wholetree.specs.Whole.{whole}
 use Rattle.layout.specs.Layout.{noEnds, tableOf}
@@ -26,10 +27,10 @@ use Rattle.run.proofs.Widths.{length-all}
 use Rattle.run.proofs.Given.{given-short}
 
 -- a table with nothing written
-pub unwritten : (points : List (List Float)) (marks : List ℕ) → points ≡ replicate 1024 noEnds → marks ≡ replicate 1024 0 → record { points = points; written = marks } ≡ tableOf (λ i. none)
+pub unwritten : (points : List (List Float)) (marks : List ℕ) → points ≡ replicate pointLimit noEnds → marks ≡ replicate pointLimit 0 → record { points = points; written = marks } ≡ tableOf (λ i. none)
 unwritten points marks e f =
-    let p : points ≡ tableOf (λ i. none) .points = e ∙ constant 1024 noEnds _ (λ i. refl) in
-    let m : marks ≡ tableOf (λ i. none) .written = f ∙ constant 1024 0 _ (λ i. refl) in
+    let p : points ≡ tableOf (λ i. none) .points = e ∙ constant pointLimit noEnds _ (λ i. refl) in
+    let m : marks ≡ tableOf (λ i. none) .written = f ∙ constant pointLimit 0 _ (λ i. refl) in
     rw (p, m) refl
 
 module _ (run lent : List ℕ) (before after : Lent) (made : Made) (M : MakeDone (channels run) (capacity run) (share run) before after made) (b : Bool) (q : Checks run b lent) where

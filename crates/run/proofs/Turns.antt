@@ -8,13 +8,14 @@ use native.Mathlib.Omega.{arith}
 use lib.ListN.{length, take}
 use lib.Ieee.{Float}
 use lib.Seq.{sets, length-sets}
+use Rattle.limits.specs.Limits.{width}
 use Rattle.little.specs.Little.{bytesOf}
 use Rattle.little.proofs.Stored.{sets-append, length-bytes, bytes-append}
 use Rattle.cuttree.specs.Run.{World, Call, put, add, delete, query, copiesOf, branchOf, boxOf, call}
 use Rattle.wholetree.specs.Whole.{whole}
 use Rattle.randomcuttree.specs.declared.RCFTree.{RCFTree}
 use Rattle.randomcuttree.specs.State.{Lent, SomeState}
-use Rattle.calls.specs.Said.{filled, said, saidFrom}
+use Rattle.calls.specs.Said.{filled, said, saidFrom, replyWidth}
 use Rattle.calls.specs.Done.{Done, Does}
 use Rattle.runlayout.specs.Layout.{size, number, widthAt, standsAt, callAt, restFrom}
 use Rattle.runlayout.specs.Check.{widthOf, widths, widthOfKind}
@@ -35,7 +36,7 @@ length-filled zero xs = refl
 length-filled (suc n) [] = ap suc (length-filled n [])
 length-filled (suc n) (x ∷ xs) = ap suc (length-filled n xs)
 
-width-most : (d : ℕ) (x : Call (whole d)) → d ≤ 8 → widthOf d x ≤ 17
+width-most : (d : ℕ) (x : Call (whole d)) → d ≤ width → widthOf d x ≤ replyWidth
 width-most d (put i xs) h = omega arith
 width-most d (add i ws) h = omega arith
 width-most d (delete i) h = omega arith
@@ -81,11 +82,11 @@ module _ (run : List ℕ) (p out : ℕ) (tree : RCFTree) (a : Lent) (points : Li
       done : Done (R .channels) (R .capacity) (R .cached) (R .world) here tree′ a′ points′ marks′ reply
       done = does (R .channels) (R .capacity) (R .cached) (R .world) (R .state)
 
-      pub few-channels : tree′ .dimensions ≤ 8
+      pub few-channels : tree′ .dimensions ≤ width
       few-channels = omega (arith, done .state .dimensions-are, done .state .limits .1)
 
-      pub reply-length : 17 ≡ length reply
-      reply-length = sym (ap length (done .reply-is) ∙ length-filled 17 told)
+      pub reply-length : replyWidth ≡ length reply
+      reply-length = sym (ap length (done .reply-is) ∙ length-filled replyWidth told)
 
       module _ (w : ℕ) (e : w ≡ widthOfKind (tree′ .dimensions) (number run p)) where
         width-is : w ≡ widthOf (R .channels) here
@@ -95,7 +96,7 @@ module _ (run : List ℕ) (p out : ℕ) (tree : RCFTree) (a : Lent) (points : Li
         rest-width = omega (arith, width-is, ap (widths (R .channels)) (begun .is))
 
         -- its answer's numbers find room
-        pub fits : (w ≤ 17) × (4 * (out + w) ≤ length answers)
+        pub fits : (w ≤ replyWidth) × (4 * (out + w) ≤ length answers)
         fits = (omega (arith, width-is, width-most (R .channels) here (done .state .limits .1)), omega (arith, rest-width, R .numbers, R .room))
 
         told-width : length told ≡ w
@@ -104,7 +105,7 @@ module _ (run : List ℕ) (p out : ℕ) (tree : RCFTree) (a : Lent) (points : Li
         first-told : take w reply ≡ told
         first-told =
             ap (λ (n : ℕ). take n reply) (sym told-width) ∙ ap (λ (l : List ℕ). take (length told) l) (done .reply-is)
-            ∙ take-filled 17 told (omega (arith, told-width, fits .0))
+            ∙ take-filled replyWidth told (omega (arith, told-width, fits .0))
 
         pub answers-length : (answers′ : List ℕ) → answers′ ≡ sets answers (4 * out) (bytesOf (take w reply)) → length answers′ ≡ length answers
         answers-length answers′ f = ap length f ∙ length-sets answers (4 * out) (bytesOf (take w reply))

@@ -1,4 +1,16 @@
 // The C entry: a byte run, a making and the calls after it, carried out whole (docs/LAYOUT.md). No state outlives it.
+use calls::REPLY;
+use limits::BRANCHES;
+use limits::CAPACITY;
+use limits::CHANNELS;
+use limits::Copies;
+use limits::Cuts;
+use limits::Free;
+use limits::Marks;
+use limits::Nodes;
+use limits::POINTS;
+use limits::Points;
+use limits::Row;
 use randomcuttree::Made;
 use randomcuttree::RCFTree;
 use runlayout::Checked;
@@ -39,14 +51,14 @@ fn write_reply(answers: &mut [u8], out: usize, reply: &[usize], n: usize)
 // The calls from place 5 of the run on, each answered in turn, after the making's own number. Gives how many numbers are answered.
 fn run_calls(
     tree: RCFTree,
-    nodes: &mut [[u16; 4]; 255],
-    cuts: &mut [f32; 255],
-    copies: &mut [u16; 1024],
-    free: &mut [[u16; 2]; 255],
-    lows: &mut [[f32; 8]; 255],
-    highs: &mut [[f32; 8]; 255],
-    points: &mut [[f32; 8]; 1024],
-    written: &mut [u8; 1024],
+    nodes: &mut Nodes,
+    cuts: &mut Cuts,
+    copies: &mut Copies,
+    free: &mut Free,
+    lows: &mut [Row; BRANCHES],
+    highs: &mut [Row; BRANCHES],
+    points: &mut Points,
+    written: &mut Marks,
     run: &[u8],
     answers: &mut [u8],
 ) -> usize
@@ -56,8 +68,8 @@ fn run_calls(
         → (r ≡ count) × (now (answers .exit) ≡ final)) ⌝ }
 {
     let n = runlayout::size_of(run);
-    let mut words = [0u64; 256];
-    let mut reply = [0usize; 17];
+    let mut words = [0u64; CAPACITY];
+    let mut reply = [0usize; REPLY];
     let mut current = tree;
     let mut p: usize = 5;
     let mut out: usize = 1;
@@ -99,14 +111,14 @@ fn tell_refusal(answers: &mut [u8], refusal: u8) -> usize
 // A tree that is made: 0 for the making, then its calls.
 fn run_tree(
     tree: RCFTree,
-    nodes: &mut [[u16; 4]; 255],
-    cuts: &mut [f32; 255],
-    copies: &mut [u16; 1024],
-    free: &mut [[u16; 2]; 255],
-    lows: &mut [[f32; 8]; 255],
-    highs: &mut [[f32; 8]; 255],
-    points: &mut [[f32; 8]; 1024],
-    written: &mut [u8; 1024],
+    nodes: &mut Nodes,
+    cuts: &mut Cuts,
+    copies: &mut Copies,
+    free: &mut Free,
+    lows: &mut [Row; BRANCHES],
+    highs: &mut [Row; BRANCHES],
+    points: &mut Points,
+    written: &mut Marks,
     run: &[u8],
     answers: &mut [u8],
 ) -> usize
@@ -139,12 +151,12 @@ fn run_made(run: &[u8], answers: &mut [u8], enough: bool) -> usize
     ensures { λ r. ⌜ ((q : Checks (now (run .entry)) enough (now (answers .entry)))
         → (r, now (answers .exit)) ≡ given (answered (now (run .entry)) (madeBy (channels (now (run .entry))) (capacity (now (run .entry))) (share (now (run .entry)))) (q .calls)) (now (answers .entry))) ⌝ }
 {
-    let mut nodes = [[0u16; 4]; 255];
-    let mut cuts = [0.0f32; 255];
-    let mut copies = [0u16; 1024];
-    let mut free = [[0u16; 2]; 255];
-    let mut lows = [[0.0f32; 8]; 255];
-    let mut highs = [[0.0f32; 8]; 255];
+    let mut nodes = [[0u16; 4]; BRANCHES];
+    let mut cuts = [0.0f32; BRANCHES];
+    let mut copies = [0u16; POINTS];
+    let mut free = [[0u16; 2]; BRANCHES];
+    let mut lows = [[0.0f32; CHANNELS]; BRANCHES];
+    let mut highs = [[0.0f32; CHANNELS]; BRANCHES];
     let mut points = pointstore::no_points();
     let mut written = pointstore::no_marks();
     let made = RCFTree::new(

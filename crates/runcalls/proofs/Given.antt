@@ -6,6 +6,7 @@ use native.Mathlib.Omega.{arith}
 use lib.ListN.{take, length-take}
 use lib.Seq.{getD-take}
 use lib.Ieee.{Float, binary32, ofBits}
+use Rattle.limits.specs.Limits.{width, capacityLimit}
 use Rattle.cuttree.specs.Run.{put, add, delete}
 use Rattle.wholetree.specs.Whole.{tab}
 use Rattle.wholetree.proofs.Readings.{tab-length, tab-at}
@@ -22,19 +23,19 @@ module _ {A : Type 0} (f : ℕ → A) (k m n : ℕ) (e : n ≡ min m k) where
 
 -- the call at the place p of the run, from what was read there: the index i, and n of the m entries that it says
 module _ (bytes : List ℕ) (p : ℕ) (tree : RCFTree) (a : Lent) (points : List (List Float)) (marks : List ℕ) (tree′ : RCFTree) (b : Lent) (points′ : List (List Float)) (marks′ reply : List ℕ) (i : ℕ) (at : i ≡ number bytes (p + 1)) where
-  pub put-given : (m n : ℕ) (first : List Float) → m ≡ number bytes (p + 2) → n ≡ min m 9 → first ≡ tab n (λ (j : ℕ). ofBits binary32 (number bytes (p + 3 + j)))
-      → ((xs : List Float) → first ≡ take 9 xs → Does (λ d. put i xs) tree a points marks tree′ b points′ marks′ reply)
+  pub put-given : (m n : ℕ) (first : List Float) → m ≡ number bytes (p + 2) → n ≡ min m (width + 1) → first ≡ tab n (λ (j : ℕ). ofBits binary32 (number bytes (p + 3 + j)))
+      → ((xs : List Float) → first ≡ take (width + 1) xs → Does (λ d. put i xs) tree a points marks tree′ b points′ marks′ reply)
       → Does (λ d. put (number bytes (p + 1)) (coordinatesAt bytes p)) tree a points marks tree′ b points′ marks′ reply
   put-given m n first l e s D =
-      let few = e ∙ ap (λ (y : ℕ). min y 9) l in
-      subst (λ (y : ℕ). Does (λ d. put y (coordinatesAt bytes p)) tree a points marks tree′ b points′ marks′ reply) at (D (coordinatesAt bytes p) (s ∙ sym (take-tab _ 9 _ n few)))
+      let few = e ∙ ap (λ (y : ℕ). min y (width + 1)) l in
+      subst (λ (y : ℕ). Does (λ d. put y (coordinatesAt bytes p)) tree a points marks tree′ b points′ marks′ reply) at (D (coordinatesAt bytes p) (s ∙ sym (take-tab _ (width + 1) _ n few)))
 
-  pub add-given : (m n : ℕ) (first : List ℕ) → m ≡ number bytes (p + 2) → n ≡ min m 256 → first ≡ tab n (λ (j : ℕ). double bytes (p + 3 + 2 * j))
-      → ((ws : List ℕ) → first ≡ take 256 ws → Does (λ d. add i ws) tree a points marks tree′ b points′ marks′ reply)
+  pub add-given : (m n : ℕ) (first : List ℕ) → m ≡ number bytes (p + 2) → n ≡ min m capacityLimit → first ≡ tab n (λ (j : ℕ). double bytes (p + 3 + 2 * j))
+      → ((ws : List ℕ) → first ≡ take capacityLimit ws → Does (λ d. add i ws) tree a points marks tree′ b points′ marks′ reply)
       → Does (λ d. add (number bytes (p + 1)) (wordsAt bytes p)) tree a points marks tree′ b points′ marks′ reply
   add-given m n first l e s D =
-      let few = e ∙ ap (λ (y : ℕ). min y 256) l in
-      subst (λ (y : ℕ). Does (λ d. add y (wordsAt bytes p)) tree a points marks tree′ b points′ marks′ reply) at (D (wordsAt bytes p) (s ∙ sym (take-tab _ 256 _ n few)))
+      let few = e ∙ ap (λ (y : ℕ). min y capacityLimit) l in
+      subst (λ (y : ℕ). Does (λ d. add y (wordsAt bytes p)) tree a points marks tree′ b points′ marks′ reply) at (D (wordsAt bytes p) (s ∙ sym (take-tab _ capacityLimit _ n few)))
 
   pub delete-given : Does (λ d. delete i) tree a points marks tree′ b points′ marks′ reply → Does (λ d. delete (number bytes (p + 1))) tree a points marks tree′ b points′ marks′ reply
   delete-given = subst (λ (y : ℕ). Does (λ d. delete y) tree a points marks tree′ b points′ marks′ reply) at

@@ -1,10 +1,24 @@
 // The calls of a byte run (docs/LAYOUT.md): each read from its place in the run and carried out on the lent state, with its answer as numbers.
+use calls::Coordinates;
+use calls::Reply;
+use calls::Words;
+use limits::BRANCHES;
+use limits::CAPACITY;
+use limits::CHANNELS;
+use limits::Copies;
+use limits::Cuts;
+use limits::Free;
+use limits::Marks;
+use limits::Nodes;
+use limits::Points;
+use limits::Row;
 use randomcuttree::RCFTree;
 ghost use mathlib.Core.Path.{_≡_};
 ghost use mathlib.Core.Bool.{true};
 ghost use Prim.Native.Nat.{ℕ, _+_, _*_, _≤_, min};
 ghost use lib.ListN.{length, take};
 ghost use lib.Ieee.{binary32, ofBits};
+ghost use Rattle.limits.specs.Limits.{width, capacityLimit};
 ghost use Rattle.cuttree.specs.Run.{put, add, delete};
 ghost use Rattle.wholetree.specs.Whole.{tab};
 ghost use Rattle.randomcuttree.specs.State.{Lent, lent, SomeState};
@@ -19,11 +33,11 @@ fn at_most(n: usize, most: usize) -> usize
 }
 
 // n coordinates from a place on. A list of nine is longer than any tree's, so a longer one is refused like it.
-fn coordinates_at(run: &[u8], from: usize, n: usize) -> [f32; 9]
-    requires { ⌜ (n ≤ 9) × (from + n ≤ size (now run)) ⌝ }
+fn coordinates_at(run: &[u8], from: usize, n: usize) -> Coordinates
+    requires { ⌜ (n ≤ (width + 1)) × (from + n ≤ size (now run)) ⌝ }
     ensures { λ r. ⌜ take n r ≡ tab n (λ (i : ℕ). ofBits binary32 (number (now (run .entry)) (from + i))) ⌝ }
 {
-    let mut coordinates = [0.0f32; 9];
+    let mut coordinates = [0.0f32; CHANNELS + 1];
     let mut i: usize = 0;
     while i < n {
         coordinates[i] = little::float_of(runlayout::bits_at(run, from + i));
@@ -44,9 +58,9 @@ fn fill_words(run: &[u8], from: usize, n: usize, words: &mut [u64])
     }
 }
 
-// The same in the room lent for words. A tree has 256 leaves at most, so a walk takes no more words.
-fn read_words(run: &[u8], from: usize, n: usize, words: &mut [u64; 256])
-    requires { ⌜ (n ≤ 256) × (from + 2 * n ≤ size (now run)) ⌝ }
+// The same in the room lent for words. A walk takes no more words than a tree has leaves.
+fn read_words(run: &[u8], from: usize, n: usize, words: &mut Words)
+    requires { ⌜ (n ≤ capacityLimit) × (from + 2 * n ≤ size (now run)) ⌝ }
     ensures { λ _. ⌜ take n (now (words .exit)) ≡ tab n (λ (i : ℕ). double (now (run .entry)) (from + 2 * i)) ⌝ }
 {
     fill_words(run, from, n, words);
@@ -54,42 +68,42 @@ fn read_words(run: &[u8], from: usize, n: usize, words: &mut [u64; 256])
 
 fn put_call(
     tree: RCFTree,
-    copies: &[u16; 1024],
-    points: &mut [[f32; 8]; 1024],
-    written: &mut [u8; 1024],
+    copies: &Copies,
+    points: &mut Points,
+    written: &mut Marks,
     run: &[u8],
     p: usize,
-    reply: &mut [usize; 17],
+    reply: &mut Reply,
 )
     requires { ⌜ p + 3 + number (now run) (p + 2) ≤ size (now run) ⌝ }
     ensures { λ _. ⌜ ((a : Lent) → a .copies ≡ now (copies .entry) → Does (λ d. put (number (now (run .entry)) (p + 1)) (coordinatesAt (now (run .entry)) p)) tree a (now (points .entry)) (now (written .entry)) tree a (now (points .exit)) (now (written .exit)) (now (reply .exit))) ⌝ }
 {
     let index = runlayout::number_at(run, p + 1);
-    let n = at_most(runlayout::number_at(run, p + 2), 9);
+    let n = at_most(runlayout::number_at(run, p + 2), CHANNELS + 1);
     let coordinates = coordinates_at(run, p + 3, n);
     calls::put(tree, copies, points, written, index, &coordinates, n, reply);
 }
 
 fn add_call(
     tree: RCFTree,
-    nodes: &mut [[u16; 4]; 255],
-    cuts: &mut [f32; 255],
-    copies: &mut [u16; 1024],
-    free: &mut [[u16; 2]; 255],
-    lows: &mut [[f32; 8]; 255],
-    highs: &mut [[f32; 8]; 255],
-    points: &[[f32; 8]; 1024],
-    written: &[u8; 1024],
+    nodes: &mut Nodes,
+    cuts: &mut Cuts,
+    copies: &mut Copies,
+    free: &mut Free,
+    lows: &mut [Row; BRANCHES],
+    highs: &mut [Row; BRANCHES],
+    points: &Points,
+    written: &Marks,
     run: &[u8],
     p: usize,
-    words: &mut [u64; 256],
-    reply: &mut [usize; 17],
+    words: &mut Words,
+    reply: &mut Reply,
 ) -> RCFTree
     requires { ⌜ (p + 3 + 2 * number (now run) (p + 2) ≤ size (now run)) × SomeState tree (lent (now nodes) (now cuts) (now copies) (now free) (now lows) (now highs)) (now points) (now written) ⌝ }
     ensures { λ r. ⌜ Does (λ d. add (number (now (run .entry)) (p + 1)) (wordsAt (now (run .entry)) p)) tree (lent (now (nodes .entry)) (now (cuts .entry)) (now (copies .entry)) (now (free .entry)) (now (lows .entry)) (now (highs .entry))) (now (points .entry)) (now (written .entry)) r (lent (now (nodes .exit)) (now (cuts .exit)) (now (copies .exit)) (now (free .exit)) (now (lows .exit)) (now (highs .exit))) (now (points .entry)) (now (written .entry)) (now (reply .exit)) ⌝ }
 {
     let index = runlayout::number_at(run, p + 1);
-    let n = at_most(runlayout::number_at(run, p + 2), 256);
+    let n = at_most(runlayout::number_at(run, p + 2), CAPACITY);
     read_words(run, p + 3, n, words);
     calls::add(
         tree,
@@ -110,17 +124,17 @@ fn add_call(
 
 fn delete_call(
     tree: RCFTree,
-    nodes: &mut [[u16; 4]; 255],
-    cuts: &mut [f32; 255],
-    copies: &mut [u16; 1024],
-    free: &mut [[u16; 2]; 255],
-    lows: &mut [[f32; 8]; 255],
-    highs: &mut [[f32; 8]; 255],
-    points: &[[f32; 8]; 1024],
-    written: &[u8; 1024],
+    nodes: &mut Nodes,
+    cuts: &mut Cuts,
+    copies: &mut Copies,
+    free: &mut Free,
+    lows: &mut [Row; BRANCHES],
+    highs: &mut [Row; BRANCHES],
+    points: &Points,
+    written: &Marks,
     run: &[u8],
     p: usize,
-    reply: &mut [usize; 17],
+    reply: &mut Reply,
 ) -> RCFTree
     requires { ⌜ (p + 2 ≤ size (now run)) × SomeState tree (lent (now nodes) (now cuts) (now copies) (now free) (now lows) (now highs)) (now points) (now written) ⌝ }
     ensures { λ r. ⌜ Does (λ d. delete (number (now (run .entry)) (p + 1))) tree (lent (now (nodes .entry)) (now (cuts .entry)) (now (copies .entry)) (now (free .entry)) (now (lows .entry)) (now (highs .entry))) (now (points .entry)) (now (written .entry)) r (lent (now (nodes .exit)) (now (cuts .exit)) (now (copies .exit)) (now (free .exit)) (now (lows .exit)) (now (highs .exit))) (now (points .entry)) (now (written .entry)) (now (reply .exit)) ⌝ }
@@ -145,18 +159,18 @@ fn delete_call(
 // Rules out a call read from another place, and an answer's numbers in another order.
 pub fn call_at(
     tree: RCFTree,
-    nodes: &mut [[u16; 4]; 255],
-    cuts: &mut [f32; 255],
-    copies: &mut [u16; 1024],
-    free: &mut [[u16; 2]; 255],
-    lows: &mut [[f32; 8]; 255],
-    highs: &mut [[f32; 8]; 255],
-    points: &mut [[f32; 8]; 1024],
-    written: &mut [u8; 1024],
+    nodes: &mut Nodes,
+    cuts: &mut Cuts,
+    copies: &mut Copies,
+    free: &mut Free,
+    lows: &mut [Row; BRANCHES],
+    highs: &mut [Row; BRANCHES],
+    points: &mut Points,
+    written: &mut Marks,
     run: &[u8],
     p: usize,
-    words: &mut [u64; 256],
-    reply: &mut [usize; 17],
+    words: &mut Words,
+    reply: &mut Reply,
 ) -> RCFTree
     requires { ⌜ (standsAt (now run) p ≡ true) × SomeState tree (lent (now nodes) (now cuts) (now copies) (now free) (now lows) (now highs)) (now points) (now written) ⌝ }
     ensures { λ r. ⌜ Does (λ d. callAt (now (run .entry)) d p) tree (lent (now (nodes .entry)) (now (cuts .entry)) (now (copies .entry)) (now (free .entry)) (now (lows .entry)) (now (highs .entry))) (now (points .entry)) (now (written .entry)) r (lent (now (nodes .exit)) (now (cuts .exit)) (now (copies .exit)) (now (free .exit)) (now (lows .exit)) (now (highs .exit))) (now (points .exit)) (now (written .exit)) (now (reply .exit)) ⌝ }

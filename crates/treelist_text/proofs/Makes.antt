@@ -5,6 +5,7 @@ use mathlib.Core.List.{List}
 use Prim.Native.Nat.{ℕ}
 use lib.ListN.{replicate}
 use lib.Ieee.{Float}
+use Rattle.limits.specs.Limits.{pointLimit}
 use Rattle.text.specs.Pieces.{piecesFrom}
 use Rattle.cuttree.specs.Run.{fresh}
 use Rattle.wholetree.specs.Whole.{whole}
@@ -22,10 +23,10 @@ use Rattle.treelist_text.specs.Output.{outputFrom, outputBy}
 use Rattle.treelist_text.specs.Running.{Standing}
 
 -- a table with nothing written
-unwritten : (points : List (List Float)) (marks : List ℕ) → points ≡ replicate 1024 noEnds → marks ≡ replicate 1024 0 → record { points = points; written = marks } ≡ tableOf (λ i. none)
+unwritten : (points : List (List Float)) (marks : List ℕ) → points ≡ replicate pointLimit noEnds → marks ≡ replicate pointLimit 0 → record { points = points; written = marks } ≡ tableOf (λ i. none)
 unwritten points marks e f =
-    let p : points ≡ tableOf (λ i. none) .points = e ∙ constant 1024 noEnds _ (λ i. refl) in
-    let m : marks ≡ tableOf (λ i. none) .written = f ∙ constant 1024 0 _ (λ i. refl) in
+    let p : points ≡ tableOf (λ i. none) .points = e ∙ constant pointLimit noEnds _ (λ i. refl) in
+    let m : marks ≡ tableOf (λ i. none) .written = f ∙ constant pointLimit 0 _ (λ i. refl) in
     rw (p, m) refl
 
 module _ {d c : ℕ} {s : Float} {before after : Lent} {made : Made} (M : MakeDone d c s before after made) where
@@ -33,7 +34,7 @@ module _ {d c : ℕ} {s : Float} {before after : Lent} {made : Made} (M : MakeDo
   not-made r n h e os w = let z : madeBy d c s ≡ NotMade r = sym (M .answer) ∙ h in rw (z, ← e) w
 
   module _ (tree : RCFTree) (h : made ≡ Tree tree) where
-    pub begun : (text : List ℕ) (at : ℕ) (points : List (List Float)) (marks : List ℕ) → points ≡ replicate 1024 noEnds → marks ≡ replicate 1024 0
+    pub begun : (text : List ℕ) (at : ℕ) (points : List (List Float)) (marks : List ℕ) → points ≡ replicate pointLimit noEnds → marks ≡ replicate pointLimit 0
         → (os : List Op) → rowsFrom 0 (piecesFrom 10 text at) ≡ opRows os → Standing d c (cachedBy s c) (fresh (whole d) c) os text at 0 tree after points marks
     begun text at points marks e f os r = record { state = M .state tree h points marks (unwritten points marks e f); rest = r }
 

@@ -13,7 +13,7 @@ use Rattle.cuttree.specs.Run.{World, call}
 use Rattle.wholetree.specs.Whole.{whole}
 use Rattle.randomcuttree.specs.declared.RCFTree.{RCFTree}
 use Rattle.randomcuttree.specs.State.{Lent, SomeState}
-use Rattle.calls.specs.Said.{filled, said}
+use Rattle.calls.specs.Said.{filled, said, replyWidth}
 use Rattle.calls.specs.Done.{Done, Does}
 use Rattle.form.specs.Rows.{Op, rowOf}
 use Rattle.form.proofs.Read.{NextRow, next-row, no-row}
@@ -69,8 +69,8 @@ module _ {d c k : ℕ} {before final text : List ℕ} {at n : ℕ} {tree : RCFTr
         done : Done d c k (R .world) (callOf d (next .op)) tree′ a′ points′ marks′ reply
         done = does (next .op) (next .row) d c k (R .world) (R .standing .state)
 
-        pub reply-length : length reply ≡ 17
-        reply-length = ap length (done .reply-is) ∙ length-filled 17 (said d c k (callOf d (next .op)) (call (whole d) c (R .world) (callOf d (next .op))))
+        pub reply-length : length reply ≡ replyWidth
+        reply-length = ap length (done .reply-is) ∙ length-filled replyWidth (said d c k (callOf d (next .op)) (call (whole d) c (R .world) (callOf d (next .op))))
 
         -- the row is told, and the next one stands
         pub turn : {q : ℕ} {o : List ℕ} → Wrote out p (cond (eqb (getD reply 0 0) 0) [] (refusedLine (getD reply 0 0) (n + 1))) q o

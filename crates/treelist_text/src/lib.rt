@@ -1,7 +1,19 @@
 // What `treelist` prints for a text (document 01, 'Printed tree'), written to a lent buffer: the form is checked first, then the op rows are carried out
 // on a bare tree, and the tree is printed after the rows that are refused.
+use calls::REPLY;
 use form::Form;
 use form::MakingRow;
+use limits::BRANCHES;
+use limits::CAPACITY;
+use limits::CHANNELS;
+use limits::Copies;
+use limits::Cuts;
+use limits::Free;
+use limits::Marks;
+use limits::Nodes;
+use limits::POINTS;
+use limits::Points;
+use limits::Row;
 use randomcuttree::Made;
 use randomcuttree::RCFTree;
 ghost use mathlib.Core.Path.{_≡_};
@@ -56,14 +68,14 @@ fn tell_row(out: &mut [u8], at: usize, refusal: usize, row: usize) -> usize
 // The op rows from a place of the text on, each told if it is refused; then the tree.
 fn run_rows(
     tree: RCFTree,
-    nodes: &mut [[u16; 4]; 255],
-    cuts: &mut [f32; 255],
-    copies: &mut [u16; 1024],
-    free: &mut [[u16; 2]; 255],
-    lows: &mut [[f32; 8]; 255],
-    highs: &mut [[f32; 8]; 255],
-    points: &mut [[f32; 8]; 1024],
-    written: &mut [u8; 1024],
+    nodes: &mut Nodes,
+    cuts: &mut Cuts,
+    copies: &mut Copies,
+    free: &mut Free,
+    lows: &mut [Row; BRANCHES],
+    highs: &mut [Row; BRANCHES],
+    points: &mut Points,
+    written: &mut Marks,
     text: &[u8],
     start: usize,
     out: &mut [u8],
@@ -73,9 +85,9 @@ fn run_rows(
     ensures { λ r. ⌜ ((d c k : ℕ) (W : World (whole d)) (os : List Op) → Standing d c k W os (now (text .entry)) start 0 tree (lent (now (nodes .entry)) (now (cuts .entry)) (now (copies .entry)) (now (free .entry)) (now (lows .entry)) (now (highs .entry))) (now (points .entry)) (now (written .entry))
         → Wrote (now (out .entry)) 0 (outputFrom d c W 0 os) r (now (out .exit))) ⌝ }
 {
-    let mut coordinates = [0.0f32; 9];
-    let mut words = [0u64; 256];
-    let mut reply = [0usize; 17];
+    let mut coordinates = [0.0f32; CHANNELS + 1];
+    let mut words = [0u64; CAPACITY];
+    let mut reply = [0usize; REPLY];
     let mut current = tree;
     let mut at = start;
     let mut row: usize = 0;
@@ -120,12 +132,12 @@ fn print_by(
     ensures { λ r. ⌜ ((os : List Op) → rowsFrom 0 (piecesFrom 10 (now (text .entry)) start) ≡ opRows os
         → Wrote (now (out .entry)) 0 (outputBy channels capacity (madeBy channels capacity share) os) r (now (out .exit))) ⌝ }
 {
-    let mut nodes = [[0u16; 4]; 255];
-    let mut cuts = [0.0f32; 255];
-    let mut copies = [0u16; 1024];
-    let mut free = [[0u16; 2]; 255];
-    let mut lows = [[0.0f32; 8]; 255];
-    let mut highs = [[0.0f32; 8]; 255];
+    let mut nodes = [[0u16; 4]; BRANCHES];
+    let mut cuts = [0.0f32; BRANCHES];
+    let mut copies = [0u16; POINTS];
+    let mut free = [[0u16; 2]; BRANCHES];
+    let mut lows = [[0.0f32; CHANNELS]; BRANCHES];
+    let mut highs = [[0.0f32; CHANNELS]; BRANCHES];
     let mut points = pointstore::no_points();
     let mut written = pointstore::no_marks();
     let made = RCFTree::new(

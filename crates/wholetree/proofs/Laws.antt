@@ -4,6 +4,7 @@ use mathlib.Core.Bool.{true, false}
 use Prim.Native.Nat.{ℕ, _%_, _^_, _<_}
 use native.Mathlib.Nat.{mod-lt}
 use lib.Pow.{pow-pos}
+use Rattle.limits.specs.Limits.{width}
 use Rattle.boundingbox.specs.Contained.{contains}
 use Rattle.cut.specs.Document.{documentCut}
 use Rattle.cut.proofs.AsDocument.{as-document}
@@ -29,10 +30,10 @@ leaf-box q = record {
 }
 
 -- and holds no other reading
-only-itself : (p q : Reading) → sameRow (q .row) (p .row) ≡ false → contains (ends (coordinate q)) (ends (coordinate q)) (p .row) (p .row) 8 ≡ false
-only-itself p q s = by-test (contains (ends (coordinate q)) (ends (coordinate q)) (p .row) (p .row) 8) (λ t. clash (sameRow (q .row) (p .row)) (same t) s) (λ t. t)
+only-itself : (p q : Reading) → sameRow (q .row) (p .row) ≡ false → contains (ends (coordinate q)) (ends (coordinate q)) (p .row) (p .row) width ≡ false
+only-itself p q s = by-test (contains (ends (coordinate q)) (ends (coordinate q)) (p .row) (p .row) width) (λ t. clash (sameRow (q .row) (p .row)) (same t) s) (λ t. t)
   where
-    same : contains (ends (coordinate q)) (ends (coordinate q)) (p .row) (p .row) 8 ≡ true → sameRow (q .row) (p .row) ≡ true
+    same : contains (ends (coordinate q)) (ends (coordinate q)) (p .row) (p .row) width ≡ true → sameRow (q .row) (p .row) ≡ true
     same t =
         let e : q ≡ p = same-channels q p (λ i h. let k = held (leaf-box q) p t i in sym (coordinate-is q i h) ∙ ap (λ (n : Number). n .value) (le-antisym (coordinate q i) (coordinate p i) (k .0) (k .1)) ∙ coordinate-is p i h) in
         subst (λ (r : Reading). sameRow (q .row) (r .row) ≡ true) e (same-refl q)
@@ -46,8 +47,8 @@ parts-leaf d p q w s =
     let R = are-readings (leaf-box q) p in
     let o = only-itself p q s in
     parted-in (leaf-box q) p d v h
-    ∙ ap partedIn (as-document 8 (ends (coordinate q)) (ends (coordinate q)) (p .row) v R h)
-    ∙ rw o (leaf-parts 8 (ends (coordinate q)) (p .row) v R o h)
+    ∙ ap partedIn (as-document width (ends (coordinate q)) (ends (coordinate q)) (p .row) v R h)
+    ∙ rw o (leaf-parts width (ends (coordinate q)) (p .row) v R o h)
 
 pub whole-laws : (d : ℕ) → Laws (whole d)
 whole-laws d = record {

@@ -12,6 +12,7 @@ use lib.Seq.{ext-getD}
 use lib.Ieee.{Float, nan, binary32, fits, eq}
 use lib.Ieee.Bits.{is-true}
 use lib.Ieee.Fits.{and-i, and-l, and-r, eq→eqb}
+use Rattle.limits.specs.Limits.{width}
 use Rattle.readings.specs.Coordinate.{isCoordinate, rank}
 use Rattle.readings.proofs.Tests.{yes, no, leb-yes, leb-no}
 use Rattle.readings.proofs.Ranks.{eq-rank, eq-same}
@@ -92,50 +93,50 @@ unfolding isCoordinate32
 coordinate-fits x t = and-r (isCoordinate x) (fits binary32 x) t
 
 -- ---- a reading's row
-pub row-length : (p : Reading) → length (p .row) ≡ 8
+pub row-length : (p : Reading) → length (p .row) ≡ width
 unfolding isRow
-row-length p = eqb→eq (length (p .row)) 8 (and-l (eqb (length (p .row)) 8) (every (λ (i : ℕ). isCoordinate32 (channel (p .row) i)) 8) (p .is-row))
+row-length p = eqb→eq (length (p .row)) width (and-l (eqb (length (p .row)) width) (every (λ (i : ℕ). isCoordinate32 (channel (p .row) i)) width) (p .is-row))
 
-pub row-at : (p : Reading) (i : ℕ) → i < 8 → T (isCoordinate32 (channel (p .row) i))
+pub row-at : (p : Reading) (i : ℕ) → i < width → T (isCoordinate32 (channel (p .row) i))
 unfolding isRow
-row-at p i h = every-at (λ (i : ℕ). isCoordinate32 (channel (p .row) i)) 8 i (and-r (eqb (length (p .row)) 8) (every (λ (i : ℕ). isCoordinate32 (channel (p .row) i)) 8) (p .is-row)) h
+row-at p i h = every-at (λ (i : ℕ). isCoordinate32 (channel (p .row) i)) width i (and-r (eqb (length (p .row)) width) (every (λ (i : ℕ). isCoordinate32 (channel (p .row) i)) width) (p .is-row)) h
 
-pub is-a-row : (xs : List Float) → length xs ≡ 8 → ((i : ℕ) → i < 8 → T (isCoordinate32 (channel xs i))) → T (isRow xs)
+pub is-a-row : (xs : List Float) → length xs ≡ width → ((i : ℕ) → i < width → T (isCoordinate32 (channel xs i))) → T (isRow xs)
 unfolding isRow
-is-a-row xs l h = and-i (eqb (length xs) 8) (every (λ (i : ℕ). isCoordinate32 (channel xs i)) 8) (eq→eqb l) (every-all (λ (i : ℕ). isCoordinate32 (channel xs i)) 8 h)
+is-a-row xs l h = and-i (eqb (length xs) width) (every (λ (i : ℕ). isCoordinate32 (channel xs i)) width) (eq→eqb l) (every-all (λ (i : ℕ). isCoordinate32 (channel xs i)) width h)
 
 -- a reading is known by its row, and a row by its channels
 pub same-reading : (p q : Reading) → p .row ≡ q .row → p ≡ q
 same-reading p q e = λ i. record { row = e i; is-row = isProp→PathP (λ j. T (isRow (e j))) (λ j. T-prop (isRow (e j))) (p .is-row) (q .is-row) i }
 
-pub same-channels : (p q : Reading) → ((i : ℕ) → i < 8 → channel (p .row) i ≡ channel (q .row) i) → p ≡ q
+pub same-channels : (p q : Reading) → ((i : ℕ) → i < width → channel (p .row) i ≡ channel (q .row) i) → p ≡ q
 same-channels p q h = same-reading p q (ext-getD nan (p .row) (q .row) (row-length p ∙ sym (row-length q)) (λ i l. h i (subst (λ (n : ℕ). i < n) (row-length p) l)))
 
 -- its coordinates, and zero beyond
-pub coordinate-is : (p : Reading) (i : ℕ) → i < 8 → coordinate p i .value ≡ channel (p .row) i
+pub coordinate-is : (p : Reading) (i : ℕ) → i < width → coordinate p i .value ≡ channel (p .row) i
 unfolding coordinate
 coordinate-is p i h = rw (leb-yes h) (number-is (channel (p .row) i) (coordinate-number (channel (p .row) i) (row-at p i h)))
 
-pub coordinate-beyond : (p : Reading) (i : ℕ) → 8 ≤ i → coordinate p i ≡ zeroNumber
+pub coordinate-beyond : (p : Reading) (i : ℕ) → width ≤ i → coordinate p i ≡ zeroNumber
 unfolding coordinate zeroNumber
 coordinate-beyond p i h = same-number (coordinate p i) zeroNumber (rw (leb-no (suc-le-suc h)) (number-is nought (coordinate-number nought nought-coordinate)))
 
 pub coordinate-at : (p : Reading) (i : ℕ) → T (isCoordinate32 (coordinate p i .value))
 unfolding zeroNumber
-coordinate-at p i = by-test (ltb i 8)
-    (λ l. let h : i < 8 = ltb→lt i 8 (yes l) in rw (coordinate-is p i h) (row-at p i h))
-    (λ l. rw (coordinate-beyond p i (nltb→le i 8 (no l))) nought-coordinate)
+coordinate-at p i = by-test (ltb i width)
+    (λ l. let h : i < width = ltb→lt i width (yes l) in rw (coordinate-is p i h) (row-at p i h))
+    (λ l. rw (coordinate-beyond p i (nltb→le i width (no l))) nought-coordinate)
 
 -- ---- the same reading
 pub same-is : (p q : Reading) → sameRow (p .row) (q .row) ≡ true → p ≡ q
 unfolding sameRow
 same-is p q e = same-channels p q (λ i h. let x = channel (p .row) i in let y = channel (q .row) i in
     eq-same x y (of-coordinate x (row-at p i h)) (of-coordinate y (row-at q i h)) (coordinate-fits x (row-at p i h)) (coordinate-fits y (row-at q i h))
-    (is-true (eq x y) (every-at (λ (i : ℕ). eq (channel (p .row) i) (channel (q .row) i)) 8 i (yes e) h)))
+    (is-true (eq x y) (every-at (λ (i : ℕ). eq (channel (p .row) i) (channel (q .row) i)) width i (yes e) h)))
 
 pub same-refl : (p : Reading) → sameRow (p .row) (p .row) ≡ true
 unfolding sameRow
-same-refl p = is-true (sameRow (p .row) (p .row)) (every-all (λ (i : ℕ). eq (channel (p .row) i) (channel (p .row) i)) 8 (λ i h. let x = channel (p .row) i in subst T (sym (eq-rank x x (of-coordinate x (row-at p i h)) (of-coordinate x (row-at p i h)))) (eqb-refl (rank x))))
+same-refl p = is-true (sameRow (p .row) (p .row)) (every-all (λ (i : ℕ). eq (channel (p .row) i) (channel (p .row) i)) width (λ i h. let x = channel (p .row) i in subst T (sym (eq-rank x x (of-coordinate x (row-at p i h)) (of-coordinate x (row-at p i h)))) (eqb-refl (rank x))))
 
 pub same-cong : (p q : Reading) → sameRow (p .row) (q .row) ≡ true → (v : Reading) → sameRow (p .row) (v .row) ≡ sameRow (q .row) (v .row)
 same-cong p q e v = ap (λ (r : Reading). sameRow (r .row) (v .row)) (same-is p q e)
@@ -144,15 +145,15 @@ pub same-at : (p q : Reading) → sameRow (p .row) (q .row) ≡ true → (i : �
 same-at p q e i = ap (λ (r : Reading). coordinate r i) (same-is p q e)
 
 -- ---- the reading of coordinates that a put brings: they are its row, with +0.0 after them
-pub padded-row : (xs : List Float) → T (allCoordinates xs) → T (isRow (padded 8 xs))
-padded-row xs t = is-a-row (padded 8 xs) (padded-length 8 xs) (λ i h. by-test (ltb i (length xs))
-    (λ l. let k : i < length xs = ltb→lt i (length xs) (yes l) in subst (λ (x : Float). T (isCoordinate32 x)) (sym (padded-at 8 xs i k h)) (all-at xs i t k))
-    (λ l. subst (λ (x : Float). T (isCoordinate32 x)) (sym (padded-beyond 8 xs i (nltb→le i (length xs) (no l)) h)) nought-coordinate))
+pub padded-row : (xs : List Float) → T (allCoordinates xs) → T (isRow (padded width xs))
+padded-row xs t = is-a-row (padded width xs) (padded-length width xs) (λ i h. by-test (ltb i (length xs))
+    (λ l. let k : i < length xs = ltb→lt i (length xs) (yes l) in subst (λ (x : Float). T (isCoordinate32 x)) (sym (padded-at width xs i k h)) (all-at xs i t k))
+    (λ l. subst (λ (x : Float). T (isCoordinate32 x)) (sym (padded-beyond width xs i (nltb→le i (length xs) (no l)) h)) nought-coordinate))
 
-pub reading-row : (xs : List Float) → T (allCoordinates xs) → reading xs .row ≡ padded 8 xs
+pub reading-row : (xs : List Float) → T (allCoordinates xs) → reading xs .row ≡ padded width xs
 unfolding reading
-reading-row xs t = go (isRow (padded 8 xs)) (λ u. u) (padded-row xs t)
+reading-row xs t = go (isRow (padded width xs)) (λ u. u) (padded-row xs t)
   where
-    go : (b : Bool) (f : T b → T (isRow (padded 8 xs))) → T b → asReading (padded 8 xs) b f .row ≡ padded 8 xs
+    go : (b : Bool) (f : T b → T (isRow (padded width xs))) → T b → asReading (padded width xs) b f .row ≡ padded width xs
     go true f u = refl
     go false f u = absurd u

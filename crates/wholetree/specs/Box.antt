@@ -4,6 +4,7 @@ use mathlib.Core.Bool.{Bool, true, false}
 use Prim.Native.Nat.{ℕ, _≤_, _<_}
 use lib.Dec.{T}
 use lib.Ieee.{le}
+use Rattle.limits.specs.Limits.{width}
 use Rattle.cut.specs.declared.Cut.{Cut}
 use Rattle.cut.specs.declared.Separation.{Separation}
 use Rattle.cut.specs.declared.Separation.the-variants.{NoCut, Drawn}
@@ -17,8 +18,8 @@ pub record CoordinateBox (lo hi : ℕ → Number) : Type 0 where
   pub lower : (i : ℕ) → T (isCoordinate32 (lo i .value))
   pub upper : (i : ℕ) → T (isCoordinate32 (hi i .value))
   pub ordered : (i : ℕ) → le (lo i .value) (hi i .value) ≡ true
-  pub beyond-lower : (i : ℕ) → 8 ≤ i → lo i ≡ zero
-  pub beyond-upper : (i : ℕ) → 8 ≤ i → hi i ≡ zero
+  pub beyond-lower : (i : ℕ) → width ≤ i → lo i ≡ zero
+  pub beyond-upper : (i : ℕ) → width ≤ i → hi i ≡ zero
 
 -- whether the cut drawn parts; where none is drawn, the box holds the point
 abbrev pub partedIn : Separation → Bool
@@ -27,7 +28,7 @@ partedIn (Drawn k b) = b
 
 -- a drawn cut k as one of the tree's, which parts the point p from the box where b says so
 pub record TreeCut (d : ℕ) (lo hi : ℕ → Number) (p : Reading) (k : Cut) (b : Bool) : Type 0 where
-  pub in-row : k .dimension < 8
+  pub in-row : k .dimension < width
   pub is-number : T (isNumber (k .value))
   pub value-is : number (k .value) .value ≡ k .value
   pub parts-so : parts (whole d) (cutIn (Drawn k b)) lo hi p ≡ b

@@ -5,6 +5,7 @@ use Prim.Native.Nat.{ℕ, zero, suc}
 use lib.Dec.{T, eqb, ltb}
 use lib.ListN.{length}
 use lib.Ieee.{Float, binary32, fits, eq}
+use Rattle.limits.specs.Limits.{width}
 use Rattle.readings.specs.Coordinate.{isCoordinate}
 use Rattle.boundingbox.specs.Ends.{channel}
 use Rattle.boundingbox.specs.Sides.{nought}
@@ -18,7 +19,7 @@ isCoordinate32 x = isCoordinate x && fits binary32 x
 
 unfoldable pub isRow : List Float → Bool
 unfolding isCoordinate32 every
-isRow xs = eqb (length xs) 8 && every (λ (i : ℕ). isCoordinate32 (channel xs i)) 8
+isRow xs = eqb (length xs) width && every (λ (i : ℕ). isCoordinate32 (channel xs i)) width
 
 pub record Reading : Type 0 where
   pub row : List Float
@@ -26,12 +27,12 @@ pub record Reading : Type 0 where
 
 -- the coordinate in channel i, zero beyond the row
 unfoldable pub coordinate : Reading → ℕ → Number
-coordinate p i = number (cond (ltb i 8) (channel (p .row) i) nought)
+coordinate p i = number (cond (ltb i width) (channel (p .row) i) nought)
 
 -- equal in every channel
 unfoldable pub sameRow : List Float → List Float → Bool
 unfolding every eq
-sameRow xs ys = every (λ (i : ℕ). eq (channel xs i) (channel ys i)) 8
+sameRow xs ys = every (λ (i : ℕ). eq (channel xs i) (channel ys i)) width
 
 -- the first n of xs, with +0.0 after its end
 unfoldable pub padded : ℕ → List Float → List Float
@@ -41,7 +42,7 @@ padded (suc n) (x ∷ xs) = x ∷ padded n xs
 
 unfoldable pub origin : Reading
 unfolding isRow padded
-origin = record { row = padded 8 []; is-row = tt }
+origin = record { row = padded width []; is-row = tt }
 
 -- coordinates as a reading, and the origin where they are none
 unfoldable pub asReading : (xs : List Float) (b : Bool) → (T b → T (isRow xs)) → Reading
@@ -50,4 +51,4 @@ asReading xs false f = origin
 
 unfoldable pub reading : List Float → Reading
 unfolding asReading
-reading xs = asReading (padded 8 xs) (isRow (padded 8 xs)) (λ t. t)
+reading xs = asReading (padded width xs) (isRow (padded width xs)) (λ t. t)

@@ -5,6 +5,7 @@ use Prim.Native.Nat.{ℕ, zero, suc, _%_, _^_}
 use lib.Dec.{eqb}
 use lib.ListN.{length}
 use lib.Ieee.{Float, le}
+use Rattle.limits.specs.Limits.{width, pointLimit, totalLimit}
 use Rattle.cut.specs.declared.Separation.{Separation}
 use Rattle.cut.specs.declared.Separation.the-variants.{NoCut, Drawn}
 use Rattle.cut.specs.Draw.{separation}
@@ -19,7 +20,7 @@ tab (suc n) f = f 0 ∷ tab n (λ (i : ℕ). f (suc i))
 
 -- the ends of a box as a row of floats
 abbrev pub ends : (ℕ → Number) → List Float
-ends f = tab 8 (λ (i : ℕ). f i .value)
+ends f = tab width (λ (i : ℕ). f i .value)
 
 -- The cut that is drawn. Where none is, the box holds the point and no cut parts, so any will do.
 abbrev pub cutIn : Separation → CutOf ℕ Number
@@ -41,11 +42,11 @@ whole d = record {
   le = λ a b. le (a .value) (b .value);
   at = coordinate;
   same = λ p q. sameRow (p .row) (q .row);
-  draw = λ lo hi p w. cutIn (separation 8 (ends lo) (ends hi) (p .row) (w % 2 ^ 64));
+  draw = λ lo hi p w. cutIn (separation width (ends lo) (ends hi) (p .row) (w % 2 ^ 64));
   noWord = 0;
   counted = λ xs. eqb (length xs) d;
   good = allCoordinates;
   point = reading;
-  indices = 1024;
-  limit = 65535;
+  indices = pointLimit;
+  limit = totalLimit;
 }

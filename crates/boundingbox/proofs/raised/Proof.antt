@@ -3,16 +3,17 @@ use borrow.Author.Needs.{needs}
 use native.Mathlib.Omega.{arith}
 use mathlib.Core.Path.{_≡_, _∙_}
 use Prim.Native.Nat.{_≤_, _-_}
+use Rattle.limits.specs.Limits.{width}
 use Rattle.boundingbox.specs.Ends.{greatest}
 use Rattle.boundingbox.proofs.Joined.{written, written-turn, written-all}
 use Rattle.boundingbox.proofs.raised.Statement.{statement}
 use Rattle.boundingbox.proofs.raised.Tie as tie
 
 abbrev Inv-loop : tie.InvT-loop
-Inv-loop values moved₀ i₀ moved i = (i ≤ 8) × (moved ≡ written greatest moved₀ values i)
+Inv-loop values moved₀ i₀ moved i = (i ≤ width) × (moved ≡ written greatest moved₀ values i)
 
 abbrev μ-loop : tie.MeasureT-loop
-μ-loop values moved₀ i₀ moved i = 8 - i
+μ-loop values moved₀ i₀ moved i = width - i
 
 loop-holds : tie.Need-loop-holds Inv-loop μ-loop
 loop-holds c = search needs
@@ -51,8 +52,8 @@ loop-again c =
 
 returns : tie.Need-returns Inv-loop μ-loop
 returns c =
-    let e : c .before .loop .i ≡ 8 = omega arith in
-    c .before .loop .inv .1 ∙ rw e (written-all greatest _ _ 8 (search needs))
+    let e : c .before .loop .i ≡ width = omega arith in
+    c .before .loop .inv .1 ∙ rw e (written-all greatest _ _ width (search needs))
 
 pub raised-spec : {M : Type 1} → statement M
 raised-spec =

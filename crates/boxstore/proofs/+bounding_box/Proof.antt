@@ -1,5 +1,6 @@
 -- `bounding_box` meets its contract. What falls with each call is how deep the rows go below the node. Assumes nothing.
 use native.Mathlib.Omega.{arith}
+use Rattle.limits.specs.Limits.{capacityLimit}
 use Rattle.boxstore.proofs.Depths.{deep}
 use Rattle.boxstore.proofs.Parts.{at-leaf, at-cached, in-table, Parts, parts, sides-given, sides-box}
 use Prim.Native.Nat.{ℕ, _<_}
@@ -16,7 +17,7 @@ use Rattle.boxstore.proofs.+bounding_box.{statement}
 use Rattle.boxstore.proofs.+bounding_box.Tie.{close}
 
 abbrev μ-bounding-box : Measures 4 bounding-box-kinds.ps ℕ
-μ-bounding-box κs a = deep (a .1 .0 .now) (a .1 .1 .1 .1 .1 .0) 256 (a .0)
+μ-bounding-box κs a = deep (a .1 .0 .now) (a .1 .1 .1 .1 .1 .0) capacityLimit (a .0)
 
 abbrev bounding-box-at : ℕ → In 4 bounding-box-kinds.ps
 bounding-box-at t =

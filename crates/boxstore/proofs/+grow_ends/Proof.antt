@@ -1,6 +1,7 @@
 -- `grow_ends` meets its contract. What falls with each call is how deep the rows go below the node. Assumes nothing.
 use borrow.Author.Needs.{needs}
 use native.Mathlib.Omega.{arith}
+use Rattle.limits.specs.Limits.{capacityLimit}
 use Rattle.boxstore.proofs.Parts.{at-leaf, at-cached, in-table, Parts, parts, sides-grown}
 use Prim.Native.Nat.{ℕ, _<_}
 use Rattle.boxstore.proofs.Depths.{deep}
@@ -15,7 +16,7 @@ use Rattle.boxstore.proofs.+grow_ends.{statement}
 use Rattle.boxstore.proofs.+grow_ends.Tie.{close}
 
 abbrev μ-grow-ends : Measures 6 grow-ends-kinds.ps ℕ
-μ-grow-ends κs a = deep (a .1 .1 .1 .0 .now) (a .1 .1 .1 .1 .1 .1 .1 .0) 256 (a .1 .1 .0)
+μ-grow-ends κs a = deep (a .1 .1 .1 .0 .now) (a .1 .1 .1 .1 .1 .1 .1 .0) capacityLimit (a .1 .1 .0)
 
 abbrev grow-ends-at : ℕ → In 6 grow-ends-kinds.ps
 grow-ends-at t = and 6 grow-ends-kinds.ps (is 6 grow-ends-kinds.ps μ-grow-ends t) grow-ends.Pre

@@ -2,13 +2,14 @@
 use borrow.Author.Needs.{needs}
 use native.Mathlib.Omega.{arith}
 use Prim.Native.Nat.{_≤_}
+use Rattle.limits.specs.Limits.{capacityLimit, branchLimit}
 use Rattle.boxstore.proofs.Climbs.{Climbed, climb-start, climb-turn, climb-stop, climb-end}
 use Rattle.boxstore.proofs.grow_ancestors.Statement.{statement}
 use Rattle.boxstore.proofs.grow_ancestors.Tie as tie
 
 abbrev Inv-loop : tie.InvT-loop
 Inv-loop lows₀ highs₀ path n point cached row₀ lows highs row =
-    (row ≤ n) × (n ≤ 256) × (cached ≤ 255) × Climbed cached n path point lows₀ highs₀ lows highs row
+    (row ≤ n) × (n ≤ capacityLimit) × (cached ≤ branchLimit) × Climbed cached n path point lows₀ highs₀ lows highs row
 
 abbrev μ-loop : tie.MeasureT-loop
 μ-loop lows₀ highs₀ path n point cached row₀ lows highs row = row

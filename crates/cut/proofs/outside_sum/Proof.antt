@@ -4,6 +4,7 @@ use native.Mathlib.Numerals.{add-one}
 use mathlib.Core.Path.{_≡_, refl, _∙_}
 use Prim.Native.Nat.{_≤_, _-_, zero-le}
 use lib.Ieee.{ofBits}
+use Rattle.limits.specs.Limits.{width}
 use Rattle.boundingbox.specs.Sides.{total}
 use Rattle.cut.specs.Draw.{outsideSum}
 use borrow.Author.Needs.{needs}
@@ -11,10 +12,10 @@ use Rattle.cut.proofs.outside_sum.Statement.{statement}
 use Rattle.cut.proofs.outside_sum.Tie as tie
 
 abbrev Inv-loop : tie.InvT-loop
-Inv-loop point low high sum₀ i₀ sum i = (i ≤ 8) × (sum ≡ outsideSum low high point i)
+Inv-loop point low high sum₀ i₀ sum i = (i ≤ width) × (sum ≡ outsideSum low high point i)
 
 abbrev μ-loop : tie.MeasureT-loop
-μ-loop point low high sum₀ i₀ sum i = 8 - i
+μ-loop point low high sum₀ i₀ sum i = width - i
 
 loop-holds : tie.Need-loop-holds Inv-loop μ-loop
 unfolding outsideSum total ofBits
@@ -53,7 +54,7 @@ loop-again c = (omega arith, rw (add-one, c .outside-of .ensures, c .before .bef
 
 returns : tie.Need-returns Inv-loop μ-loop
 returns c =
-    let e : c .before .loop .i ≡ 8 = omega arith in
+    let e : c .before .loop .i ≡ width = omega arith in
     c .before .loop .inv .1 ∙ rw e
 
 pub outside-sum-spec : {M : Type 1} → statement M

@@ -4,6 +4,7 @@ use mathlib.Core.Path.{_≡_, refl}
 use Prim.Native.Nat.{ℕ, _+_, _≤_, _<_, _-_, zero-le}
 use lib.ListN.{length, getD}
 use lib.Ieee.{nan, ofBits}
+use Rattle.limits.specs.Limits.{width}
 use Rattle.boundingbox.specs.Sides.{total}
 use Rattle.cut.specs.Draw.{sideOf}
 use Rattle.cut.proofs.Sums.{sums-turn}
@@ -13,10 +14,10 @@ use Rattle.cut.proofs.running_sums.Statement.{statement}
 use Rattle.cut.proofs.running_sums.Tie as tie
 
 abbrev Inv-loop : tie.InvT-loop
-Inv-loop point low high sums₀ i₀ sums i = (i ≤ 8) × (length sums ≡ 9) × ((j : ℕ) → j < i + 1 → getD sums j nan ≡ total (sideOf low high point) j)
+Inv-loop point low high sums₀ i₀ sums i = (i ≤ width) × (length sums ≡ width + 1) × ((j : ℕ) → j < i + 1 → getD sums j nan ≡ total (sideOf low high point) j)
 
 abbrev μ-loop : tie.MeasureT-loop
-μ-loop point low high sums₀ i₀ sums i = 8 - i
+μ-loop point low high sums₀ i₀ sums i = width - i
 
 loop-holds : tie.Need-loop-holds Inv-loop μ-loop
 unfolding total ofBits

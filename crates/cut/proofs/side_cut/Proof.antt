@@ -2,6 +2,7 @@
 use native.Mathlib.Omega.{arith}
 use mathlib.Core.Path.{_≡_, refl, sym, _∙_}
 use Prim.Native.Nat.{_≤_, _-_, zero-le}
+use Rattle.limits.specs.Limits.{width}
 use Rattle.cut.specs.Draw.{sideOf, sideFrom}
 use Rattle.cut.proofs.Turns.{turn-ends, turn-goes-on, turns-done}
 use borrow.Author.Needs.{needs}
@@ -9,10 +10,10 @@ use Rattle.cut.proofs.side_cut.Statement.{statement}
 use Rattle.cut.proofs.side_cut.Tie as tie
 
 abbrev Inv-loop : tie.InvT-loop
-Inv-loop point range low high rest₀ i₀ rest i = (i ≤ 8) × (sideFrom (sideOf low high point) (8 - i) i rest ≡ sideFrom (sideOf low high point) 8 0 range)
+Inv-loop point range low high rest₀ i₀ rest i = (i ≤ width) × (sideFrom (sideOf low high point) (width - i) i rest ≡ sideFrom (sideOf low high point) width 0 range)
 
 abbrev μ-loop : tie.MeasureT-loop
-μ-loop point range low high rest₀ i₀ rest i = 8 - i
+μ-loop point range low high rest₀ i₀ rest i = width - i
 
 loop-holds : tie.Need-loop-holds Inv-loop μ-loop
 loop-holds c = (zero-le, refl)
@@ -45,7 +46,7 @@ returns : tie.Need-returns Inv-loop μ-loop
 unfolding sideOf
 returns c =
     let l = c .before .before .before .before .before .loop in
-    sym (turn-ends _ 8 _ _ _ _ (omega arith) (c .before .before .side-with .ensures) (c .before .side-reaches .ensures) (c .if1 .taken)) ∙ l .inv .1
+    sym (turn-ends _ width _ _ _ _ (omega arith) (c .before .before .side-with .ensures) (c .before .side-reaches .ensures) (c .if1 .taken)) ∙ l .inv .1
 
 left-of-requires : tie.Need-left-of-requires Inv-loop μ-loop
 left-of-requires c κs = search needs
@@ -60,10 +61,10 @@ loop-again : tie.Need-loop-again Inv-loop μ-loop
 unfolding sideOf
 loop-again c =
     let l = c .before .before .before .before .before .before .loop in
-    (omega arith, sym (turn-goes-on _ 8 _ _ _ _ (omega arith) (c .before .before .before .side-with .ensures) (c .before .before .side-reaches .ensures) (c .before .if1 .left) _ (c .left-of .ensures)) ∙ l .inv .1)
+    (omega arith, sym (turn-goes-on _ width _ _ _ _ (omega arith) (c .before .before .before .side-with .ensures) (c .before .before .side-reaches .ensures) (c .before .if1 .left) _ (c .left-of .ensures)) ∙ l .inv .1)
 
 returns-2 : tie.Need-returns-2 Inv-loop μ-loop
-returns-2 c = sym (turns-done _ 8 _ _ (omega arith)) ∙ c .before .loop .inv .1
+returns-2 c = sym (turns-done _ width _ _ (omega arith)) ∙ c .before .loop .inv .1
 
 pub side-cut-spec : {M : Type 1} → statement M
 side-cut-spec =

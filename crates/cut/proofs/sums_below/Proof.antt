@@ -4,6 +4,7 @@ use mathlib.Core.Path.{_≡_, refl, _∙_}
 use Prim.Native.Nat.{ℕ, _+_, _≤_, _-_, zero-le}
 use lib.ListN.{getD}
 use lib.Ieee.{nan}
+use Rattle.limits.specs.Limits.{width}
 use Rattle.cut.specs.Sums.{countBelow}
 use Rattle.cut.proofs.Sums.{count-turn, turn-most}
 use borrow.Author.Needs.{needs}
@@ -11,10 +12,10 @@ use Rattle.cut.proofs.sums_below.Statement.{statement}
 use Rattle.cut.proofs.sums_below.Tie as tie
 
 abbrev Inv-loop : tie.InvT-loop
-Inv-loop bound sums count₀ i₀ count i = (i ≤ 8) × (count ≡ countBelow (λ (j : ℕ). getD sums (j + 1) nan) bound i)
+Inv-loop bound sums count₀ i₀ count i = (i ≤ width) × (count ≡ countBelow (λ (j : ℕ). getD sums (j + 1) nan) bound i)
 
 abbrev μ-loop : tie.MeasureT-loop
-μ-loop bound sums count₀ i₀ count i = 8 - i
+μ-loop bound sums count₀ i₀ count i = width - i
 
 loop-holds : tie.Need-loop-holds Inv-loop μ-loop
 unfolding countBelow
@@ -50,7 +51,7 @@ loop-again c =
 
 returns : tie.Need-returns Inv-loop μ-loop
 returns c =
-    let e : c .before .loop .i ≡ 8 = omega arith in
+    let e : c .before .loop .i ≡ width = omega arith in
     c .before .loop .inv .1 ∙ rw e
 
 pub sums-below-spec : {M : Type 1} → statement M

@@ -1,5 +1,6 @@
 -- `print_node` meets its contract. What falls with each call is how deep the rows go below the node. Assumes nothing.
 use native.Mathlib.Omega.{arith}
+use Rattle.limits.specs.Limits.{capacityLimit}
 use Rattle.lines.proofs.Writes.{long}
 use Rattle.boxstore.proofs.Depths.{deep}
 use Rattle.listing.proofs.Parts.{same-length, in-table, leaf-printed, branch-printed, Parts, parts}
@@ -17,7 +18,7 @@ use Rattle.listing.proofs.+print_node.{statement}
 use Rattle.listing.proofs.+print_node.Tie.{close}
 
 abbrev μ-print-node : Measures 4 print-node-kinds.ps ℕ
-μ-print-node κs a = deep (a .1 .0 .now) (a .1 .1 .1 .1 .0) 256 (a .0)
+μ-print-node κs a = deep (a .1 .0 .now) (a .1 .1 .1 .1 .0) capacityLimit (a .0)
 
 abbrev print-node-at : ℕ → In 4 print-node-kinds.ps
 print-node-at t =

@@ -1,5 +1,6 @@
 -- `drop_copy` meets its contract: it changes the leaf's copies and the masses of the branches above. Assumes nothing.
 use native.Mathlib.Omega.{arith}
+use Rattle.limits.specs.Limits.{totalLimit}
 use Rattle.nodestore.proofs.Ends.{index-low, copy-climb, less-arrays}
 use borrow.Author.Needs.{needs}
 use Rattle.nodestore.proofs.drop_copy.Statement.{statement}
@@ -12,7 +13,7 @@ sub-manage-ancestors-delete : tie.Need-sub-manage-ancestors-delete
 sub-manage-ancestors-delete c = search needs
 
 manage-ancestors-delete-requires : tie.Need-manage-ancestors-delete-requires
-manage-ancestors-delete-requires c κs = let s = c .before .before .before .pre .0 in (omega (arith, s .reached .walked .most), (s .reached .walked .long, copy-climb (s .reached) 65535 (s .room)))
+manage-ancestors-delete-requires c κs = let s = c .before .before .before .pre .0 in (omega (arith, s .reached .walked .most), (s .reached .walked .long, copy-climb (s .reached) totalLimit (s .room)))
 
 returns : tie.Need-returns
 returns c = λ d x cuts t p w. rw (c .manage-ancestors-delete .ensures, c .before .before .one-less .ensures) (less-arrays w (c .before .before .before .before .pre .1))

@@ -3,6 +3,7 @@ use mathlib.Core.Path.{_≡_, _∙_}
 use Prim.Native.Nat.{_-_, _≤_}
 use native.Mathlib.Omega.{arith}
 use lib.ListN.{take, drop}
+use Rattle.limits.specs.Limits.{totalLimit}
 use Rattle.nodestore.specs.Rows.{massOver, lighter}
 use Rattle.nodestore.proofs.Masses.{Turn, turn, begin}
 use borrow.Author.Needs.{needs}
@@ -16,7 +17,7 @@ abbrev μ-loop : tie.MeasureT-loop
 μ-loop nodes₀ path n k₀ nodes k = k
 
 -- what is known of the row that is next
-here : (c : tie.After-wide16 Inv-loop μ-loop) → Turn lighter 1 65535 (c .before .before .before .before .before .args .nodes .now) (c .before .before .before .before .before .args .path .now) (c .before .before .before .before .before .args .n)
+here : (c : tie.After-wide16 Inv-loop μ-loop) → Turn lighter 1 totalLimit (c .before .before .before .before .before .args .nodes .now) (c .before .before .before .before .before .args .path .now) (c .before .before .before .before .before .args .n)
     (c .before .before .before .before .loop .nodes) (c .before .before .before .before .loop .k - 1) (c .wide16 .result)
 here c =
     let s = c .before .before .before .before .before in

@@ -4,6 +4,7 @@ use mathlib.Core.Bool.{true}
 use Prim.Native.Nat.{ℕ, _≤_, _-_}
 use native.Mathlib.Omega.{arith}
 use lib.Ieee.{eq}
+use Rattle.limits.specs.Limits.{width}
 use Rattle.boundingbox.specs.Ends.{channel}
 use Rattle.boundingbox.specs.Contained.{every}
 use Rattle.boundingbox.proofs.Every.{every-next, every-fails}
@@ -13,10 +14,10 @@ use Rattle.nodestore.proofs.same_point.Statement.{statement}
 use Rattle.nodestore.proofs.same_point.Tie as tie
 
 abbrev Inv-loop : tie.InvT-loop
-Inv-loop a b i₀ i = (i ≤ 8) × (every (λ (j : ℕ). eq (channel a j) (channel b j)) i ≡ true)
+Inv-loop a b i₀ i = (i ≤ width) × (every (λ (j : ℕ). eq (channel a j) (channel b j)) i ≡ true)
 
 abbrev μ-loop : tie.MeasureT-loop
-μ-loop a b i₀ i = 8 - i
+μ-loop a b i₀ i = width - i
 
 loop-holds : tie.Need-loop-holds Inv-loop μ-loop
 unfolding every
@@ -47,11 +48,11 @@ returns : tie.Need-returns Inv-loop μ-loop
 unfolding sameRow
 returns c =
     let a = c .before .before .before .before .before .args in
-    sym (every-fails (λ (j : ℕ). eq (channel (a .a .now) j) (channel (a .b .now) j)) 8 (c .before .before .before .before .loop .i) (omega arith) (c .if1 .left))
+    sym (every-fails (λ (j : ℕ). eq (channel (a .a .now) j) (channel (a .b .now) j)) width (c .before .before .before .before .loop .i) (omega arith) (c .if1 .left))
 
 returns-2 : tie.Need-returns-2 Inv-loop μ-loop
 unfolding sameRow
-returns-2 c = let e : c .before .loop .i ≡ 8 = omega arith in sym (rw e at (c .before .loop .inv .1))
+returns-2 c = let e : c .before .loop .i ≡ width = omega arith in sym (rw e at (c .before .loop .inv .1))
 
 pub same-point-spec : {M : Type 1} → statement M
 same-point-spec =

@@ -6,6 +6,8 @@ use Prim.Native.Nat.{ℕ, _-_, _≤_}
 use native.Mathlib.Omega.{arith}
 use lib.ListN.{drop}
 use lib.Seq.{drop-set-lt}
+use Rattle.layout.specs.Stands.{noSibling}
+use Rattle.limits.specs.Limits.{capacityLimit}
 use Rattle.cuttree.specs.Tree.{Tree}
 use Rattle.wholetree.specs.Reading.{Reading}
 use Rattle.wholetree.specs.Whole.{whole}
@@ -17,11 +19,11 @@ use Rattle.nodestore.proofs.set_path.Tie as tie
 
 abbrev Inv-loop : tie.InvT-loop
 Inv-loop nodes cuts point root capacity path₀ n₀ node₀ path n node =
-    (capacity ≤ 256) × (1 ≤ n) × (drop n path ≡ drop n path₀) × SomeWalks capacity nodes cuts point root
+    (capacity ≤ capacityLimit) × (1 ≤ n) × (drop n path ≡ drop n path₀) × SomeWalks capacity nodes cuts point root
     × ((d : ℕ) (t : Tree (whole d)) (p : Reading) → Walks d capacity nodes cuts point root t p → Reaching capacity nodes cuts point d p t path n node)
 
 abbrev μ-loop : tie.MeasureT-loop
-μ-loop nodes cuts point root capacity path₀ n₀ node₀ path n node = 256 - n
+μ-loop nodes cuts point root capacity path₀ n₀ node₀ path n node = capacityLimit - n
 
 path-length-requires : tie.Need-path-length-requires Inv-loop μ-loop
 path-length-requires c κs = search needs
@@ -69,7 +71,7 @@ loop-again c =
     let a = c .before .before .before .before .before .before .args in (
       w .0,
       omega arith,
-      drop-next (l .path) (l .n) _ (set (a .path .now) 0 (a .root ∷ 65535 ∷ [])) (w .2),
+      drop-next (l .path) (l .n) _ (set (a .path .now) 0 (a .root ∷ noSibling ∷ [])) (w .2),
       w .3,
       λ d t p g. rw (c .step-at .ensures, c .before .wide16 .ensures) (turn _ _ _ _ d p t _ _ _ (w .0) (g .point-is) (w .4 d t p g) (c .before .before .loop-test .taken) .next),
     )

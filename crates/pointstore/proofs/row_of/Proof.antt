@@ -2,6 +2,7 @@
 use native.Mathlib.Omega.{arith}
 use mathlib.Core.Path.{refl}
 use Prim.Native.Nat.{_-_, zero-le}
+use Rattle.limits.specs.Limits.{width}
 use Rattle.pointstore.specs.Puts.{orNought}
 use Rattle.pointstore.proofs.Rows.{Filled, fill-turn, padded-is}
 use borrow.Author.Needs.{needs}
@@ -9,10 +10,10 @@ use Rattle.pointstore.proofs.row_of.Statement.{statement}
 use Rattle.pointstore.proofs.row_of.Tie as tie
 
 abbrev Inv-loop : tie.InvT-loop
-Inv-loop coordinates row₀ i₀ row i = Filled (orNought coordinates) 8 i row
+Inv-loop coordinates row₀ i₀ row i = Filled (orNought coordinates) width i row
 
 abbrev μ-loop : tie.MeasureT-loop
-μ-loop coordinates row₀ i₀ row i = 8 - i
+μ-loop coordinates row₀ i₀ row i = width - i
 
 loop-holds : tie.Need-loop-holds Inv-loop μ-loop
 loop-holds c = record { within = zero-le; long = refl; entries = λ k l. absurd (omega arith) }
@@ -33,7 +34,7 @@ loop-less : tie.Need-loop-less Inv-loop μ-loop
 loop-less c = search needs
 
 loop-again : tie.Need-loop-again Inv-loop μ-loop
-loop-again c = fill-turn _ 8 _ _ (c .before .before .loop .inv) (omega arith) _ (c .coordinate-at .ensures)
+loop-again c = fill-turn _ width _ _ (c .before .before .loop .inv) (omega arith) _ (c .coordinate-at .ensures)
 
 returns : tie.Need-returns Inv-loop μ-loop
 returns c = padded-is _ _ _ (c .loop-test .left) (c .before .loop .inv)

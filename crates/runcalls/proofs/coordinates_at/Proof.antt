@@ -3,6 +3,7 @@ use native.Mathlib.Omega.{arith}
 use mathlib.Core.Path.{refl, ap, _∙_}
 use Prim.Native.Nat.{ℕ, _+_, _-_}
 use lib.Ieee.{nan, binary32, ofBits}
+use Rattle.limits.specs.Limits.{width}
 use Rattle.runlayout.specs.Layout.{number}
 use Rattle.runcalls.proofs.Firsts.{Firsts, firsts-none, firsts-turn, firsts-all}
 use borrow.Author.Needs.{needs}
@@ -10,13 +11,13 @@ use Rattle.runcalls.proofs.coordinates_at.Statement.{statement}
 use Rattle.runcalls.proofs.coordinates_at.Tie as tie
 
 abbrev Inv-loop : tie.InvT-loop
-Inv-loop run from n coordinates₀ i₀ coordinates i = Firsts nan (λ (j : ℕ). ofBits binary32 (number run (from + j))) n 9 i coordinates
+Inv-loop run from n coordinates₀ i₀ coordinates i = Firsts nan (λ (j : ℕ). ofBits binary32 (number run (from + j))) n (width + 1) i coordinates
 
 abbrev μ-loop : tie.MeasureT-loop
 μ-loop run from n coordinates₀ i₀ coordinates i = n - i
 
 loop-holds : tie.Need-loop-holds Inv-loop μ-loop
-loop-holds c = firsts-none _ _ _ 9 _ refl
+loop-holds c = firsts-none _ _ _ (width + 1) _ refl
 
 add-bits-at : tie.Need-add-bits-at Inv-loop μ-loop
 add-bits-at c = search needs
@@ -40,10 +41,10 @@ loop-less : tie.Need-loop-less Inv-loop μ-loop
 loop-less c = search needs
 
 loop-again : tie.Need-loop-again Inv-loop μ-loop
-loop-again c = firsts-turn _ _ _ 9 _ _ _ (c .before .before .before .loop .inv) (omega arith) (c .before .before .before .before .before .pre .0) (c .float-of .ensures ∙ ap (ofBits binary32) (c .before .bits-at .ensures))
+loop-again c = firsts-turn _ _ _ (width + 1) _ _ _ (c .before .before .before .loop .inv) (omega arith) (c .before .before .before .before .before .pre .0) (c .float-of .ensures ∙ ap (ofBits binary32) (c .before .bits-at .ensures))
 
 returns : tie.Need-returns Inv-loop μ-loop
-returns c = firsts-all _ _ _ 9 _ _ (c .before .loop .inv) (omega arith) (c .before .before .before .pre .0)
+returns c = firsts-all _ _ _ (width + 1) _ _ (c .before .loop .inv) (omega arith) (c .before .before .before .pre .0)
 
 pub coordinates-at-spec : {M : Type 1} → statement M
 coordinates-at-spec =

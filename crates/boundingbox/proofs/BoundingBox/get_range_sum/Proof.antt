@@ -5,15 +5,16 @@ use native.Mathlib.Numerals.{add-one}
 use mathlib.Core.Path.{_≡_, refl, _∙_}
 use Prim.Native.Nat.{_≤_, _-_, zero-le}
 use lib.Ieee.{ofBits}
+use Rattle.limits.specs.Limits.{width}
 use Rattle.boundingbox.specs.Sides.{rangeSum, total}
 use Rattle.boundingbox.proofs.BoundingBox.get_range_sum.Statement.{statement}
 use Rattle.boundingbox.proofs.BoundingBox.get_range_sum.Tie as tie
 
 abbrev Inv-loop : tie.InvT-loop
-Inv-loop lower upper sum₀ channel₀ sum channel = (channel ≤ 8) × (sum ≡ rangeSum lower upper channel)
+Inv-loop lower upper sum₀ channel₀ sum channel = (channel ≤ width) × (sum ≡ rangeSum lower upper channel)
 
 abbrev μ-loop : tie.MeasureT-loop
-μ-loop lower upper sum₀ channel₀ sum channel = 8 - channel
+μ-loop lower upper sum₀ channel₀ sum channel = width - channel
 
 loop-holds : tie.Need-loop-holds Inv-loop μ-loop
 unfolding total ofBits
@@ -46,7 +47,7 @@ loop-again c = (omega arith, rw (add-one, c .gap .ensures, c .before .before .lo
 
 returns : tie.Need-returns Inv-loop μ-loop
 returns c =
-    let e : c .before .loop .channel ≡ 8 = omega arith in
+    let e : c .before .loop .channel ≡ width = omega arith in
     c .before .loop .inv .1 ∙ rw e
 
 pub get-range-sum-spec : {M : Type 1} → statement M

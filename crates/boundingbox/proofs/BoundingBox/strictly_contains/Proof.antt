@@ -3,16 +3,17 @@ use borrow.Author.Needs.{needs}
 use native.Mathlib.Omega.{arith}
 use mathlib.Core.Path.{_≡_, refl, _∙_}
 use Prim.Native.Nat.{_≤_, _-_, min, zero-le}
+use Rattle.limits.specs.Limits.{width}
 use Rattle.boundingbox.specs.Contained.{strictlyContains, every}
 use Rattle.boundingbox.proofs.Every.{every-among}
 use Rattle.boundingbox.proofs.BoundingBox.strictly_contains.Statement.{statement}
 use Rattle.boundingbox.proofs.BoundingBox.strictly_contains.Tie as tie
 
 abbrev Inv-loop : tie.InvT-loop
-Inv-loop point dimensions lower upper held₀ i₀ held i = (i ≤ 8) × (held ≡ strictlyContains lower upper point (min dimensions i))
+Inv-loop point dimensions lower upper held₀ i₀ held i = (i ≤ width) × (held ≡ strictlyContains lower upper point (min dimensions i))
 
 abbrev μ-loop : tie.MeasureT-loop
-μ-loop point dimensions lower upper held₀ i₀ held i = 8 - i
+μ-loop point dimensions lower upper held₀ i₀ held i = width - i
 
 loop-holds : tie.Need-loop-holds Inv-loop μ-loop
 unfolding every
@@ -52,7 +53,7 @@ loop-again c = (omega arith, rw (every-among, c .and-inside .ensures, c .before 
 
 returns : tie.Need-returns Inv-loop μ-loop
 returns c =
-    let e : c .before .loop .i ≡ 8 = omega arith in
+    let e : c .before .loop .i ≡ width = omega arith in
     c .before .loop .inv .1 ∙ rw e
 
 pub strictly-contains-spec : {M : Type 1} → statement M

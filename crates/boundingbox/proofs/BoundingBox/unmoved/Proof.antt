@@ -3,16 +3,17 @@ use borrow.Author.Needs.{needs}
 use native.Mathlib.Omega.{arith}
 use mathlib.Core.Path.{_≡_, refl, _∙_}
 use Prim.Native.Nat.{_≤_, _-_, zero-le}
+use Rattle.limits.specs.Limits.{width}
 use Rattle.boundingbox.specs.Contained.{contains, every}
 use Rattle.boundingbox.proofs.Every.{every-next}
 use Rattle.boundingbox.proofs.BoundingBox.unmoved.Statement.{statement}
 use Rattle.boundingbox.proofs.BoundingBox.unmoved.Tie as tie
 
 abbrev Inv-loop : tie.InvT-loop
-Inv-loop minvalues maxvalues lower upper held₀ i₀ held i = (i ≤ 8) × (held ≡ contains lower upper minvalues maxvalues i)
+Inv-loop minvalues maxvalues lower upper held₀ i₀ held i = (i ≤ width) × (held ≡ contains lower upper minvalues maxvalues i)
 
 abbrev μ-loop : tie.MeasureT-loop
-μ-loop minvalues maxvalues lower upper held₀ i₀ held i = 8 - i
+μ-loop minvalues maxvalues lower upper held₀ i₀ held i = width - i
 
 loop-holds : tie.Need-loop-holds Inv-loop μ-loop
 unfolding every
@@ -56,7 +57,7 @@ loop-again c = (omega arith, rw (every-next, c .and-stays .ensures, c .before .b
 
 returns : tie.Need-returns Inv-loop μ-loop
 returns c =
-    let e : c .before .loop .i ≡ 8 = omega arith in
+    let e : c .before .loop .i ≡ width = omega arith in
     c .before .loop .inv .1 ∙ rw e
 
 pub unmoved-spec : {M : Type 1} → statement M

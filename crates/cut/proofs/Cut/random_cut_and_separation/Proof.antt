@@ -1,6 +1,7 @@
 -- `Cut::random_cut_and_separation` meets its contract: what its callees give makes up the drawn cut. Assumes nothing.
 use mathlib.Core.Path.{sym, _∙_}
 use lib.Ieee.{ofBits}
+use Rattle.limits.specs.Limits.{width}
 use Rattle.cut.specs.Draw.{drawnAt}
 use Rattle.cut.proofs.Turns.{reached-below, holds-point, draws}
 use borrow.Author.Needs.{needs}
@@ -30,7 +31,7 @@ enum-known-side : tie.Need-enum-known-side
 enum-known-side c = search needs
 
 drawn-requires : tie.Need-drawn-requires
-drawn-requires c κs = reached-below _ 8 0 _ _ _ (sym (c .before .before .before .side-cut .ensures) ∙ c .before .side .given .1)
+drawn-requires c κs = reached-below _ width 0 _ _ _ (sym (c .before .before .before .side-cut .ensures) ∙ c .before .side .given .1)
 
 returns-2 : tie.Need-returns-2
 unfolding ofBits drawnAt

@@ -1,6 +1,7 @@
 -- `Cut::whole_cut_and_separation` meets its contract: the running sums tell the side that is cut, and the rest. Assumes nothing.
 use native.Mathlib.Omega.{arith}
 use mathlib.Core.Path.{refl, sym, _∙_}
+use Rattle.limits.specs.Limits.{width}
 use Rattle.cut.proofs.Turns.{holds-point}
 use Rattle.cut.proofs.AsDocument.{outside-is}
 use Rattle.cut.proofs.Counted.{count-below, sums-draw}
@@ -33,7 +34,7 @@ drawn-requires : tie.Need-drawn-requires
 drawn-requires c κs =
     let at = c .before .before .before in
     let start = at .before .before .before in
-    count-below _ _ _ 8 (start .pre) _ (start .fits .word .fits) _ (at .before .before .contains .ensures) (at .before .if1 .left) (at .running-sums .result) (at .running-sums .ensures) _ _ _ (c .before .before .factor .ensures) (c .before .at-least-one .ensures) (c .sums-below .ensures)
+    count-below _ _ _ width (start .pre) _ (start .fits .word .fits) _ (at .before .before .contains .ensures) (at .before .if1 .left) (at .running-sums .result) (at .running-sums .ensures) _ _ _ (c .before .before .factor .ensures) (c .before .at-least-one .ensures) (c .sums-below .ensures)
 
 mul-drawn : tie.Need-mul-drawn
 mul-drawn c = omega (arith, drawn-requires c (c .before .before .before .before .before .before .κs))
@@ -45,7 +46,7 @@ returns-2 : tie.Need-returns-2
 returns-2 c =
     let at = c .before .before .before .before in
     let start = at .before .before .before in
-    sums-draw _ _ _ 8 (start .pre) _ (start .fits .word .fits) _ (at .before .before .contains .ensures) (at .before .if1 .left) (at .running-sums .result) (at .running-sums .ensures) _ _ _ (c .before .before .before .factor .ensures) (c .before .before .at-least-one .ensures) (c .before .sums-below .ensures) _ (c .drawn .ensures)
+    sums-draw _ _ _ width (start .pre) _ (start .fits .word .fits) _ (at .before .before .contains .ensures) (at .before .if1 .left) (at .running-sums .result) (at .running-sums .ensures) _ _ _ (c .before .before .before .factor .ensures) (c .before .before .at-least-one .ensures) (c .before .sums-below .ensures) _ (c .drawn .ensures)
 
 pub whole-cut-and-separation-spec : {M : Type 1} → statement M
 whole-cut-and-separation-spec =

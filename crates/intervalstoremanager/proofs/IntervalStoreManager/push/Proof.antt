@@ -2,6 +2,7 @@
 use mathlib.Core.Path.{refl}
 use borrow.Author.Tests.{lt-ltb, le-ltb}
 use borrow.Author.Needs.{needs}
+use Rattle.limits.specs.Limits.{branchLimit}
 use Rattle.intervalstoremanager.proofs.IntervalStoreManager.push.Statement.{statement}
 use Rattle.intervalstoremanager.proofs.IntervalStoreManager.push.Tie as tie
 
@@ -17,12 +18,12 @@ add-t8 c = search needs
 returns : tie.Need-returns
 returns c =
     let w = c .before .before .before .before .wide in
-    rw (c .before .put .ensures, ← w .ensures .0, lt-ltb (w .result) 255 (c .before .before .before .if1 .taken)) (refl, refl)
+    rw (c .before .put .ensures, ← w .ensures .0, lt-ltb (w .result) branchLimit (c .before .before .before .if1 .taken)) (refl, refl)
 
 returns-2 : tie.Need-returns-2
 returns-2 c =
     let w = c .before .wide in
-    rw (← w .ensures .0, le-ltb (w .result) 255 (c .if1 .left)) (refl, refl)
+    rw (← w .ensures .0, le-ltb (w .result) branchLimit (c .if1 .left)) (refl, refl)
 
 pub push-spec : {M : Type 1} → statement M
 push-spec = tie.close (tie.spec wide-requires put-requires add-t8 returns returns-2)

@@ -4,6 +4,7 @@ use mathlib.Core.Path.{refl}
 use Prim.Native.Nat.{_+_}
 use native.Mathlib.Omega.{arith}
 use borrow.Author.Tests.{le-ltb, eq-eqb, ne-eqb}
+use Rattle.limits.specs.Limits.{branchLimit}
 use Rattle.intervalstoremanager.specs.Rows.{releasedOf, rowsReleased}
 use Rattle.intervalstoremanager.proofs.Tests.{is-topped, over-topped}
 use borrow.Author.Needs.{needs}
@@ -26,7 +27,7 @@ returns-2 : tie.Need-returns-2
 unfolding releasedOf rowsReleased
 returns-2 c =
     let m = c .before .before .before .args .self in
-    rw (over-topped m (omega arith), le-ltb (m .«last_in_use») 255 (omega arith)) (refl, refl)
+    rw (over-topped m (omega arith), le-ltb (m .«last_in_use») branchLimit (omega arith)) (refl, refl)
 
 sub-interval-at : tie.Need-sub-interval-at
 sub-interval-at c = search needs

@@ -2,6 +2,7 @@
 use mathlib.Core.Path.{refl, sym, _∙_}
 use native.Mathlib.Omega.{arith}
 use borrow.Author.Tests.{not-true, not-false}
+use Rattle.limits.specs.Limits.{capacityLimit}
 use Rattle.randomcuttree.proofs.Makings.{in-bounds, refused-1, refused-2, refused-3, made}
 use borrow.Author.Needs.{needs}
 use Rattle.randomcuttree.proofs.RCFTree.new.Statement.{statement}
@@ -29,22 +30,22 @@ clear-requires : tie.Need-clear-requires
 clear-requires c κs = search needs
 
 cast-c : tie.Need-cast-c
-cast-c c = let w = in-bounds 2 256 (c .before .before .before .before .before .before .before .before .before .before .before .before .args .capacity) (sym (c .before .before .before .before .before .before .before .before .before .within2 .ensures) ∙ not-false _ (c .before .before .before .before .before .before .before .before .if2 .left)) in omega arith
+cast-c c = let w = in-bounds 2 capacityLimit (c .before .before .before .before .before .before .before .before .before .before .before .before .args .capacity) (sym (c .before .before .before .before .before .before .before .before .before .within2 .ensures) ∙ not-false _ (c .before .before .before .before .before .before .before .before .if2 .left)) in omega arith
 
 sub-cached-of : tie.Need-sub-cached-of
-sub-cached-of c = let w = in-bounds 2 256 (c .before .before .before .before .before .before .before .before .before .before .before .before .args .capacity) (sym (c .before .before .before .before .before .before .before .before .before .within2 .ensures) ∙ not-false _ (c .before .before .before .before .before .before .before .before .if2 .left)) in omega arith
+sub-cached-of c = let w = in-bounds 2 capacityLimit (c .before .before .before .before .before .before .before .before .before .before .before .before .args .capacity) (sym (c .before .before .before .before .before .before .before .before .before .within2 .ensures) ∙ not-false _ (c .before .before .before .before .before .before .before .before .if2 .left)) in omega arith
 
 cached-of-requires : tie.Need-cached-of-requires
 cached-of-requires c κs = search needs
 
 sub-new : tie.Need-sub-new
-sub-new c = let w = in-bounds 2 256 (c .before .before .before .before .before .before .before .before .before .before .before .before .before .args .capacity) (sym (c .before .before .before .before .before .before .before .before .before .before .within2 .ensures) ∙ not-false _ (c .before .before .before .before .before .before .before .before .before .if2 .left)) in omega arith
+sub-new c = let w = in-bounds 2 capacityLimit (c .before .before .before .before .before .before .before .before .before .before .before .before .before .args .capacity) (sym (c .before .before .before .before .before .before .before .before .before .before .within2 .ensures) ∙ not-false _ (c .before .before .before .before .before .before .before .before .before .if2 .left)) in omega arith
 
 new-requires : tie.Need-new-requires
 new-requires c κs = search needs
 
 sub-t22 : tie.Need-sub-t22
-sub-t22 c = let w = in-bounds 2 256 (c .before .before .before .before .before .before .before .before .before .before .before .before .before .before .before .args .capacity) (sym (c .before .before .before .before .before .before .before .before .before .before .before .before .within2 .ensures) ∙ not-false _ (c .before .before .before .before .before .before .before .before .before .before .before .if2 .left)) in omega arith
+sub-t22 c = let w = in-bounds 2 capacityLimit (c .before .before .before .before .before .before .before .before .before .before .before .before .before .before .before .args .capacity) (sym (c .before .before .before .before .before .before .before .before .before .before .before .before .within2 .ensures) ∙ not-false _ (c .before .before .before .before .before .before .before .before .before .before .before .if2 .left)) in omega arith
 
 returns-4 : tie.Need-returns-4
 returns-4 c =
