@@ -23,7 +23,7 @@ use Rattle.randomcuttree.specs.declared.DeleteAnswer.{DeleteAnswer}
 use Rattle.randomcuttree.specs.State.{Lent, State, headerOf}
 use Rattle.randomcuttree.specs.Answers.{addSays, deleteSays, AddDone, DeleteDone}
 use Rattle.randomcuttree.proofs.Calls.{header-is}
-use Rattle.calls.specs.Said.{filled, addNumbers, deleteNumbers, replyWidth}
+use Rattle.answers.specs.Said.{filled, addNumbers, deleteNumbers, replyWidth}
 use Rattle.calls.specs.Done.{Does, headerAdded, headerDeleted}
 
 module _ (d c k : ℕ) (W : World (whole d)) where

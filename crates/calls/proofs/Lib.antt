@@ -1,4 +1,3 @@
-pub mod Told
 pub mod Edits
 pub mod Puts
 pub mod Queries

@@ -18,7 +18,7 @@ use Rattle.pointstore.specs.Puts.{putSays, Tabled, PutDone}
 use Rattle.randomcuttree.specs.declared.RCFTree.{RCFTree}
 use Rattle.randomcuttree.specs.State.{Lent, State}
 use Rattle.randomcuttree.proofs.Standing.{puts-keep}
-use Rattle.calls.specs.Said.{filled, putNumbers, replyWidth}
+use Rattle.answers.specs.Said.{filled, putNumbers, replyWidth}
 use Rattle.calls.specs.Done.{Does}
 
 module _ (d c : ℕ) (W : World (whole d)) (i : ℕ) where

@@ -12,7 +12,7 @@ use Rattle.randomcuttree.specs.declared.BranchAnswer.{BranchAnswer}
 use Rattle.randomcuttree.specs.declared.BoxAnswer.{BoxAnswer}
 use Rattle.randomcuttree.specs.State.{Lent}
 use Rattle.randomcuttree.specs.Queries.{CopiesTold, BranchTold, BoxTold, BoxRead}
-use Rattle.calls.specs.Said.{filled, copiesNumbers, branchNumbers, boxNumbers, replyWidth}
+use Rattle.answers.specs.Said.{filled, copiesNumbers, branchNumbers, boxNumbers, replyWidth}
 use Rattle.calls.specs.Done.{Does, Done, queryOf}
 
 module _ (tree : RCFTree) (k x : ℕ) (reply : List ℕ) where

@@ -13,7 +13,7 @@ use Rattle.randomcuttree.specs.declared.AddAnswer.{AddAnswer}
 use Rattle.randomcuttree.specs.declared.AddAnswer.the-variants.{Added, NotAdded}
 use Rattle.randomcuttree.specs.declared.DeleteAnswer.{DeleteAnswer}
 use Rattle.randomcuttree.specs.declared.DeleteAnswer.the-variants.{Deleted, NotDeleted}
-use Rattle.calls.specs.Said.{filled, said, replyWidth}
+use Rattle.answers.specs.Said.{filled, said, replyWidth}
 
 -- the numbers of the answer, with 0 after them, and a state of the world after the call
 pub record Done (d c k : ℕ) (W : World (whole d)) (x : Call (whole d)) (tree : RCFTree) (a : Lent) (points : List (List Float)) (marks reply : List ℕ) : Type 0 where

@@ -1,4 +1,5 @@
 // The calls of a tree with what they are given in arrays of fixed size: each carried out on the lent state, and its answer as numbers.
+use answers::Reply;
 use limits::BRANCHES;
 use limits::CAPACITY;
 use limits::CHANNELS;
@@ -11,9 +12,6 @@ use limits::Points;
 use limits::Row;
 use pointstore::PutAnswer;
 use randomcuttree::AddAnswer;
-use randomcuttree::BoxAnswer;
-use randomcuttree::BranchAnswer;
-use randomcuttree::CopiesAnswer;
 use randomcuttree::DeleteAnswer;
 use randomcuttree::RCFTree;
 ghost use mathlib.Core.Path.{_≡_};
@@ -28,124 +26,15 @@ ghost use Rattle.pointstore.specs.Puts.{Tabled, PutDone};
 ghost use Rattle.randomcuttree.specs.State.{Lent, lent, SomeState};
 ghost use Rattle.randomcuttree.specs.Answers.{AddDone};
 ghost use Rattle.randomcuttree.specs.Queries.{BoxRead, SomeBoxRead};
-ghost use Rattle.calls.specs.Said.{filled, replyWidth, putNumbers, addNumbers, deleteNumbers, copiesNumbers, branchNumbers, boxNumbers};
 ghost use Rattle.calls.specs.Done.{Does, headerAdded, headerDeleted, queryOf};
 
 // As many coordinates of a given list as are looked at: one more than any tree has.
-pub type Coordinates = [f32; CHANNELS + 1];
+pub const COORDINATES: usize = CHANNELS + 1;
+
+pub type Coordinates = [f32; COORDINATES];
 
 // As many words as are looked at: no walk takes more.
 pub type Words = [u64; CAPACITY];
-
-// An answer as numbers. The longest is a box's: a refusal, and two ends for each channel.
-pub const REPLY: usize = 1 + 2 * CHANNELS;
-
-pub type Reply = [usize; REPLY];
-
-fn wide8(x: u8) -> usize
-    ensures { λ r. ⌜ r ≡ x ⌝ }
-{
-    x as usize
-}
-
-fn wide32(x: u32) -> usize
-    ensures { λ r. ⌜ r ≡ x ⌝ }
-{
-    x as usize
-}
-
-// The numbers of each answer, with 0 after them.
-fn tell_put(answer: PutAnswer, reply: &mut Reply)
-    ensures { λ _. ⌜ now (reply .exit) ≡ filled replyWidth (putNumbers answer) ⌝ }
-{
-    *reply = [0; REPLY];
-    match answer {
-        PutAnswer::Written => {}
-        PutAnswer::Refused(r) => {
-            reply[0] = wide8(r);
-        }
-    }
-}
-
-fn tell_add(answer: AddAnswer, reply: &mut Reply)
-    ensures { λ _. ⌜ now (reply .exit) ≡ filled replyWidth (addNumbers answer) ⌝ }
-{
-    *reply = [0; REPLY];
-    match answer {
-        AddAnswer::Added(_, leaf, taken) => {
-            reply[1] = leaf;
-            reply[2] = taken;
-        }
-        AddAnswer::NotAdded(r) => {
-            reply[0] = wide8(r);
-        }
-    }
-}
-
-fn tell_delete(answer: DeleteAnswer, reply: &mut Reply)
-    ensures { λ _. ⌜ now (reply .exit) ≡ filled replyWidth (deleteNumbers answer) ⌝ }
-{
-    *reply = [0; REPLY];
-    match answer {
-        DeleteAnswer::Deleted(_, leaf) => {
-            reply[1] = leaf;
-        }
-        DeleteAnswer::NotDeleted(r) => {
-            reply[0] = wide8(r);
-        }
-    }
-}
-
-fn tell_copies(answer: CopiesAnswer, reply: &mut Reply)
-    ensures { λ _. ⌜ now (reply .exit) ≡ filled replyWidth (copiesNumbers answer) ⌝ }
-{
-    *reply = [0; REPLY];
-    match answer {
-        CopiesAnswer::Copies(n) => {
-            reply[1] = n;
-        }
-        CopiesAnswer::NoLeaf(r) => {
-            reply[0] = wide8(r);
-        }
-    }
-}
-
-fn tell_branch(answer: BranchAnswer, reply: &mut Reply)
-    ensures { λ _. ⌜ now (reply .exit) ≡ filled replyWidth (branchNumbers answer) ⌝ }
-{
-    *reply = [0; REPLY];
-    match answer {
-        BranchAnswer::Branch(row) => {
-            let cut = row.cut;
-            reply[1] = cut.dimension;
-            reply[2] = wide32(little::pattern_of(cut.value));
-            reply[3] = row.left;
-            reply[4] = row.right;
-            reply[5] = row.mass;
-        }
-        BranchAnswer::NoBranch(r) => {
-            reply[0] = wide8(r);
-        }
-    }
-}
-
-// The ends of a box's channels as bits, the lower ones from the second number on, the upper ones after them.
-fn tell_box(answer: BoxAnswer, d: usize, reply: &mut Reply)
-    requires { ⌜ d ≤ width ⌝ }
-    ensures { λ _. ⌜ now (reply .exit) ≡ filled replyWidth (boxNumbers d answer) ⌝ }
-{
-    let bounding_box = answer.bounding_box;
-    let low = bounding_box.min_values;
-    let high = bounding_box.max_values;
-    *reply = [0; REPLY];
-    reply[0] = wide8(answer.refusal);
-    let mut i: usize = 0;
-    while i < d {
-        reply[1 + i] = wide32(little::pattern_of(low[i]));
-        reply[1 + d + i] = wide32(little::pattern_of(high[i]));
-        i += 1;
-    }
-}
 
 // The put of the first n coordinates.
 fn put_first(
@@ -164,8 +53,8 @@ fn put_first(
     pointstore::put(dimensions, copies, points, written, index, &all[..n])
 }
 
-// The put of a list by its first nine coordinates. A list of nine is longer than any tree's, so a longer one is refused like it.
-// Rules out a list of nine put as one of eight, and a refused put whose answer is told as written.
+// The put of a list by as many of its coordinates as are looked at. A list of so many is longer than any tree's, so a longer one is refused like it.
+// Rules out one coordinate too many left out of sight, and a refused put whose answer is told as written.
 pub fn put(
     tree: RCFTree,
     copies: &Copies,
@@ -189,7 +78,7 @@ pub fn put(
         coordinates,
         n,
     );
-    tell_put(answer, reply);
+    answers::tell_put(answer, reply);
 }
 
 // The add with the first n words.
@@ -279,7 +168,7 @@ pub fn add(
         words,
         n,
     );
-    tell_add(answer, reply);
+    answers::tell_add(answer, reply);
     header_added(tree, answer)
 }
 
@@ -312,7 +201,7 @@ pub fn delete(
         written,
         index,
     );
-    tell_delete(answer, reply);
+    answers::tell_delete(answer, reply);
     header_deleted(tree, answer)
 }
 
@@ -335,14 +224,14 @@ pub fn query(
         → Does (λ d. query (queryOf kind id)) tree a (now (points .entry)) marks tree a (now (points .entry)) marks (now (reply .exit))) ⌝ }
 {
     if kind == 8 {
-        tell_copies(tree.copies_of(copies, id), reply);
+        answers::tell_copies(tree.copies_of(copies, id), reply);
         return;
     }
     if kind == 9 {
-        tell_branch(tree.branch_of(nodes, cuts, id), reply);
+        answers::tell_branch(tree.branch_of(nodes, cuts, id), reply);
         return;
     }
-    tell_box(
+    answers::tell_box(
         tree.box_of(nodes, points, lows, highs, id),
         tree.dimensions,
         reply,

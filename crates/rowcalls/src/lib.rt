@@ -1,18 +1,17 @@
 // One op row of treelist's text, carried out on the lent state.
+use answers::Reply;
+use calls::COORDINATES;
 use calls::Coordinates;
-use calls::Reply;
 use calls::Words;
 use form::Row;
 use limits::BRANCHES;
 use limits::CAPACITY;
-use limits::CHANNELS;
 use limits::Copies;
 use limits::Cuts;
 use limits::Free;
 use limits::Marks;
 use limits::Nodes;
 use limits::Points;
-use limits::Row;
 use randomcuttree::RCFTree;
 ghost use mathlib.Core.Path.{_≡_};
 ghost use mathlib.Core.Option.{some};
@@ -33,15 +32,12 @@ fn at_most(n: usize, most: usize) -> usize
     if n < most { n } else { most }
 }
 
-// The first nine coordinates of a row, from a place on, and how many of them there are. No tree has nine channels, so a longer list is refused like one of nine.
+// The first coordinates of a row, from a place on, as many as a put looks at, and how many of them there are.
 fn first_coordinates(row: &[u8], start: usize, coordinates: &mut Coordinates) -> usize
     ensures first { λ r. ⌜ take r (now (coordinates .exit)) ≡ take (width + 1) (coordinatesFrom (now (row .entry)) start) ⌝ }
     ensures count { λ r. ⌜ r ≡ min (length (coordinatesFrom (now (row .entry)) start)) (width + 1) ⌝ }
 {
-    at_most(
-        text::read_coordinates(row, start, coordinates),
-        CHANNELS + 1,
-    )
+    at_most(text::read_coordinates(row, start, coordinates), COORDINATES)
 }
 
 // The first words of a row, from a place on, as many as an add looks at, and how many of them there are.
@@ -60,8 +56,8 @@ pub fn call_row(
     cuts: &mut Cuts,
     copies: &mut Copies,
     free: &mut Free,
-    lows: &mut [Row; BRANCHES],
-    highs: &mut [Row; BRANCHES],
+    lows: &mut [limits::Row; BRANCHES],
+    highs: &mut [limits::Row; BRANCHES],
     points: &mut Points,
     written: &mut Marks,
     row: &[u8],

@@ -18,7 +18,7 @@ use Rattle.randomcuttree.specs.declared.Made.{Made}
 use Rattle.randomcuttree.specs.declared.Made.the-variants.{Tree, NotMade}
 use Rattle.randomcuttree.specs.State.{Lent}
 use Rattle.randomcuttree.specs.Making.{cachedBy, madeBy, MakeDone}
-use Rattle.calls.specs.Said.{saidFrom}
+use Rattle.answers.specs.Said.{saidFrom}
 use Rattle.runlayout.specs.Layout.{channels, capacity, share}
 use Rattle.runlayout.specs.Check.{widths}
 use Rattle.run.specs.Outcome.{given, answered}

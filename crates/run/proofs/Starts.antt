@@ -12,7 +12,7 @@ use Rattle.cuttree.specs.Run.{World, Call}
 use Rattle.wholetree.specs.Whole.{whole}
 use Rattle.randomcuttree.specs.declared.RCFTree.{RCFTree}
 use Rattle.randomcuttree.specs.State.{Lent}
-use Rattle.calls.specs.Said.{saidFrom}
+use Rattle.answers.specs.Said.{saidFrom}
 use Rattle.runlayout.specs.Check.{widths}
 use Rattle.run.specs.Outcome.{given}
 use Rattle.run.specs.Running.{Running, Started}

@@ -15,7 +15,7 @@ use Rattle.cuttree.specs.Run.{World, Call, put, add, delete, query, copiesOf, b
 use Rattle.wholetree.specs.Whole.{whole}
 use Rattle.randomcuttree.specs.declared.RCFTree.{RCFTree}
 use Rattle.randomcuttree.specs.State.{Lent, SomeState}
-use Rattle.calls.specs.Said.{filled, said, saidFrom, replyWidth}
+use Rattle.answers.specs.Said.{filled, said, saidFrom, replyWidth}
 use Rattle.calls.specs.Done.{Done, Does}
 use Rattle.runlayout.specs.Layout.{size, number, widthAt, standsAt, callAt, restFrom}
 use Rattle.runlayout.specs.Check.{widthOf, widths, widthOfKind}

@@ -23,7 +23,7 @@ use Rattle.pointstore.specs.Puts.{putSays}
 use Rattle.randomcuttree.specs.State.{headerOf}
 use Rattle.randomcuttree.specs.Answers.{addSays, deleteSays}
 use Rattle.randomcuttree.specs.Queries.{copiesSay, branchSays, boxSays}
-use Rattle.calls.specs.Said.{putNumbers, addNumbers, deleteNumbers, copiesNumbers, branchNumbers, boxNumbers, endBits, said, saidFrom}
+use Rattle.answers.specs.Said.{putNumbers, addNumbers, deleteNumbers, copiesNumbers, branchNumbers, boxNumbers, endBits, said, saidFrom}
 use Rattle.runlayout.specs.Check.{widthOf, widths}
 
 of-put : (r : PutAnswer) → length (putNumbers r) ≡ 1

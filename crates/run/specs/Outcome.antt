@@ -11,7 +11,7 @@ use Rattle.wholetree.specs.Whole.{whole}
 use Rattle.randomcuttree.specs.declared.Made.{Made}
 use Rattle.randomcuttree.specs.declared.Made.the-variants.{Tree, NotMade}
 use Rattle.randomcuttree.specs.Making.{cachedBy, madeBy}
-use Rattle.calls.specs.Said.{saidFrom}
+use Rattle.answers.specs.Said.{saidFrom}
 use Rattle.runlayout.specs.Layout.{channels, capacity, share, calls}
 
 -- '15: fewer answer bytes are lent than the run needs'; else the numbers' bytes, and the lent bytes beyond them as they were

@@ -13,7 +13,7 @@ use Rattle.cuttree.specs.Run.{World, Call}
 use Rattle.wholetree.specs.Whole.{whole}
 use Rattle.randomcuttree.specs.declared.RCFTree.{RCFTree}
 use Rattle.randomcuttree.specs.State.{Lent, State}
-use Rattle.calls.specs.Said.{saidFrom}
+use Rattle.answers.specs.Said.{saidFrom}
 use Rattle.runlayout.specs.Layout as Layout
 use Rattle.runlayout.specs.Layout.{restFrom}
 use Rattle.runlayout.specs.Check.{widths}

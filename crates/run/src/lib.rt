@@ -1,5 +1,5 @@
 // The C entry: a byte run, a making and the calls after it, carried out whole (docs/LAYOUT.md). No state outlives it.
-use calls::REPLY;
+use answers::REPLY;
 use limits::BRANCHES;
 use limits::CAPACITY;
 use limits::CHANNELS;
@@ -25,7 +25,7 @@ ghost use Rattle.cuttree.specs.Run.{World, Call};
 ghost use Rattle.wholetree.specs.Whole.{whole};
 ghost use Rattle.randomcuttree.specs.State.{lent};
 ghost use Rattle.randomcuttree.specs.Making.{madeBy};
-ghost use Rattle.calls.specs.Said.{saidFrom};
+ghost use Rattle.answers.specs.Said.{saidFrom};
 ghost use Rattle.runlayout.specs.Layout.{isMaking, channels, capacity, share};
 ghost use Rattle.run.specs.Outcome.{given, answered, outcome};
 ghost use Rattle.run.specs.Running.{Running, SomeRunning, Started, SomeStarted, Checks};

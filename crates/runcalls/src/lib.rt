@@ -1,10 +1,10 @@
 // The calls of a byte run (docs/LAYOUT.md): each read from its place in the run and carried out on the lent state, with its answer as numbers.
+use answers::Reply;
+use calls::COORDINATES;
 use calls::Coordinates;
-use calls::Reply;
 use calls::Words;
 use limits::BRANCHES;
 use limits::CAPACITY;
-use limits::CHANNELS;
 use limits::Copies;
 use limits::Cuts;
 use limits::Free;
@@ -32,12 +32,12 @@ fn at_most(n: usize, most: usize) -> usize
     if n < most { n } else { most }
 }
 
-// n coordinates from a place on. A list of nine is longer than any tree's, so a longer one is refused like it.
+// n coordinates from a place on.
 fn coordinates_at(run: &[u8], from: usize, n: usize) -> Coordinates
     requires { ⌜ (n ≤ (width + 1)) × (from + n ≤ size (now run)) ⌝ }
     ensures { λ r. ⌜ take n r ≡ tab n (λ (i : ℕ). ofBits binary32 (number (now (run .entry)) (from + i))) ⌝ }
 {
-    let mut coordinates = [0.0f32; CHANNELS + 1];
+    let mut coordinates = [0.0f32; COORDINATES];
     let mut i: usize = 0;
     while i < n {
         coordinates[i] = little::float_of(runlayout::bits_at(run, from + i));
@@ -79,7 +79,7 @@ fn put_call(
     ensures { λ _. ⌜ ((a : Lent) → a .copies ≡ now (copies .entry) → Does (λ d. put (number (now (run .entry)) (p + 1)) (coordinatesAt (now (run .entry)) p)) tree a (now (points .entry)) (now (written .entry)) tree a (now (points .exit)) (now (written .exit)) (now (reply .exit))) ⌝ }
 {
     let index = runlayout::number_at(run, p + 1);
-    let n = at_most(runlayout::number_at(run, p + 2), CHANNELS + 1);
+    let n = at_most(runlayout::number_at(run, p + 2), COORDINATES);
     let coordinates = coordinates_at(run, p + 3, n);
     calls::put(tree, copies, points, written, index, &coordinates, n, reply);
 }

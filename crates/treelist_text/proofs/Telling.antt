@@ -9,7 +9,7 @@ use lib.Dec.{eqb}
 use lib.ListN.{getD}
 use Rattle.cuttree.specs.Run.{World, Refusal, indexAbove, coordinateCount, badCoordinate, indexIsLeaf, neverWritten, full, fewWords, treeEmpty, notHeld, noSuchNode, Answer, refused, written, added, deleted, copiesAre, branchIs, boxIs, numberOf}
 use Rattle.wholetree.specs.Whole.{whole}
-use Rattle.calls.specs.Said.{filled, said, replyWidth}
+use Rattle.answers.specs.Said.{filled, said, replyWidth}
 use Rattle.form.specs.Rows.{Op, put, add, delete}
 use Rattle.lines.specs.Lines.{refusedLine, Wrote}
 use Rattle.rowcalls.specs.Ops.{callOf}

@@ -13,7 +13,7 @@ use Rattle.cuttree.specs.Run.{World, call}
 use Rattle.wholetree.specs.Whole.{whole}
 use Rattle.randomcuttree.specs.declared.RCFTree.{RCFTree}
 use Rattle.randomcuttree.specs.State.{Lent, SomeState}
-use Rattle.calls.specs.Said.{filled, said, replyWidth}
+use Rattle.answers.specs.Said.{filled, said, replyWidth}
 use Rattle.calls.specs.Done.{Done, Does}
 use Rattle.form.specs.Rows.{Op, rowOf}
 use Rattle.form.proofs.Read.{NextRow, next-row, no-row}

@@ -1,8 +1,8 @@
--- `calls::tell_copies` meets its contract. Assumes nothing.
+-- `answers::tell_delete` meets its contract. Assumes nothing.
 use borrow.Author.Needs.{needs}
-use Rattle.calls.specs.Said.{filled}
-use Rattle.calls.proofs.tell_copies.Statement.{statement}
-use Rattle.calls.proofs.tell_copies.Tie as tie
+use Rattle.answers.specs.Said.{filled}
+use Rattle.answers.proofs.tell_delete.Statement.{statement}
+use Rattle.answers.proofs.tell_delete.Tie as tie
 
 enum-known-answer : tie.Need-enum-known-answer
 enum-known-answer c = search needs
@@ -27,8 +27,8 @@ returns-2 : tie.Need-returns-2
 unfolding filled
 returns-2 c = rw (c .before .before .answer2 .given .1, c .wide8 .ensures)
 
-pub tell-copies-spec : {M : Type 1} → statement M
-tell-copies-spec =
+pub tell-delete-spec : {M : Type 1} → statement M
+tell-delete-spec =
     tie.close
     (tie.spec
     enum-known-answer

@@ -1,8 +1,8 @@
--- `calls::tell_put` meets its contract. Assumes nothing.
+-- `answers::tell_put` meets its contract. Assumes nothing.
 use borrow.Author.Needs.{needs}
-use Rattle.calls.specs.Said.{filled}
-use Rattle.calls.proofs.tell_put.Statement.{statement}
-use Rattle.calls.proofs.tell_put.Tie as tie
+use Rattle.answers.specs.Said.{filled}
+use Rattle.answers.proofs.tell_put.Statement.{statement}
+use Rattle.answers.proofs.tell_put.Tie as tie
 
 enum-told : tie.Need-enum-told
 enum-told c = search needs

@@ -1,18 +1,18 @@
--- `calls::tell_box` meets its contract: after i turns the numbers of the first i channels stand. Assumes nothing.
+-- `answers::tell_box` meets its contract: after i turns the numbers of the first i channels stand. Assumes nothing.
 use native.Mathlib.Omega.{arith}
 use mathlib.Core.Path.{_∙_}
 use Prim.Native.Nat.{ℕ, _-_}
 use lib.ListN.{getD}
 use lib.Ieee.{binary32, toBits}
 use Rattle.boundingbox.specs.Ends.{channel}
-use Rattle.calls.specs.Said.{filled}
-use Rattle.calls.proofs.Told.{Told, told-none, told-turn, told-all}
+use Rattle.answers.specs.Said.{filled}
+use Rattle.answers.proofs.Told.{Told, told-none, told-turn, told-all}
 use borrow.Author.Needs.{needs}
-use Rattle.calls.proofs.tell_box.Statement.{statement}
-use Rattle.calls.proofs.tell_box.Tie as tie
+use Rattle.answers.proofs.tell_box.Statement.{statement}
+use Rattle.answers.proofs.tell_box.Tie as tie
 
 abbrev Inv-loop : tie.InvT-loop
-Inv-loop d reply₀ low high i₀ reply i = Told (getD reply₀ 0 0) (λ (j : ℕ). toBits binary32 (channel low j)) (λ (j : ℕ). toBits binary32 (channel high j)) d i reply
+Inv-loop dimensions reply₀ d low high i₀ reply i = (d ≤ width) × Told (getD reply₀ 0 0) (λ (j : ℕ). toBits binary32 (channel low j)) (λ (j : ℕ). toBits binary32 (channel high j)) d i reply
 
 abbrev μ-loop : tie.MeasureT-loop
 μ-loop d reply₀ low high i₀ reply i = d - i

@@ -12,7 +12,7 @@ use Rattle.limits.specs.Limits.{width}
 use Rattle.cuttree.proofs.Tests.{by-test}
 use Rattle.wholetree.specs.Whole.{tab}
 use Rattle.wholetree.proofs.Readings.{tab-length, tab-at}
-use Rattle.calls.specs.Said.{filled, replyWidth}
+use Rattle.answers.specs.Said.{filled, replyWidth}
 
 filled-length : (n : ℕ) (xs : List ℕ) → length (filled n xs) ≡ n
 unfolding filled

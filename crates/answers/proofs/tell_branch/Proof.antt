@@ -1,8 +1,8 @@
--- `calls::tell_branch` meets its contract. Assumes nothing.
+-- `answers::tell_branch` meets its contract. Assumes nothing.
 use borrow.Author.Needs.{needs}
-use Rattle.calls.specs.Said.{filled}
-use Rattle.calls.proofs.tell_branch.Statement.{statement}
-use Rattle.calls.proofs.tell_branch.Tie as tie
+use Rattle.answers.specs.Said.{filled}
+use Rattle.answers.proofs.tell_branch.Statement.{statement}
+use Rattle.answers.proofs.tell_branch.Tie as tie
 
 enum-known-answer : tie.Need-enum-known-answer
 enum-known-answer c = search needs

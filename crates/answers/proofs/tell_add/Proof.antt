@@ -1,8 +1,8 @@
--- `calls::tell_delete` meets its contract. Assumes nothing.
+-- `answers::tell_add` meets its contract. Assumes nothing.
 use borrow.Author.Needs.{needs}
-use Rattle.calls.specs.Said.{filled}
-use Rattle.calls.proofs.tell_delete.Statement.{statement}
-use Rattle.calls.proofs.tell_delete.Tie as tie
+use Rattle.answers.specs.Said.{filled}
+use Rattle.answers.proofs.tell_add.Statement.{statement}
+use Rattle.answers.proofs.tell_add.Tie as tie
 
 enum-known-answer : tie.Need-enum-known-answer
 enum-known-answer c = search needs
@@ -10,14 +10,17 @@ enum-known-answer c = search needs
 element-write-reply : tie.Need-element-write-reply
 element-write-reply c = search needs
 
+element-write-reply-2 : tie.Need-element-write-reply-2
+element-write-reply-2 c = search needs
+
 enum-known-answer-2 : tie.Need-enum-known-answer-2
 enum-known-answer-2 c = search needs
 
 wide8-requires : tie.Need-wide8-requires
 wide8-requires c κs = search needs
 
-element-write-reply-2 : tie.Need-element-write-reply-2
-element-write-reply-2 c = search needs
+element-write-reply-3 : tie.Need-element-write-reply-3
+element-write-reply-3 c = search needs
 
 returns : tie.Need-returns
 unfolding filled
@@ -27,14 +30,15 @@ returns-2 : tie.Need-returns-2
 unfolding filled
 returns-2 c = rw (c .before .before .answer2 .given .1, c .wide8 .ensures)
 
-pub tell-delete-spec : {M : Type 1} → statement M
-tell-delete-spec =
+pub tell-add-spec : {M : Type 1} → statement M
+tell-add-spec =
     tie.close
     (tie.spec
     enum-known-answer
     element-write-reply
+    element-write-reply-2
     enum-known-answer-2
     wide8-requires
-    element-write-reply-2
+    element-write-reply-3
     returns
     returns-2)
