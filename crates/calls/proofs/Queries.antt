@@ -1,9 +1,11 @@
 -- What a query of each kind gives, and that it leaves the lent state. Assumes nothing.
 use mathlib.Core.Path.{_≡_, sym, ap, _∙_, subst}
 use mathlib.Core.List.{List}
-use Prim.Native.Nat.{ℕ}
+use Prim.Native.Nat.{ℕ, min}
+use native.Mathlib.Nat.{min-eq-left}
 use lib.Ieee.{Float}
 use borrow.Author.Tests.{eq-eqb, ne-eqb}
+use Rattle.limits.specs.Limits.{width}
 use Rattle.cuttree.specs.Run.{Query, query, copiesOf, branchOf, boxOf}
 use Rattle.cuttree.proofs.Tests.{cond-true, cond-false}
 use Rattle.randomcuttree.specs.declared.RCFTree.{RCFTree}
@@ -34,9 +36,9 @@ module _ (tree : RCFTree) (k x : ℕ) (reply : List ℕ) where
     state = S;
   })
 
-  pub box-does : (k ≡ 8 → ⊥) → (k ≡ 9 → ⊥) → (nodes : List (List ℕ)) (points lows highs : List (List Float)) (r : BoxAnswer) → BoxTold tree nodes points lows highs x r → reply ≡ filled replyWidth (boxNumbers (tree .dimensions) r)
+  pub box-does : (k ≡ 8 → ⊥) → (k ≡ 9 → ⊥) → (nodes : List (List ℕ)) (points lows highs : List (List Float)) (r : BoxAnswer) → BoxTold tree nodes points lows highs x r → reply ≡ filled replyWidth (boxNumbers (min (tree .dimensions) width) r)
       → (a : Lent) (marks : List ℕ) → BoxRead a nodes lows highs → Does (λ d. query (queryOf k x)) tree a points marks tree a points marks reply
   box-does n m nodes points lows highs r T f a marks g = asked a points marks (boxOf x) (cond-false _ _ _ (ne-eqb k 8 n) ∙ cond-false _ _ _ (ne-eqb k 9 m)) (λ d c j W S. record {
-    reply-is = f ∙ ap (λ y. filled replyWidth (boxNumbers y r)) (S .dimensions-are) ∙ ap (λ y. filled replyWidth (boxNumbers d y)) (T d c j W a marks S g);
+    reply-is = f ∙ ap (λ y. filled replyWidth (boxNumbers y r)) (ap (λ (n : ℕ). min n width) (S .dimensions-are) ∙ min-eq-left (S .limits .1)) ∙ ap (λ y. filled replyWidth (boxNumbers d y)) (T d c j W a marks S g);
     state = S;
   })

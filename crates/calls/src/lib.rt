@@ -20,9 +20,8 @@ ghost use Prim.Native.Nat.{ℕ, _+_, _≤_};
 ghost use lib.ListN.{take};
 ghost use lib.Ieee.{Float};
 ghost use Rattle.limits.specs.Limits.{width, capacityLimit};
-ghost use Rattle.cuttree.specs.Run.{World, put, add, delete, query};
-ghost use Rattle.wholetree.specs.Whole.{whole};
-ghost use Rattle.pointstore.specs.Puts.{Tabled, PutDone};
+ghost use Rattle.cuttree.specs.Run.{put, add, delete, query};
+ghost use Rattle.pointstore.specs.Puts.{Puts};
 ghost use Rattle.randomcuttree.specs.State.{Lent, lent, SomeState};
 ghost use Rattle.randomcuttree.specs.Answers.{AddDone};
 ghost use Rattle.randomcuttree.specs.Queries.{BoxRead, SomeBoxRead};
@@ -47,7 +46,7 @@ fn put_first(
     n: usize,
 ) -> PutAnswer
     requires { ⌜ n ≤ (width + 1) ⌝ }
-    ensures { λ r. ⌜ ((d c : ℕ) (W : World (whole d)) → dimensions ≡ d → Tabled d c W (now (points .entry)) (now (written .entry)) (now (copies .entry)) → PutDone d c W index (take n (now (coordinates .entry))) (now (points .exit)) (now (written .exit)) r) ⌝ }
+    ensures { λ r. ⌜ Puts dimensions (now (copies .entry)) index (take n (now (coordinates .entry))) (now (points .entry)) (now (written .entry)) (now (points .exit)) (now (written .exit)) r ⌝ }
 {
     let all: &[f32] = coordinates;
     pointstore::put(dimensions, copies, points, written, index, &all[..n])
@@ -219,7 +218,7 @@ pub fn query(
     id: usize,
     reply: &mut Reply,
 )
-    requires { ⌜ SomeBoxRead tree (now nodes) (now points) (now lows) (now highs) × (tree .dimensions ≤ width) ⌝ }
+    requires { ⌜ SomeBoxRead tree (now nodes) (now points) (now lows) (now highs) ⌝ }
     ensures { λ _. ⌜ ((a : Lent) (marks : List ℕ) → BoxRead a (now (nodes .entry)) (now (lows .entry)) (now (highs .entry)) → a .cuts ≡ now (cuts .entry) → a .copies ≡ now (copies .entry)
         → Does (λ d. query (queryOf kind id)) tree a (now (points .entry)) marks tree a (now (points .entry)) marks (now (reply .exit))) ⌝ }
 {

@@ -6,14 +6,12 @@ use limits::POINTS;
 use limits::Points;
 use limits::Row;
 ghost use mathlib.Core.Path.{_≡_};
-ghost use Prim.Native.Nat.{ℕ};
 ghost use lib.ListN.{replicate};
 ghost use Rattle.limits.specs.Limits.{width, pointLimit};
 ghost use Rattle.layout.specs.Layout.{noEnds};
 ghost use Rattle.wholetree.specs.Reading.{padded};
-ghost use Rattle.wholetree.specs.Whole.{allCoordinates, whole};
-ghost use Rattle.cuttree.specs.Run.{World};
-ghost use Rattle.pointstore.specs.Puts.{orNought, Tabled, PutDone};
+ghost use Rattle.wholetree.specs.Whole.{allCoordinates};
+ghost use Rattle.pointstore.specs.Puts.{orNought, pointRefusal, putRefusal, Puts};
 
 // What a put answers: `Written`, or `Refused` with document 01's number.
 pub enum PutAnswer {
@@ -49,7 +47,8 @@ fn coordinate_at(coordinates: &[f32], i: usize) -> f32
 }
 
 // The coordinates as a row of the table.
-fn row_of(coordinates: &[f32]) -> Row
+// Rules out padding that is not +0.0, and a row that ends at the first coordinate that is 0.
+pub fn row_of(coordinates: &[f32]) -> Row
     ensures { λ r. ⌜ r ≡ padded width (now (coordinates .entry)) ⌝ }
 {
     let mut row = [0.0f32; CHANNELS];
@@ -75,8 +74,39 @@ fn all_coordinates(coordinates: &[f32]) -> bool
     true
 }
 
+// Whether coordinates are a reading of so many channels: document 01's refusal, 6 before 7, or 0. Every call that is given a point asks this.
+// Rules out a bad coordinate refused as a wrong count, and a list taken for its count alone.
+pub fn check_point(dimensions: usize, coordinates: &[f32]) -> u8
+    ensures { λ r. ⌜ r ≡ pointRefusal dimensions (now (coordinates .entry)) ⌝ }
+{
+    if coordinates.len() != dimensions {
+        return 6;
+    }
+    if !all_coordinates(coordinates) {
+        return 7;
+    }
+    0
+}
+
+// The refusal of a put, in document 01's order, or 0.
+fn check_put(dimensions: usize, copies: &Copies, index: usize, coordinates: &[f32]) -> u8
+    ensures { λ r. ⌜ r ≡ putRefusal dimensions (now (copies .entry)) index (now (coordinates .entry)) ⌝ }
+{
+    if POINTS <= index {
+        return 5;
+    }
+    let refusal = check_point(dimensions, coordinates);
+    if refusal != 0 {
+        return refusal;
+    }
+    if 0 < copies[index] {
+        return 8;
+    }
+    0
+}
+
 // Writes the coordinates for a point index, as its row and its mark; or refuses, in document 01's order, and writes nothing.
-// Rules out a put over a leaf's index, and a bad coordinate refused as a wrong count.
+// Rules out a put over a leaf's index, and a mark set by a put that is refused.
 pub fn put(
     dimensions: usize,
     copies: &Copies,
@@ -85,19 +115,11 @@ pub fn put(
     index: usize,
     coordinates: &[f32],
 ) -> PutAnswer
-    ensures { λ r. ⌜ ((d c : ℕ) (W : World (whole d)) → dimensions ≡ d → Tabled d c W (now (points .entry)) (now (written .entry)) (now (copies .entry)) → PutDone d c W index (now (coordinates .entry)) (now (points .exit)) (now (written .exit)) r) ⌝ }
+    ensures { λ r. ⌜ Puts dimensions (now (copies .entry)) index (now (coordinates .entry)) (now (points .entry)) (now (written .entry)) (now (points .exit)) (now (written .exit)) r ⌝ }
 {
-    if POINTS <= index {
-        return PutAnswer::Refused(5);
-    }
-    if coordinates.len() != dimensions {
-        return PutAnswer::Refused(6);
-    }
-    if !all_coordinates(coordinates) {
-        return PutAnswer::Refused(7);
-    }
-    if 0 < copies[index] {
-        return PutAnswer::Refused(8);
+    let refusal = check_put(dimensions, copies, index, coordinates);
+    if refusal != 0 {
+        return PutAnswer::Refused(refusal);
     }
     points[index] = row_of(coordinates);
     written[index] = 1;

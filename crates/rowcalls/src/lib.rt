@@ -25,19 +25,12 @@ ghost use Rattle.randomcuttree.specs.State.{lent, SomeState};
 ghost use Rattle.calls.specs.Done.{Does};
 ghost use Rattle.rowcalls.specs.Ops.{callOf, SomeOp};
 
-// The lesser of two numbers.
-fn at_most(n: usize, most: usize) -> usize
-    ensures { λ r. ⌜ r ≡ min n most ⌝ }
-{
-    if n < most { n } else { most }
-}
-
 // The first coordinates of a row, from a place on, as many as a put looks at, and how many of them there are.
 fn first_coordinates(row: &[u8], start: usize, coordinates: &mut Coordinates) -> usize
     ensures first { λ r. ⌜ take r (now (coordinates .exit)) ≡ take (width + 1) (coordinatesFrom (now (row .entry)) start) ⌝ }
     ensures count { λ r. ⌜ r ≡ min (length (coordinatesFrom (now (row .entry)) start)) (width + 1) ⌝ }
 {
-    at_most(text::read_coordinates(row, start, coordinates), COORDINATES)
+    casts::at_most(text::read_coordinates(row, start, coordinates), COORDINATES)
 }
 
 // The first words of a row, from a place on, as many as an add looks at, and how many of them there are.
@@ -45,7 +38,7 @@ fn first_words(row: &[u8], start: usize, words: &mut Words) -> usize
     ensures first { λ r. ⌜ take r (now (words .exit)) ≡ take capacityLimit (wordsFrom (now (row .entry)) start) ⌝ }
     ensures count { λ r. ⌜ r ≡ min (length (wordsFrom (now (row .entry)) start)) capacityLimit ⌝ }
 {
-    at_most(text::read_words(row, start, words), CAPACITY)
+    casts::at_most(text::read_words(row, start, words), CAPACITY)
 }
 
 // The call of an op row: its answer's numbers in the reply, with 0 after them, and the header after it.

@@ -30,12 +30,6 @@ ghost use Rattle.runlayout.specs.Layout.{isMaking, channels, capacity, share};
 ghost use Rattle.run.specs.Outcome.{given, answered, outcome};
 ghost use Rattle.run.specs.Running.{Running, SomeRunning, Started, SomeStarted, Checks};
 
-fn wide(x: u8) -> usize
-    ensures { λ r. ⌜ r ≡ x ⌝ }
-{
-    x as usize
-}
-
 // Writes the first n numbers of a reply, from the answer number `out` on.
 fn write_reply(answers: &mut [u8], out: usize, reply: &[usize], n: usize)
     requires { ⌜ (n ≤ length (now reply)) × (4 * (out + n) ≤ length (now answers)) ⌝ }
@@ -104,7 +98,7 @@ fn tell_refusal(answers: &mut [u8], refusal: u8) -> usize
     if answers.len() < 4 {
         return 15;
     }
-    little::put_u32(answers, 0, wide(refusal));
+    little::put_u32(answers, 0, casts::wide8(refusal));
     4
 }
 

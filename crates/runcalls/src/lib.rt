@@ -25,13 +25,6 @@ ghost use Rattle.randomcuttree.specs.State.{Lent, lent, SomeState};
 ghost use Rattle.calls.specs.Done.{Does};
 ghost use Rattle.runlayout.specs.Layout.{size, number, double, coordinatesAt, wordsAt, callAt, standsAt};
 
-// The lesser of two numbers.
-fn at_most(n: usize, most: usize) -> usize
-    ensures { λ r. ⌜ r ≡ min n most ⌝ }
-{
-    if n < most { n } else { most }
-}
-
 // n coordinates from a place on.
 fn coordinates_at(run: &[u8], from: usize, n: usize) -> Coordinates
     requires { ⌜ (n ≤ (width + 1)) × (from + n ≤ size (now run)) ⌝ }
@@ -79,7 +72,7 @@ fn put_call(
     ensures { λ _. ⌜ ((a : Lent) → a .copies ≡ now (copies .entry) → Does (λ d. put (number (now (run .entry)) (p + 1)) (coordinatesAt (now (run .entry)) p)) tree a (now (points .entry)) (now (written .entry)) tree a (now (points .exit)) (now (written .exit)) (now (reply .exit))) ⌝ }
 {
     let index = runlayout::number_at(run, p + 1);
-    let n = at_most(runlayout::number_at(run, p + 2), COORDINATES);
+    let n = casts::at_most(runlayout::number_at(run, p + 2), COORDINATES);
     let coordinates = coordinates_at(run, p + 3, n);
     calls::put(tree, copies, points, written, index, &coordinates, n, reply);
 }
@@ -103,7 +96,7 @@ fn add_call(
     ensures { λ r. ⌜ Does (λ d. add (number (now (run .entry)) (p + 1)) (wordsAt (now (run .entry)) p)) tree (lent (now (nodes .entry)) (now (cuts .entry)) (now (copies .entry)) (now (free .entry)) (now (lows .entry)) (now (highs .entry))) (now (points .entry)) (now (written .entry)) r (lent (now (nodes .exit)) (now (cuts .exit)) (now (copies .exit)) (now (free .exit)) (now (lows .exit)) (now (highs .exit))) (now (points .entry)) (now (written .entry)) (now (reply .exit)) ⌝ }
 {
     let index = runlayout::number_at(run, p + 1);
-    let n = at_most(runlayout::number_at(run, p + 2), CAPACITY);
+    let n = casts::at_most(runlayout::number_at(run, p + 2), CAPACITY);
     read_words(run, p + 3, n, words);
     calls::add(
         tree,

@@ -14,12 +14,6 @@ pub enum Checked {
     Enough,
 }
 
-fn wide(x: u32) -> usize
-    ensures { λ r. ⌜ (r ≡ x) × (x < 4294967296) ⌝ }
-{
-    x as usize
-}
-
 // How many whole numbers a run has.
 pub fn size_of(run: &[u8]) -> usize
     ensures { λ r. ⌜ r ≡ size (now (run .entry)) ⌝ }
@@ -40,7 +34,7 @@ pub fn number_at(run: &[u8], p: usize) -> usize
     requires { ⌜ p < size (now run) ⌝ }
     ensures { λ r. ⌜ (r ≡ number (now (run .entry)) p) × (r < 4294967296) ⌝ }
 {
-    wide(bits_at(run, p))
+    casts::wide32(bits_at(run, p))
 }
 
 // The number of 64 bits at a place.

@@ -34,18 +34,6 @@ ghost use Rattle.lines.specs.Lines.{refusedLine, Wrote};
 ghost use Rattle.treelist_text.specs.Output.{sixteenthsOf, outputFrom, outputBy, output};
 ghost use Rattle.treelist_text.specs.Running.{InForm, HasRows, Standing, SomeStanding};
 
-fn wide(x: u8) -> usize
-    ensures { λ r. ⌜ r ≡ x ⌝ }
-{
-    x as usize
-}
-
-fn wide64(x: u64) -> usize
-    ensures { λ r. ⌜ r ≡ x ⌝ }
-{
-    x as usize
-}
-
 // The cached share of a number of sixteenths, which has at most nine digits: an f64 has each such number.
 fn share_of(sixteenths: u64) -> f64
     requires { ⌜ sixteenths < 1000000000 ⌝ }
@@ -153,7 +141,7 @@ fn print_by(
         &mut highs,
     );
     match made {
-        Made::NotMade(refusal) => lines::put_refused(out, 0, wide(refusal), 0),
+        Made::NotMade(refusal) => lines::put_refused(out, 0, casts::wide8(refusal), 0),
         Made::Tree(tree) => run_rows(
             tree,
             &mut nodes,
@@ -182,8 +170,8 @@ fn print_made(text: &[u8], out: &mut [u8]) -> usize
     match form::read_making(&text[a + 1..b]) {
         MakingRow::NoMaking => 0,
         MakingRow::Make(channels, capacity, sixteenths) => print_by(
-            wide64(channels),
-            wide64(capacity),
+            casts::wide64(channels),
+            casts::wide64(capacity),
             share_of(sixteenths),
             text,
             c + 1,

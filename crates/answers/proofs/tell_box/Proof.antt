@@ -1,9 +1,11 @@
 -- `answers::tell_box` meets its contract: after i turns the numbers of the first i channels stand. Assumes nothing.
 use native.Mathlib.Omega.{arith}
-use mathlib.Core.Path.{_∙_}
-use Prim.Native.Nat.{ℕ, _-_}
+use mathlib.Core.Path.{_≡_, ap, _∙_}
+use Prim.Native.Nat.{ℕ, _-_, min}
+use native.Mathlib.Nat.{min-le-right}
 use lib.ListN.{getD}
 use lib.Ieee.{binary32, toBits}
+use Rattle.limits.specs.Limits.{width}
 use Rattle.boundingbox.specs.Ends.{channel}
 use Rattle.answers.specs.Said.{filled}
 use Rattle.answers.proofs.Told.{Told, told-none, told-turn, told-all}
@@ -12,10 +14,13 @@ use Rattle.answers.proofs.tell_box.Statement.{statement}
 use Rattle.answers.proofs.tell_box.Tie as tie
 
 abbrev Inv-loop : tie.InvT-loop
-Inv-loop dimensions reply₀ d low high i₀ reply i = (d ≤ width) × Told (getD reply₀ 0 0) (λ (j : ℕ). toBits binary32 (channel low j)) (λ (j : ℕ). toBits binary32 (channel high j)) d i reply
+Inv-loop dimensions reply₀ d low high i₀ reply i = (d ≡ min dimensions width) × Told (getD reply₀ 0 0) (λ (j : ℕ). toBits binary32 (channel low j)) (λ (j : ℕ). toBits binary32 (channel high j)) d i reply
 
 abbrev μ-loop : tie.MeasureT-loop
-μ-loop d reply₀ low high i₀ reply i = d - i
+μ-loop dimensions reply₀ d low high i₀ reply i = d - i
+
+at-most-requires : tie.Need-at-most-requires Inv-loop μ-loop
+at-most-requires c κs = search needs
 
 wide8-requires : tie.Need-wide8-requires Inv-loop μ-loop
 wide8-requires c κs = search needs
@@ -25,7 +30,7 @@ element-write-reply c = search needs
 
 loop-holds : tie.Need-loop-holds Inv-loop μ-loop
 unfolding filled
-loop-holds c = told-none (c .wide8 .result) _ _ _
+loop-holds c = (c .before .before .before .before .before .at-most .ensures, told-none (c .wide8 .result) _ _ _)
 
 mul-pattern-of : tie.Need-mul-pattern-of Inv-loop μ-loop
 mul-pattern-of c = search needs
@@ -79,10 +84,10 @@ loop-less : tie.Need-loop-less Inv-loop μ-loop
 loop-less c = search needs
 
 loop-again : tie.Need-loop-again Inv-loop μ-loop
-loop-again c = told-turn _ _ _ _ _ _ _ _ (c .before .before .before .before .before .loop .inv) (omega arith) (c .before .before .before .before .before .before .before .before .before .before .before .pre) (c .before .before .wide32 .ensures ∙ c .before .before .before .pattern-of .ensures) (c .wide322 .ensures ∙ c .before .pattern-of2 .ensures)
+loop-again c = let w = c .before .before .before .before .before .loop .inv in (w .0, told-turn _ _ _ _ _ _ _ _ (w .1) (omega arith) (omega (arith, w .0, min-le-right (c .before .before .before .before .before .before .before .before .before .before .before .before .args .dimensions) width)) (c .before .before .wide32 .ensures .0 ∙ c .before .before .before .pattern-of .ensures) (c .wide322 .ensures .0 ∙ c .before .pattern-of2 .ensures))
 
 returns : tie.Need-returns Inv-loop μ-loop
-returns c = rw (← c .before .before .wide8 .ensures) (told-all _ _ _ _ _ _ (c .before .loop .inv) (omega arith))
+returns c = rw (← c .before .before .wide8 .ensures .0, ← c .before .loop .inv .0) (told-all _ _ _ _ _ _ (c .before .loop .inv .1) (omega arith))
 
 pub tell-box-spec : {M : Type 1} → statement M
 tell-box-spec =
@@ -90,6 +95,7 @@ tell-box-spec =
     (tie.spec
     Inv-loop
     μ-loop
+    at-most-requires
     wide8-requires
     element-write-reply
     loop-holds

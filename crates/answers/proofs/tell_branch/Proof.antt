@@ -39,11 +39,11 @@ element-write-reply-6 c = search needs
 
 returns : tie.Need-returns
 unfolding filled
-returns c = rw (c .before .before .before .before .answer .given .1, c .wide32 .ensures, c .before .pattern-of .ensures)
+returns c = rw (c .before .before .before .before .answer .given .1, c .wide32 .ensures .0, c .before .pattern-of .ensures)
 
 returns-2 : tie.Need-returns-2
 unfolding filled
-returns-2 c = rw (c .before .before .answer2 .given .1, c .wide8 .ensures)
+returns-2 c = rw (c .before .before .answer2 .given .1, c .wide8 .ensures .0)
 
 pub tell-branch-spec : {M : Type 1} → statement M
 tell-branch-spec =

@@ -25,7 +25,7 @@ returns c = rw (c .before .answer .given .1)
 
 returns-2 : tie.Need-returns-2
 unfolding filled
-returns-2 c = rw (c .before .before .answer2 .given .1, c .wide8 .ensures)
+returns-2 c = rw (c .before .before .answer2 .given .1, c .wide8 .ensures .0)
 
 pub tell-delete-spec : {M : Type 1} → statement M
 tell-delete-spec =

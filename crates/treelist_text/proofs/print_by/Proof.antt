@@ -16,8 +16,8 @@ new-requires c κs = search needs
 enum-known-made : tie.Need-enum-known-made
 enum-known-made c = search needs
 
-wide-requires : tie.Need-wide-requires
-wide-requires c κs = search needs
+wide8-requires : tie.Need-wide8-requires
+wide8-requires c κs = search needs
 
 put-refused-requires : tie.Need-put-refused-requires
 put-refused-requires c κs = search needs
@@ -44,7 +44,7 @@ same-length c = search needs
 
 returns : tie.Need-returns
 returns c =
-    λ os e. not-made (c .before .before .before .before .before .before .before .before .new .ensures) _ _ (c .before .before .before .before .before .before .made .given .1) (c .before .before .before .wide .ensures) os (c .before .before .put-refused .ensures .0)
+    λ os e. not-made (c .before .before .before .before .before .before .before .before .new .ensures) _ _ (c .before .before .before .before .before .before .made .given .1) (c .before .before .before .wide8 .ensures .0) os (c .before .before .put-refused .ensures .0)
 
 same-length-2 : tie.Need-same-length-2
 same-length-2 c = search needs
@@ -64,7 +64,7 @@ print-by-spec =
     no-marks-requires
     new-requires
     enum-known-made
-    wide-requires
+    wide8-requires
     put-refused-requires
     enum-known-made-2
     run-rows-requires
