@@ -30,6 +30,16 @@ afterRelease (x ∷ xs) i =
     (cond (eqb (x .1 + 1) i) ((x .0, i) ∷ xs)
     ((i, i) ∷ x ∷ xs))
 
+-- Freed 0, 3, then 1: 1 is beside 0, which is not on top, so they never join.
+below-top : afterRelease (afterRelease (afterRelease [] 0) 3) 1 ≡ (1, 1) ∷ (3, 3) ∷ (0, 0) ∷ []
+unfolding afterRelease
+below-top = refl
+
+-- Freed 2, then 1 and 3, at either end of it.
+joined : afterRelease (afterRelease (afterRelease [] 2) 1) 3 ≡ (1, 3) ∷ []
+unfolding afterRelease
+joined = refl
+
 -- 1 where the two numbers are the same, else 0.
 unfoldable pub is : ℕ → ℕ → ℕ
 is i j = cond (eqb i j) 1 0
@@ -78,31 +88,3 @@ NextBelow = (size : ℕ) (xs : List (ℕ × ℕ)) → Proper size xs → 0 < len
 -- Numbers that are free once at most are no more than `size`, and neither are their intervals:
 abbrev pub FewIntervals : Type 0
 FewIntervals = (size : ℕ) (xs : List (ℕ × ℕ)) → Proper size xs → Once xs → (sizes xs ≤ size) × (length xs ≤ sizes xs)
-
--- Capacity 6 has the branch numbers 0 to 4, handed out upwards, and none is left then.
-upwards : afterGet (afterGet (fresh 5)) ≡ (2, 4) ∷ []
-unfolding fresh afterGet
-upwards = refl
-
-spent : afterGet (afterGet (afterGet (afterGet (afterGet (fresh 5))))) ≡ []
-unfolding fresh afterGet
-spent = refl
-
--- Freed 0, then 2: two intervals, and the next branch is 2, not 0.
-apart : afterRelease (afterRelease [] 0) 2 ≡ (2, 2) ∷ (0, 0) ∷ []
-unfolding afterRelease
-apart = refl
-
-latest : next (afterRelease (afterRelease [] 0) 2) ≡ 2
-unfolding next afterRelease
-latest = refl
-
--- Freed 0, 3, then 1: 1 is beside 0, which is not on top, so they never join.
-below-top : afterRelease (afterRelease (afterRelease [] 0) 3) 1 ≡ (1, 1) ∷ (3, 3) ∷ (0, 0) ∷ []
-unfolding afterRelease
-below-top = refl
-
--- Freed 2, then 1 and 3, at either end of it.
-joined : afterRelease (afterRelease (afterRelease [] 2) 1) 3 ≡ (1, 3) ∷ []
-unfolding afterRelease
-joined = refl

@@ -9,7 +9,7 @@ use borrow.Author.Tests.{ltb-true, ltb-false, lt-ltb}
 use lib.ListN.{length, getD, length-append, List·getD-append}
 use lib.Dec.{ltb, lit≤}
 use Rattle.text.specs.declared.Number.the-variants.{Is, NoNumber}
-use Rattle.text.specs.Numbers.{digitValue, digitsFrom, numberOf, wordOf}
+use Rattle.text.specs.Numbers.{digitValue, digitsFrom, decimalOf, wordOf}
 use Rattle.text.proofs.Numbers.{value-digit, value-letter, number-one, number-more, word-is}
 use Rattle.lines.specs.Lines.{digit, decimal, hex}
 use Rattle.lines.proofs.Digits.{digit-low, digit-high, decimal-low, decimal-more, decimal-length, hex-length}
@@ -81,10 +81,10 @@ first-digit (suc k) n l h z = go (ltb n 10) refl (λ a b c. first-digit k (n / 1
         ih (omega arith) (omega arith) (rw (decimal-more n m, List·getD-append (decimal (n / 10)) (digit (n % 10) ∷ []) 0 0 q) at z)
 
 -- THE WAY BACK: what is written in decimal is read as the number it was, up to nine digits
-pub number-decimal : (n : ℕ) → n < 1000000000 → numberOf (decimal n) ≡ Is n
+pub number-decimal : (n : ℕ) → n < 1000000000 → decimalOf (decimal n) ≡ Is n
 number-decimal n h = go (ltb n 10) refl
   where
-    go : (t : Bool) → ltb n 10 ≡ t → numberOf (decimal n) ≡ Is n
+    go : (t : Bool) → ltb n 10 ≡ t → decimalOf (decimal n) ≡ Is n
     go true e =
         let l : n < 10 = ltb-true n 10 e in
         number-one (decimal n) (ap length (decimal-low n l)) ∙ lone-digit n l

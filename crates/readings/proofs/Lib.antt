@@ -11,4 +11,3 @@ pub mod Narrows
 pub mod CoordinateBits
 pub mod WeightBits
 pub mod NarrowBits
-pub mod Examples

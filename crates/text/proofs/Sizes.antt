@@ -8,7 +8,7 @@ use native.Mathlib.Omega.{arith}
 use lib.ListN.{length, getD}
 use lib.Dec.{T, eqb, leb, ltb, lit<, lit≤, ltb→lt, eqb→eq, leb→le}
 use Rattle.text.specs.declared.Number.the-variants.{Is, NoNumber}
-use Rattle.text.specs.Numbers.{digitValue, digitsFrom, numberOf, wordOf}
+use Rattle.text.specs.Numbers.{digitValue, digitsFrom, decimalOf, wordOf}
 use Rattle.text.specs.Fields.{numberInForm, numberOrZero}
 use Rattle.text.proofs.Numbers.{more}
 
@@ -32,8 +32,8 @@ digits-small b v i (x ∷ s) r h e = go (ltb (digitValue x) b) (ltb→lt (digitV
 small : (b : ℕ) (s : List ℕ) (r : ℕ) → digitsFrom b 0 s ≡ Is r → r < b ^ length s
 small b s r e = rw (zero-add (length s)) at (digits-small b 0 0 s r (rw (pow-zero b) (omega arith)) e)
 
-pub number-small : (s : List ℕ) (v : ℕ) → numberOf s ≡ Is v → v < 1000000000
-unfolding numberOf
+pub number-small : (s : List ℕ) (v : ℕ) → decimalOf s ≡ Is v → v < 1000000000
+unfolding decimalOf
 number-small s v e = go (leb 1 (length s)) (leb (length s) 9) (eqb (length s) 1 || not (eqb (getD s 0 0) 48)) (leb→le (length s) 9) e
   where
     go : (x y z : Bool) → (T y → length s ≤ 9) → cond (x && y && z) (digitsFrom 10 0 s) NoNumber ≡ Is v → v < 1000000000
