@@ -67,8 +67,9 @@ Proper size (x ∷ xs) = (x .0 ≤ x .1) × (x .1 < size) × Proper size xs
 abbrev pub Once : List (ℕ × ℕ) → Type 0
 Once xs = (j : ℕ) → holds xs j ≤ 1
 
--- What is proved of them. A new manager's stack is `Proper` and `Once`, and each call leaves it so, where a freed number was not free.
--- Each call changes `sizes` by one. `get` moves one number, the one that it hands out:
+-- What is proved of them, in proofs/Counts.antt and proofs/Sizes.antt. A new manager's stack is `Proper` and `Once`, and each call leaves
+-- it so, where a freed number was not free (`proper-fresh`, `once-fresh`, `once-get` and the like). Each call changes `sizes` by one
+-- (`sizes-get`, `sizes-release`). `get` moves one number, the one that it hands out:
 abbrev pub GetMovesOne : Type 0
 GetMovesOne =
     (size : ℕ) (xs : List (ℕ × ℕ)) (j : ℕ) → Proper size xs → 0 < length xs → holds xs j ≡ is (next xs) j + holds (afterGet xs) j

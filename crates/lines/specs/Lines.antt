@@ -17,11 +17,11 @@ unfoldable pub decimalIn : ℕ → ℕ → List ℕ
 decimalIn zero n = []
 decimalIn (suc room) n = cond (ltb n 10) (digit n ∷ []) (decimalIn room (n / 10) ++ (digit (n % 10) ∷ []))
 
--- 'Numbers are decimal' and have no leading zero; n has no more digits than n + 1
+-- 'Numbers are decimal' and have no leading zero; n has no more digits than n + 1. Below 10^9 it is read back as n (`number-decimal` in proofs/Back.antt).
 unfoldable pub decimal : ℕ → List ℕ
 decimal n = decimalIn (suc n) n
 
--- 'upper-case hexadecimal digits': the last `count` of n
+-- 'upper-case hexadecimal digits': the last `count` of n. A word's sixteen are read back as it (`word-hex` in proofs/Back.antt).
 unfoldable pub hex : ℕ → ℕ → List ℕ
 hex zero n = []
 hex (suc count) n = hex count (n / 16) ++ (digit (n % 16) ∷ [])

@@ -13,6 +13,7 @@ isShare (inf s) = false
 isShare (fin s m e) = cond s (eqb m 0) (leb (m * up e) (down e))
 
 -- Document 01, 'Tree': 'Branches below the whole part of share × c (one rounded product) are cached.'
+-- At a share it is that whole part, and at most c: `cached-part` in proofs/Shares.antt.
 unfoldable pub cachedPart : Float → ℕ → ℕ
 cachedPart s c = toUnsigned 64 (mul binary64 s (ofInt binary64 (pos c)))
 
