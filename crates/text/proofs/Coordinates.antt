@@ -41,5 +41,8 @@ pub capped-is : (v m : ℕ) → m ≡ min v 2097152 → ofInt binary32 (pos m) �
 unfolding capped
 capped-is v m e = rw e
 
+pub minus-none : {n : Number} {v : ℕ} → n ≡ Is v → v ≡ 0 → NoCoordinate ≡ afterMinus n
+minus-none e z = rw (e, z)
+
 pub minus-is : {n : Number} {v : ℕ} {x : Float} → n ≡ Is v → (v ≡ 0 → ⊥) → x ≡ capped v → At (neg x) ≡ afterMinus n
 minus-is e n w = rw (e, ne-eqb _ _ n, w)
