@@ -4,7 +4,6 @@ pub mod Keys
 pub mod Values
 pub mod Wholes
 pub mod Ranks
-pub mod Weights
 pub mod Words
 pub mod Shares
 pub mod Narrows
