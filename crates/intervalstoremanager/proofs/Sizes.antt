@@ -43,6 +43,12 @@ unfolding sizes Proper
 length-sizes size [] p = omega arith
 length-sizes size (x ∷ xs) p = omega (arith, length-sizes size xs (p .2), p .0)
 
+-- Where a number is free, there is an interval to hand it out of.
+pub some-interval : (xs : List (ℕ × ℕ)) → 0 < sizes xs → 0 < length xs
+unfolding sizes
+some-interval [] h = h
+some-interval (x ∷ xs) h = omega arith
+
 -- The sum of `f` at the numbers below `n`.
 abbrev total : ℕ → (ℕ → ℕ) → ℕ
 total zero f = 0
