@@ -6,7 +6,7 @@ use Prim.Native.Nat.{ℕ, _+_, _-_, _≤_}
 use native.Mathlib.Omega.{arith}
 use lib.ListN.{length, take, drop}
 use Rattle.text.specs.Pieces.{pieces, PieceEnds}
-use Rattle.text.specs.Numbers.{numberOf}
+use Rattle.text.specs.Numbers.{decimalOf}
 use Rattle.text.proofs.Pieces.{from-first, from-past, own-end}
 use Rattle.form.specs.Rows.{isSome}
 use Rattle.form.specs.Making.{Making, makingBy, makingOf, makingSays, isMaking}
@@ -31,7 +31,7 @@ module _ (s : List ℕ) {x : ℕ} (wx : PieceEnds 32 s 0 x) where
           let g : z + 1 ≤ length s = omega arith in
           rw (three 32 s wx nx wy ny wz, from-first 32 s (z + 1) _ g (own-end 32 s (z + 1) g))
 
-      pub making-three : z ≡ length s → makingOf (pieces 32 s) ≡ makingBy (numberOf (take (x - 0) (drop 0 s))) (numberOf (take (y - (x + 1)) (drop (x + 1) s))) (numberOf (take (z - (y + 1)) (drop (y + 1) s)))
+      pub making-three : z ≡ length s → makingOf (pieces 32 s) ≡ makingBy (decimalOf (take (x - 0) (drop 0 s))) (decimalOf (take (y - (x + 1)) (drop (x + 1) s))) (decimalOf (take (z - (y + 1)) (drop (y + 1) s)))
       unfolding makingOf
       making-three h = rw (three 32 s wx nx wy ny wz, from-past 32 s (z + 1) (omega arith))
 

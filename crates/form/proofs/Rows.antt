@@ -10,7 +10,7 @@ use lib.ListN.{length, take, drop}
 use Rattle.text.specs.declared.Number.{Number}
 use Rattle.text.specs.declared.Number.the-variants.{Is, NoNumber}
 use Rattle.text.specs.Pieces.{pieces, piecesFrom, PieceEnds}
-use Rattle.text.specs.Numbers.{numberOf, wordOf}
+use Rattle.text.specs.Numbers.{decimalOf, wordOf}
 use Rattle.text.specs.Coordinates.{coordinateOf}
 use Rattle.text.specs.Fields.{numberInForm, numberOrZero, coordinateOrZero}
 use Rattle.text.proofs.Pieces.{from-zero, from-first, from-past, from-some}
@@ -64,7 +64,7 @@ unfolding rowOf
 row-one s {e} w h = rw (← from-zero 32 s, from-first 32 s 0 e (omega arith) w, from-past 32 s (e + 1) (omega arith))
 
 pub row-two : (s : List ℕ) {e : ℕ} → PieceEnds 32 s 0 e → (e ≡ length s → ⊥) → {f : ℕ} → PieceEnds 32 s (e + 1) f
-    → rowOf (pieces 32 s) ≡ cond (numberInForm (numberOf (take (f - (e + 1)) (drop (e + 1) s)))) (rowBy (numberOf (take (e - 0) (drop 0 s))) (numberOrZero (numberOf (take (f - (e + 1)) (drop (e + 1) s)))) (piecesFrom 32 s (f + 1))) none
+    → rowOf (pieces 32 s) ≡ cond (numberInForm (decimalOf (take (f - (e + 1)) (drop (e + 1) s)))) (rowBy (decimalOf (take (e - 0) (drop 0 s))) (numberOrZero (decimalOf (take (f - (e + 1)) (drop (e + 1) s)))) (piecesFrom 32 s (f + 1))) none
 unfolding rowOf
 row-two s {e} w h {f} x = let g : e + 1 ≤ length s = omega arith in rw (← from-zero 32 s, from-first 32 s 0 e (omega arith) w, from-first 32 s (e + 1) f g x)
 

@@ -1,14 +1,17 @@
 -- Treelist's text (document 01, 'Printed tree') for every list of bytes: the making and the op rows that it brings, or its first bad row. Definitions and a statement.
 use Prim.Native.Nat.{ℕ, _+_}
-use mathlib.Core.Path.{_≡_}
+use mathlib.Core.Path.{_≡_, refl}
 use mathlib.Core.List.{List, [], _∷_}
 use mathlib.Core.Option.{Option, none, some}
 use mathlib.Core.Bool.{Bool, true, false, _&&_, cond}
 use lib.ListN.{length}
 use lib.Dec.{eqb, leb}
+use lib.Ieee.{binary32, ofBits, ofInt}
 use Rattle.text.specs.Quoted.{bytes}
 use Rattle.text.specs.Pieces.{pieces}
-use Rattle.form.specs.Rows.{Op, rowOf}
+use Rattle.text.specs.Numbers.{digitValue, digitsFrom, decimalOf, wordOf}
+use Rattle.text.specs.Coordinates.{capped, coordinateOf}
+use Rattle.form.specs.Rows.{Op, put, add, rowBy, rowOf}
 use Rattle.form.specs.Making.{Making, makingOf}
 use Rattle.form.specs.declared.Form.{Form}
 use Rattle.form.specs.declared.Form.the-variants.{Good, Bad}
@@ -69,6 +72,19 @@ blocks (a ∷ b ∷ c ∷ d ∷ ps) = cond (sameBytes a makingNames && sameBytes
 -- Document 01, 'Printed tree': 'reads standard input, at most 32 KiB', 'or for an over-long text'. Its length is looked at before its lines; 10 is the line feed.
 unfoldable pub parsed : List ℕ → Parsed
 parsed t = cond (leb (length t) 32768) (blocks (pieces 10 t)) (bad 0)
+
+-- Document 01's own text, read: the coordinates 0, 8 and 2 are the f32s 00000000, 41000000 and 40000000.
+document : parsed (bytes "dimensions capacity cache16\n1 4 16\nop index rest\n0 0 0\n0 1 8\n0 2 2\n1 0\n1 1 8000000000000000\n1 2 8000000000000000 8000000000000000\n")
+    ≡ read (record { channels = 1; capacity = 4; sixteenths = 16 })
+    (put 0 (ofBits binary32 0 ∷ [])
+    ∷ put 1 (ofBits binary32 0x4100_0000 ∷ [])
+    ∷ put 2 (ofBits binary32 0x4000_0000 ∷ [])
+    ∷ add 0 []
+    ∷ add 1 (0x8000_0000_0000_0000 ∷ [])
+    ∷ add 2 (0x8000_0000_0000_0000 ∷ 0x8000_0000_0000_0000 ∷ [])
+    ∷ [])
+unfolding parsed blocks makingOf sameBytes rowsFrom rowOf rowBy pieces digitValue digitsFrom decimalOf wordOf capped coordinateOf ofInt ofBits
+document = refl
 
 -- ---- what `check_form` answers
 -- Document 01, 'Printed tree': 'The form of the whole text is checked first: a bad text prints only `refused 17 R` for its first bad row'

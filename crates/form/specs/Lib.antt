@@ -2,4 +2,3 @@ pub mod Rows
 pub mod Making
 pub mod Form
 pub mod Lines
-pub mod Examples

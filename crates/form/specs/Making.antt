@@ -5,7 +5,7 @@ use mathlib.Core.Option.{Option, none, some}
 use mathlib.Core.Bool.{Bool, true, false}
 use Rattle.text.specs.declared.Number.{Number}
 use Rattle.text.specs.declared.Number.the-variants.{Is, NoNumber}
-use Rattle.text.specs.Numbers.{numberOf}
+use Rattle.text.specs.Numbers.{decimalOf}
 use Rattle.form.specs.declared.MakingRow.{MakingRow}
 use Rattle.form.specs.declared.MakingRow.the-variants.{Make, NoMaking}
 
@@ -27,7 +27,7 @@ unfoldable pub makingOf : List (List ℕ) → Option Making
 makingOf [] = none
 makingOf (a ∷ []) = none
 makingOf (a ∷ b ∷ []) = none
-makingOf (a ∷ b ∷ c ∷ []) = makingBy (numberOf a) (numberOf b) (numberOf c)
+makingOf (a ∷ b ∷ c ∷ []) = makingBy (decimalOf a) (decimalOf b) (decimalOf c)
 makingOf (a ∷ b ∷ c ∷ d ∷ ps) = none
 
 -- what `read_making` answers says

@@ -9,7 +9,7 @@ use lib.Ieee.{Float}
 use Rattle.text.specs.declared.Number.{Number}
 use Rattle.text.specs.declared.Number.the-variants.{Is, NoNumber}
 use Rattle.text.specs.Pieces.{all}
-use Rattle.text.specs.Numbers.{numberOf, wordOf}
+use Rattle.text.specs.Numbers.{decimalOf, wordOf}
 use Rattle.text.specs.Coordinates.{coordinateOf}
 use Rattle.text.specs.Fields.{numberInForm, numberOrZero, coordinateInForm, coordinateOrZero, wordsFrom, coordinatesFrom}
 use Rattle.form.specs.declared.Row.{Row}
@@ -41,7 +41,7 @@ rowBy (Is o) i ps =
 unfoldable pub rowOf : List (List ℕ) → Option Op
 rowOf [] = none
 rowOf (o ∷ []) = none
-rowOf (o ∷ i ∷ ps) = cond (numberInForm (numberOf i)) (rowBy (numberOf o) (numberOrZero (numberOf i)) ps) none
+rowOf (o ∷ i ∷ ps) = cond (numberInForm (decimalOf i)) (rowBy (decimalOf o) (numberOrZero (decimalOf i)) ps) none
 
 -- whether there is one
 abbrev pub isSome : {A : Type 0} → Option A → Bool

@@ -7,7 +7,7 @@ ghost use Prim.Native.Nat.{_+_, _-_, _≤_, _<_};
 ghost use lib.ListN.{length, take, drop};
 ghost use Rattle.text.specs.declared.Number as Number;
 ghost use Rattle.text.specs.Pieces.{piecesFrom, pieces};
-ghost use Rattle.text.specs.Numbers.{numberOf, wordOf};
+ghost use Rattle.text.specs.Numbers.{decimalOf, wordOf};
 ghost use Rattle.text.specs.Coordinates.{coordinateOf};
 ghost use Rattle.text.specs.Fields.{numberInForm, numberOrZero, coordinateInForm};
 ghost use Rattle.form.specs.Rows.{areCoordinates, areWords, rowBy, rowOf, rowSays, isOp, isSome};
@@ -37,7 +37,7 @@ pub enum Form {
 
 fn number_at(row: &[u8], start: usize, end: usize) -> Number
     requires { ⌜ (start ≤ end) × (end ≤ length (now row)) ⌝ }
-    ensures { λ r. ⌜ r ≡ numberOf (take (end - start) (drop start (now (row .entry)))) ⌝ }
+    ensures { λ r. ⌜ r ≡ decimalOf (take (end - start) (drop start (now (row .entry)))) ⌝ }
 {
     let field = &row[start..end];
     text::read_number(field)

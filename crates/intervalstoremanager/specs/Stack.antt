@@ -30,6 +30,16 @@ afterRelease (x ∷ xs) i =
     (cond (eqb (x .1 + 1) i) ((x .0, i) ∷ xs)
     ((i, i) ∷ x ∷ xs))
 
+-- Freed 0, 3, then 1: 1 is beside 0, which is not on top, so they never join.
+below-top : afterRelease (afterRelease (afterRelease [] 0) 3) 1 ≡ (1, 1) ∷ (3, 3) ∷ (0, 0) ∷ []
+unfolding afterRelease
+below-top = refl
+
+-- Freed 2, then 1 and 3, at either end of it.
+joined : afterRelease (afterRelease (afterRelease [] 2) 1) 3 ≡ (1, 3) ∷ []
+unfolding afterRelease
+joined = refl
+
 -- 1 where the two numbers are the same, else 0.
 unfoldable pub is : ℕ → ℕ → ℕ
 is i j = cond (eqb i j) 1 0
@@ -57,8 +67,9 @@ Proper size (x ∷ xs) = (x .0 ≤ x .1) × (x .1 < size) × Proper size xs
 abbrev pub Once : List (ℕ × ℕ) → Type 0
 Once xs = (j : ℕ) → holds xs j ≤ 1
 
--- What is proved of them. A new manager's stack is `Proper` and `Once`, and each call leaves it so, where a freed number was not free.
--- Each call changes `sizes` by one. `get` moves one number, the one that it hands out:
+-- What is proved of them, in proofs/Counts.antt and proofs/Sizes.antt. A new manager's stack is `Proper` and `Once`, and each call leaves
+-- it so, where a freed number was not free (`proper-fresh`, `once-fresh`, `once-get` and the like). Each call changes `sizes` by one
+-- (`sizes-get`, `sizes-release`). `get` moves one number, the one that it hands out:
 abbrev pub GetMovesOne : Type 0
 GetMovesOne =
     (size : ℕ) (xs : List (ℕ × ℕ)) (j : ℕ) → Proper size xs → 0 < length xs → holds xs j ≡ is (next xs) j + holds (afterGet xs) j
@@ -78,31 +89,3 @@ NextBelow = (size : ℕ) (xs : List (ℕ × ℕ)) → Proper size xs → 0 < len
 -- Numbers that are free once at most are no more than `size`, and neither are their intervals:
 abbrev pub FewIntervals : Type 0
 FewIntervals = (size : ℕ) (xs : List (ℕ × ℕ)) → Proper size xs → Once xs → (sizes xs ≤ size) × (length xs ≤ sizes xs)
-
--- Capacity 6 has the branch numbers 0 to 4, handed out upwards, and none is left then.
-upwards : afterGet (afterGet (fresh 5)) ≡ (2, 4) ∷ []
-unfolding fresh afterGet
-upwards = refl
-
-spent : afterGet (afterGet (afterGet (afterGet (afterGet (fresh 5))))) ≡ []
-unfolding fresh afterGet
-spent = refl
-
--- Freed 0, then 2: two intervals, and the next branch is 2, not 0.
-apart : afterRelease (afterRelease [] 0) 2 ≡ (2, 2) ∷ (0, 0) ∷ []
-unfolding afterRelease
-apart = refl
-
-latest : next (afterRelease (afterRelease [] 0) 2) ≡ 2
-unfolding next afterRelease
-latest = refl
-
--- Freed 0, 3, then 1: 1 is beside 0, which is not on top, so they never join.
-below-top : afterRelease (afterRelease (afterRelease [] 0) 3) 1 ≡ (1, 1) ∷ (3, 3) ∷ (0, 0) ∷ []
-unfolding afterRelease
-below-top = refl
-
--- Freed 2, then 1 and 3, at either end of it.
-joined : afterRelease (afterRelease (afterRelease [] 2) 1) 3 ≡ (1, 3) ∷ []
-unfolding afterRelease
-joined = refl

@@ -9,12 +9,12 @@ use borrow.Author.Tests.{ltb-true, ltb-false, lt-ltb}
 use lib.ListN.{length, getD, length-append, List·getD-append}
 use lib.Dec.{ltb, lit≤}
 use Rattle.text.specs.declared.Number.the-variants.{Is, NoNumber}
-use Rattle.text.specs.Numbers.{digitValue, digitsFrom, numberOf, wordOf}
+use Rattle.text.specs.Numbers.{digitValue, digitsFrom, decimalOf, wordOf}
 use Rattle.text.proofs.Numbers.{value-digit, value-letter, number-one, number-more, word-is}
 use Rattle.lines.specs.Lines.{digit, decimal, hex}
 use Rattle.lines.proofs.Digits.{digit-low, digit-high, decimal-low, decimal-more, decimal-length, hex-length}
 
-pub value-of-digit : (d : ℕ) → d < 16 → digitValue (digit d) ≡ d
+value-of-digit : (d : ℕ) → d < 16 → digitValue (digit d) ≡ d
 value-of-digit d h = go (ltb d 10) refl
   where
     go : (t : Bool) → ltb d 10 ≡ t → digitValue (digit d) ≡ d
@@ -47,7 +47,7 @@ unfolding digitsFrom
 lone-digit n h = rw (decimal-low n h) (snoc-digit 10 (lit≤ tt) [] 0 n refl h ∙ ap Is (omega arith))
 
 -- the digits of n in decimal, by the number of digits
-pub read-decimal : (k n : ℕ) → n < 10 ^ suc k → digitsFrom 10 0 (decimal n) ≡ Is n
+read-decimal : (k n : ℕ) → n < 10 ^ suc k → digitsFrom 10 0 (decimal n) ≡ Is n
 read-decimal zero n h = lone-digit n h
 read-decimal (suc k) n h = go (ltb n 10) refl (λ p. read-decimal k (n / 10) p)
   where
@@ -81,10 +81,10 @@ first-digit (suc k) n l h z = go (ltb n 10) refl (λ a b c. first-digit k (n / 1
         ih (omega arith) (omega arith) (rw (decimal-more n m, List·getD-append (decimal (n / 10)) (digit (n % 10) ∷ []) 0 0 q) at z)
 
 -- THE WAY BACK: what is written in decimal is read as the number it was, up to nine digits
-pub number-decimal : (n : ℕ) → n < 1000000000 → numberOf (decimal n) ≡ Is n
+pub number-decimal : (n : ℕ) → n < 1000000000 → decimalOf (decimal n) ≡ Is n
 number-decimal n h = go (ltb n 10) refl
   where
-    go : (t : Bool) → ltb n 10 ≡ t → numberOf (decimal n) ≡ Is n
+    go : (t : Bool) → ltb n 10 ≡ t → decimalOf (decimal n) ≡ Is n
     go true e =
         let l : n < 10 = ltb-true n 10 e in
         number-one (decimal n) (ap length (decimal-low n l)) ∙ lone-digit n l
@@ -94,7 +94,7 @@ number-decimal n h = go (ltb n 10) refl
         let s = some-digit (n / 10) in
         number-more (decimal n) (omega arith) (decimal-length 8 n h) (first-digit 8 n (omega arith) h) ∙ read-decimal 8 n h
 
-pub read-hex : (k n : ℕ) → n < 16 ^ k → digitsFrom 16 0 (hex k n) ≡ Is n
+read-hex : (k n : ℕ) → n < 16 ^ k → digitsFrom 16 0 (hex k n) ≡ Is n
 unfolding hex digitsFrom
 read-hex zero n h = ap Is (omega arith)
 read-hex (suc k) n h =

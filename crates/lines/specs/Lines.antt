@@ -6,6 +6,7 @@ use Prim.Native.Nat.{ℕ, zero, suc, _+_, _/_, _%_}
 use lib.Dec.{ltb}
 use lib.ListN.{length}
 use lib.Seq.{sets}
+use Rattle.text.specs.Quoted.{bytes}
 
 -- the byte of a digit, `0` to `9` and `A` to `F`
 unfoldable pub digit : ℕ → ℕ
@@ -16,21 +17,21 @@ unfoldable pub decimalIn : ℕ → ℕ → List ℕ
 decimalIn zero n = []
 decimalIn (suc room) n = cond (ltb n 10) (digit n ∷ []) (decimalIn room (n / 10) ++ (digit (n % 10) ∷ []))
 
--- 'Numbers are decimal' and have no leading zero; n has no more digits than n + 1
+-- 'Numbers are decimal' and have no leading zero; n has no more digits than n + 1. Below 10^9 it is read back as n (`number-decimal` in proofs/Back.antt).
 unfoldable pub decimal : ℕ → List ℕ
 decimal n = decimalIn (suc n) n
 
--- 'upper-case hexadecimal digits': the last `count` of n
+-- 'upper-case hexadecimal digits': the last `count` of n. A word's sixteen are read back as it (`word-hex` in proofs/Back.antt).
 unfoldable pub hex : ℕ → ℕ → List ℕ
 hex zero n = []
 hex (suc count) n = hex count (n / 16) ++ (digit (n % 16) ∷ [])
 
 -- 'One space stands between fields, and every line, the last too, ends in a line feed.' A field with its space, and the last with its line feed.
-abbrev pub field : ℕ → List ℕ
-field n = decimal n ++ (32 ∷ [])
+abbrev pub numberField : ℕ → List ℕ
+numberField n = decimal n ++ (32 ∷ [])
 
-abbrev pub lastField : ℕ → List ℕ
-lastField n = decimal n ++ (10 ∷ [])
+abbrev pub lastNumberField : ℕ → List ℕ
+lastNumberField n = decimal n ++ (10 ∷ [])
 
 -- 'id dimension cut left right mass'
 abbrev pub namesLine : List ℕ
@@ -38,36 +39,26 @@ namesLine = 105 ∷ 100 ∷ 32 ∷ 100 ∷ 105 ∷ 109 ∷ 101 ∷ 110 ∷ 115 �
 
 -- '0 0 40800000 1 5 3': a branch's line. 'cut bits 8 upper-case hexadecimal digits', and '`left` and `right` are ids'.
 unfoldable pub branchLine : (id dimension cut left right mass : ℕ) → List ℕ
-branchLine id dimension cut left right mass = field id ++ field dimension ++ hex 8 cut ++ (32 ∷ []) ++ field left ++ field right ++ lastField mass
+branchLine id dimension cut left right mass = numberField id ++ numberField dimension ++ hex 8 cut ++ (32 ∷ []) ++ numberField left ++ numberField right ++ lastNumberField mass
+
+example-branch : branchLine 1 0 0x3f80_0000 4 6 2 ≡ bytes "1 0 3F800000 4 6 2\n"
+unfolding branchLine decimal decimalIn hex digit
+example-branch = refl
 
 -- '4 - - - - 1': a leaf's line
 unfoldable pub leafLine : (id mass : ℕ) → List ℕ
-leafLine id mass = field id ++ (45 ∷ 32 ∷ 45 ∷ 32 ∷ 45 ∷ 32 ∷ 45 ∷ 32 ∷ []) ++ lastField mass
+leafLine id mass = numberField id ++ (45 ∷ 32 ∷ 45 ∷ 32 ∷ 45 ∷ 32 ∷ 45 ∷ 32 ∷ []) ++ lastNumberField mass
 
 -- 'A refused row prints `refused N R`'
 unfoldable pub refusedLine : (number row : ℕ) → List ℕ
-refusedLine number row = (114 ∷ 101 ∷ 102 ∷ 117 ∷ 115 ∷ 101 ∷ 100 ∷ 32 ∷ []) ++ field number ++ lastField row
+refusedLine number row = (114 ∷ 101 ∷ 102 ∷ 117 ∷ 115 ∷ 101 ∷ 100 ∷ 32 ∷ []) ++ numberField number ++ lastNumberField row
+
+example-refused : refusedLine 17 120 ≡ bytes "refused 17 120\n"
+unfolding refusedLine decimal decimalIn digit
+example-refused = refl
 
 -- The bytes are written from `at` on, as far as the buffer goes: what it held before and holds after, and the next place, which is one beyond the buffer where
 -- they do not fit. So every byte of the buffer is named.
 pub record Wrote (before : List ℕ) (at : ℕ) (bytes : List ℕ) (place : ℕ) (after : List ℕ) : Type 0 where
   pub next : place ≡ at + length bytes
   pub left : after ≡ sets before at bytes
-
--- the lines of document 01's list
-example-branch : branchLine 1 0 0x3f80_0000 4 6 2 ≡ 49 ∷ 32 ∷ 48 ∷ 32 ∷ 51 ∷ 70 ∷ 56 ∷ 48 ∷ 48 ∷ 48 ∷ 48 ∷ 48 ∷ 32 ∷ 52 ∷ 32 ∷ 54 ∷ 32 ∷ 50 ∷ 10 ∷ []
-unfolding branchLine decimal decimalIn hex digit
-example-branch = refl
-
-example-leaf : leafLine 4 1 ≡ 52 ∷ 32 ∷ 45 ∷ 32 ∷ 45 ∷ 32 ∷ 45 ∷ 32 ∷ 45 ∷ 32 ∷ 49 ∷ 10 ∷ []
-unfolding leafLine decimal decimalIn digit
-example-leaf = refl
-
--- 'a bad text prints only `refused 17 R`', here in row 120
-example-refused : refusedLine 17 120 ≡ 114 ∷ 101 ∷ 102 ∷ 117 ∷ 115 ∷ 101 ∷ 100 ∷ 32 ∷ 49 ∷ 55 ∷ 32 ∷ 49 ∷ 50 ∷ 48 ∷ 10 ∷ []
-unfolding refusedLine decimal decimalIn digit
-example-refused = refl
-
--- the third of three bytes is beyond the buffer's end
-example-written : sets {A = ℕ} (1 ∷ 2 ∷ 3 ∷ []) 1 (7 ∷ 8 ∷ 9 ∷ []) ≡ 1 ∷ 7 ∷ 8 ∷ []
-example-written = refl

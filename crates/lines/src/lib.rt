@@ -4,7 +4,7 @@ ghost use mathlib.Core.Path.{_≡_};
 ghost use mathlib.Core.List.{[], _∷_};
 ghost use Prim.Native.Nat.{_+_, _≤_, _<_};
 ghost use lib.ListN.{length};
-ghost use Rattle.lines.specs.Lines.{digit, decimal, hex, field, lastField, branchLine, leafLine, refusedLine, namesLine, Wrote};
+ghost use Rattle.lines.specs.Lines.{digit, decimal, hex, numberField, lastNumberField, branchLine, leafLine, refusedLine, namesLine, Wrote};
 
 // The byte of a digit, `0` to `9` and `A` to `F`.
 fn digit_of(d: usize) -> u8
@@ -77,7 +77,7 @@ pub fn put_bytes(out: &mut [u8], at: usize, bytes: &[u8]) -> usize
 // A number that others follow, with the space after it.
 fn put_field(out: &mut [u8], at: usize, n: usize) -> usize
     requires { ⌜ at < 1000000000000 ⌝ }
-    ensures wrote { λ r. ⌜ Wrote (now (out .entry)) at (field n) r (now (out .exit)) ⌝ }
+    ensures wrote { λ r. ⌜ Wrote (now (out .entry)) at (numberField n) r (now (out .exit)) ⌝ }
     ensures few { λ r. ⌜ r ≤ at + 21 ⌝ }
 {
     let p = put_decimal(out, at, n);
@@ -87,7 +87,7 @@ fn put_field(out: &mut [u8], at: usize, n: usize) -> usize
 // The last number of a line, with the line feed after it.
 fn put_last(out: &mut [u8], at: usize, n: usize) -> usize
     requires { ⌜ at < 1000000000000 ⌝ }
-    ensures wrote { λ r. ⌜ Wrote (now (out .entry)) at (lastField n) r (now (out .exit)) ⌝ }
+    ensures wrote { λ r. ⌜ Wrote (now (out .entry)) at (lastNumberField n) r (now (out .exit)) ⌝ }
     ensures few { λ r. ⌜ r ≤ at + 21 ⌝ }
 {
     let p = put_decimal(out, at, n);

@@ -24,6 +24,3 @@ bytes32 x = x % 256 ∷ (x / 256) % 256 ∷ (x / 65536) % 256 ∷ (x / 16777216)
 abbrev pub bytesOf : List ℕ → List ℕ
 bytesOf [] = []
 bytesOf (x ∷ xs) = bytes32 x ++ bytesOf xs
-
-back-again : little32 (bytesOf (0x89ab_cdef ∷ [])) 0 ≡ 0x89ab_cdef
-back-again = refl

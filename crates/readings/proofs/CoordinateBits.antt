@@ -121,7 +121,7 @@ top s t = ap isCoordinate (at-ones s t) ∙ go (eqb t 0)
     go false = refl
 
 -- the test that the code makes of a pattern's field x and digits t, not both 0
-abbrev pub test : ℕ → ℕ → Bool
+abbrev test : ℕ → ℕ → Bool
 test x t = leb 150 (trailingZeros 32 (t + 8388608) + x) && leb (x * 8388608 + t) 1233125376
 
 zeros : (t : ℕ) → t < 8388608 → trailingZeros 32 (t + 8388608) ≡ trailingZeros 24 (8388608 + t)

@@ -4,11 +4,9 @@ pub mod Keys
 pub mod Values
 pub mod Wholes
 pub mod Ranks
-pub mod Weights
 pub mod Words
 pub mod Shares
 pub mod Narrows
 pub mod CoordinateBits
 pub mod WeightBits
 pub mod NarrowBits
-pub mod Examples

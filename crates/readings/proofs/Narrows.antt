@@ -1,16 +1,13 @@
--- An f64 narrowed: by its value, and by its sign. It is an f32, and a number where the f64 is one. Assumes nothing.
+-- An f64 narrowed: by its value, and by its sign. Assumes nothing.
 use mathlib.Core.Path.{_≡_, refl, sym, ap, _∙_}
 use Prim.Native.Nat.{ℕ, zero, suc, _+_, _*_, _^_, _<_}
 use mathlib.Core.Bool.{Bool, true, false, not, cond}
-use lib.Dec.{T, ltb}
-use lib.Ieee.{Float, nan, inf, fin, Format, binary32, prec, low, emax, up, down, odd, units, round, neg, fits, isNan}
-use lib.Ieee.Fits.{down-pos, round-is, round-fits, nan-fits, inf-fits}
+use lib.Dec.{ltb}
+use lib.Ieee.{Float, nan, inf, fin, Format, binary32, prec, low, emax, up, down, odd, units, round, neg}
+use lib.Ieee.Fits.{down-pos, round-is}
 use lib.Ieee.Exact.{HasValue}
-use lib.Ieee.Scale.{finite, round-same}
-use lib.Ieee.Positive.{num, den}
+use lib.Ieee.Scale.{round-same}
 use Rattle.readings.specs.Narrow.{narrowed}
-use Rattle.readings.proofs.Keys.{sign}
-use Rattle.readings.proofs.Numbers.{round-number}
 
 -- by any fraction that the f64 equals
 pub narrowed-value : (x : Float) (s : Bool) (a c : ℕ) → 0 < c → HasValue x s a c → narrowed x ≡ round binary32 s a c
@@ -18,27 +15,6 @@ unfolding narrowed
 narrowed-value nan s a c C h = absurd h
 narrowed-value (inf t) s a c C h = absurd h
 narrowed-value (fin t m e) s a c C h = round-same binary32 t (m * up e) (down e) a c (down-pos e) C (h .1) ∙ ap (λ (b : Bool). round binary32 b a c) (h .0)
-
--- by its own fraction
-pub narrowed-own : (x : Float) → T (finite x) → sign x ≡ false → narrowed x ≡ round binary32 false (num x) (den x)
-unfolding narrowed
-narrowed-own nan f h = absurd f
-narrowed-own (inf s) f h = absurd f
-narrowed-own (fin s m e) f h = ap (λ (b : Bool). round binary32 b (m * up e) (down e)) h
-
--- it is an f32
-pub narrowed-fits : (x : Float) → T (fits binary32 (narrowed x))
-unfolding narrowed
-narrowed-fits nan = nan-fits binary32
-narrowed-fits (inf s) = inf-fits binary32 s
-narrowed-fits (fin s m e) = round-fits binary32 s (m * up e) (down e)
-
--- and a number where the f64 is one
-pub narrowed-number : (x : Float) → isNan x ≡ false → isNan (narrowed x) ≡ false
-unfolding narrowed isNan
-narrowed-number nan h = h
-narrowed-number (inf s) h = refl
-narrowed-number (fin s m e) h = round-number binary32 s (m * up e) (down e)
 
 -- ---- the sign
 pub odd-neg : (d q k l : ℕ) → odd d true q k l ≡ neg (odd d false q k l)

@@ -20,7 +20,7 @@ units-number f s q k = go (ltb (q * 2 ^ k) (2 ^ (low f + suc (emax f))))
     go false = refl
 
 -- what is rounded is a number
-pub round-number : (f : Format) (s : Bool) (a c : ℕ) → isNan (round f s a c) ≡ false
+round-number : (f : Format) (s : Bool) (a c : ℕ) → isNan (round f s a c) ≡ false
 round-number f s a c = ap isNan (round-is f s a c) ∙ units-number f s _ _
 
 cond-number : (b : Bool) (x y : Float) → isNan x ≡ false → isNan y ≡ false → isNan (cond b x y) ≡ false
@@ -28,14 +28,14 @@ cond-number true x y h k = h
 cond-number false x y h k = k
 
 -- so is a sum of two finite values
-pub sum-number : (f : Format) (s : Bool) (a : ℕ) (t : Bool) (b c : ℕ) → isNan (sum f s a t b c) ≡ false
+sum-number : (f : Format) (s : Bool) (a : ℕ) (t : Bool) (b c : ℕ) → isNan (sum f s a t b c) ≡ false
 unfolding sum
 sum-number f s a t b c =
     cond-number (Bool·beq s t) (round f s (a + b) c) (cond (ltb a b) (round f t (b - a) c) (round f (s && ltb b a) (a - b) c)) (round-number f s (a + b) c)
     (cond-number (ltb a b) (round f t (b - a) c) (round f (s && ltb b a) (a - b) c) (round-number f t (b - a) c) (round-number f (s && ltb b a) (a - b) c))
 
 -- the difference of two values in order is a number, infinities included
-pub sub-number : (f : Format) (x y : Float) → lt y x ≡ true → isNan (sub f x y) ≡ false
+sub-number : (f : Format) (x y : Float) → lt y x ≡ true → isNan (sub f x y) ≡ false
 unfolding lt sub add neg isNan
 sub-number f x nan h = absurd (false≢true h)
 sub-number f nan (inf t) h = absurd (false≢true h)
@@ -49,7 +49,7 @@ sub-number f (inf s) (fin t n d) h = refl
 sub-number f (fin s m e) (fin t n d) h = sum-number f s (m * up e * down d) (not t) (n * up d * down e) (down e * down d)
 
 -- what `x as f64` asks of an f32
-pub wide-cast : (x : Float) → T (fits binary32 x) → isNan x ≡ false → T (fits binary64 x && not (isNan x))
+wide-cast : (x : Float) → T (fits binary32 x) → isNan x ≡ false → T (fits binary64 x && not (isNan x))
 wide-cast x f n = and-i (fits binary64 x) (not (isNan x)) (fits-widens x f) (subst (λ (b : Bool). T (not b)) (sym n) tt)
 
 -- so the difference of two f32s in order can be cast

@@ -2,7 +2,7 @@
 use mathlib.Core.Path.{_≡_, refl, sym, ap, _∙_, subst}
 use mathlib.Core.Logic.{_⊎_, inl, inr}
 use Prim.Native.Nat.{ℕ, zero, suc, _+_, _-_, _*_, _%_, _^_, _≤_, _<_, zero-le}
-use native.Mathlib.Nat.{lt-irrefl, le-antisymm, le-trans, le-of-eq, lt-of-le-of-lt, mul-one, one-mul, mul-pos, mul-le-mul-right, mul-lt-mul-of-pos-right, lt-of-mul-lt-mul-right, le-of-mul-le-mul-right, eq-of-mul-eq-mul-right, zero-lt-suc, zero-mul, add-mul, div-one, eq-or-lt-of-le, mul-left-comm, pow-succ'}
+use native.Mathlib.Nat.{lt-irrefl, le-trans, le-of-eq, lt-of-le-of-lt, mul-one, one-mul, mul-pos, mul-le-mul-right, mul-lt-mul-of-pos-right, lt-of-mul-lt-mul-right, le-of-mul-le-mul-right, eq-of-mul-eq-mul-right, zero-lt-suc, zero-mul, add-mul, div-one, eq-or-lt-of-le, mul-left-comm, pow-succ'}
 use native.Mathlib.Omega.{arith}
 use mathlib.Core.Bool.{Bool, true, false, not, _&&_, cond, false≢true}
 use lib.IntN.{ℤ, pos, negsuc, negℤ, natAbs}
@@ -72,7 +72,7 @@ sum-key f true false a b A C h n = neg-pos f base unit a b A C h (n refl)
 sum-key f true true a b A C h n = neg-neg f base unit a b A C h
 
 -- the difference of two values is that of their keys, rounded once, where it is not negative and x is not -0
-pub sub-key : (f : Format) (x y : Float) → Num x → Num y → (sign x ≡ true → mag x ≡ 0 → ⊥) → key y ≤ key x → sub f x y ≡ round f false (key x - key y) unit
+sub-key : (f : Format) (x y : Float) → Num x → Num y → (sign x ≡ true → mag x ≡ 0 → ⊥) → key y ≤ key x → sub f x y ≡ round f false (key x - key y) unit
 unfolding key
 sub-key f x y p q n h =
     sub-value f x y (sign x) (sign y) (mag x) (mag y) unit (pow-pos 1074) (value x p) (value y q)
@@ -219,10 +219,6 @@ module _ (x y : Float) (r : T (isCoordinate x)) (t : T (isCoordinate y)) where
   -- so two that are `==` are one
   pub eq-same : T (fits binary32 x) → T (fits binary32 y) → eq x y ≡ true → x ≡ y
   eq-same F G e = rank-same F G (eqb→eq (rank x) (rank y) (yes (sym eq-rank ∙ e)))
-
--- and two of which each is at most the other
-pub le-antisym : (x y : Float) → T (isCoordinate x) → T (isCoordinate y) → T (fits binary32 x) → T (fits binary32 y) → le x y ≡ true → le y x ≡ true → x ≡ y
-le-antisym x y r t F G p q = rank-same x y r t F G (le-antisymm (leb→le (rank x) (rank y) (yes (sym (le-rank x y r t) ∙ p))) (leb→le (rank y) (rank x) (yes (sym (le-rank y x t r) ∙ q))))
 
 -- ---- a coordinate is the float of a whole number of size at most 2 ^ 20
 unfoldable pub wholeOf : Float → ℤ

@@ -3,11 +3,10 @@ use mathlib.Core.Path.{_≡_, _∙_, refl}
 use Prim.Native.Nat.{ℕ, _/_, _^_, _<_}
 use native.Mathlib.Omega.{arith}
 use mathlib.Core.Bool.{true, false}
-use lib.Dec.{T, leb→le}
+use lib.Dec.{leb→le}
 use lib.IntN.{pos}
 use lib.Pow.{pow-pos}
-use lib.Ieee.{fin, binary64, lt, fits}
-use lib.Ieee.Fits.{round-fits}
+use lib.Ieee.{fin, lt}
 use lib.Ieee.Exact.{HasValue}
 use Rattle.readings.specs.Word.{factorOf}
 use Rattle.readings.proofs.Tests.{leb-yes}
@@ -25,8 +24,3 @@ factor-value w h = scaled-exact (w / 2 ^ 11) 53 (upper-bits w h) (leb→le 53 10
 -- it is below 1
 pub factor-below : (w : ℕ) → w < 2 ^ 64 → lt (factorOf w) (fin false 1 (pos 0)) ≡ true
 factor-below w h = lt-value (factorOf w) (fin false 1 (pos 0)) (w / 2 ^ 11) (2 ^ 53) (2 ^ 53) (pow-pos 53) (factor-value w h) (refl, refl) ∙ leb-yes (upper-bits w h)
-
--- and an f64
-pub factor-fits : (w : ℕ) → T (fits binary64 (factorOf w))
-unfolding factorOf
-factor-fits w = round-fits binary64 false (w / 2 ^ 11) (2 ^ 53)

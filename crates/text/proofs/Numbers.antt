@@ -9,7 +9,7 @@ use borrow.Author.Tests.{lt-ltb, le-ltb, le-leb, lt-leb, eq-eqb, ne-eqb}
 use lib.ListN.{length, getD, drop}
 use lib.Dec.{lit<, lit≤}
 use Rattle.text.specs.declared.Number.the-variants.{Is, NoNumber}
-use Rattle.text.specs.Numbers.{digitValue, digitsFrom, numberOf, wordOf}
+use Rattle.text.specs.Numbers.{digitValue, digitsFrom, decimalOf, wordOf}
 use Rattle.text.proofs.Lists.{here, past}
 
 -- ---- the value of a digit
@@ -73,27 +73,27 @@ pub fit : {b : ℕ} {s : List ℕ} {v i : ℕ} → Digits b s v i → 0 < b → 
 fit {b} {s} {v} {i} w p l = let g : b ^ i ≤ b ^ length s = pow-le-pow-right p (w .within) in omega arith
 
 module _ (s : List ℕ) where
-  pub number-none : length s ≡ 0 → NoNumber ≡ numberOf s
-  unfolding numberOf
+  pub number-none : length s ≡ 0 → NoNumber ≡ decimalOf s
+  unfolding decimalOf
   number-none e = rw e
 
-  pub number-long : 9 < length s → NoNumber ≡ numberOf s
-  unfolding numberOf
+  pub number-long : 9 < length s → NoNumber ≡ decimalOf s
+  unfolding decimalOf
   number-long h = let g : 1 ≤ length s = omega arith in rw (le-leb _ _ g, lt-leb _ _ h)
 
-  pub number-one : length s ≡ 1 → numberOf s ≡ digitsFrom 10 0 s
-  unfolding numberOf
+  pub number-one : length s ≡ 1 → decimalOf s ≡ digitsFrom 10 0 s
+  unfolding decimalOf
   number-one e = rw e
 
-  pub number-zero : 1 < length s → length s ≤ 9 → getD s 0 0 ≡ 48 → NoNumber ≡ numberOf s
-  unfolding numberOf
+  pub number-zero : 1 < length s → length s ≤ 9 → getD s 0 0 ≡ 48 → NoNumber ≡ decimalOf s
+  unfolding decimalOf
   number-zero h l e =
       let g : 1 ≤ length s = omega arith in
       let n : length s ≡ 1 → ⊥ = λ q. omega arith in
       rw (le-leb _ _ g, le-leb _ _ l, ne-eqb _ _ n, e)
 
-  pub number-more : 1 < length s → length s ≤ 9 → (getD s 0 0 ≡ 48 → ⊥) → numberOf s ≡ digitsFrom 10 0 s
-  unfolding numberOf
+  pub number-more : 1 < length s → length s ≤ 9 → (getD s 0 0 ≡ 48 → ⊥) → decimalOf s ≡ digitsFrom 10 0 s
+  unfolding decimalOf
   number-more h l n =
       let g : 1 ≤ length s = omega arith in
       let m : length s ≡ 1 → ⊥ = λ q. omega arith in

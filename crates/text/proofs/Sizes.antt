@@ -1,4 +1,4 @@
--- How large a number and a word can be: below 10^9 and below 2^64. Assumes nothing.
+-- How large a number can be: below 10^9. Assumes nothing.
 use mathlib.Core.Path.{_≡_, ap, subst}
 use mathlib.Core.List.{List, [], _∷_}
 use mathlib.Core.Bool.{Bool, true, false, _&&_, _||_, not, cond, false≢true}
@@ -6,9 +6,9 @@ use Prim.Native.Nat.{ℕ, suc, _+_, _*_, _^_, _≤_, _<_}
 use native.Mathlib.Nat.{add-zero, zero-add, pow-zero, pow-le-pow-right}
 use native.Mathlib.Omega.{arith}
 use lib.ListN.{length, getD}
-use lib.Dec.{T, eqb, leb, ltb, lit<, lit≤, ltb→lt, eqb→eq, leb→le}
+use lib.Dec.{T, eqb, leb, ltb, lit<, ltb→lt, leb→le}
 use Rattle.text.specs.declared.Number.the-variants.{Is, NoNumber}
-use Rattle.text.specs.Numbers.{digitValue, digitsFrom, numberOf, wordOf}
+use Rattle.text.specs.Numbers.{digitValue, digitsFrom, decimalOf}
 use Rattle.text.specs.Fields.{numberInForm, numberOrZero}
 use Rattle.text.proofs.Numbers.{more}
 
@@ -32,8 +32,8 @@ digits-small b v i (x ∷ s) r h e = go (ltb (digitValue x) b) (ltb→lt (digitV
 small : (b : ℕ) (s : List ℕ) (r : ℕ) → digitsFrom b 0 s ≡ Is r → r < b ^ length s
 small b s r e = rw (zero-add (length s)) at (digits-small b 0 0 s r (rw (pow-zero b) (omega arith)) e)
 
-pub number-small : (s : List ℕ) (v : ℕ) → numberOf s ≡ Is v → v < 1000000000
-unfolding numberOf
+pub number-small : (s : List ℕ) (v : ℕ) → decimalOf s ≡ Is v → v < 1000000000
+unfolding decimalOf
 number-small s v e = go (leb 1 (length s)) (leb (length s) 9) (eqb (length s) 1 || not (eqb (getD s 0 0) 48)) (leb→le (length s) 9) e
   where
     go : (x y z : Bool) → (T y → length s ≤ 9) → cond (x && y && z) (digitsFrom 10 0 s) NoNumber ≡ Is v → v < 1000000000
@@ -44,14 +44,3 @@ number-small s v e = go (leb 1 (length s)) (leb (length s) 9) (eqb (length s) 1 
     go true true false l f = none-is f
     go true false z l f = none-is f
     go false y z l f = none-is f
-
-pub word-small : (s : List ℕ) (v : ℕ) → wordOf s ≡ Is v → v < 2 ^ 64
-unfolding wordOf
-word-small s v e = go (eqb (length s) 16) (eqb→eq (length s) 16) e
-  where
-    go : (x : Bool) → (T x → length s ≡ 16) → cond x (digitsFrom 16 0 s) NoNumber ≡ Is v → v < 2 ^ 64
-    go true l f =
-        let p : 16 ^ length s ≤ 2 ^ 64 = rw (l tt) (lit≤ tt) in
-        let q = small 16 s v f in
-        omega arith
-    go false l f = none-is f

@@ -10,7 +10,7 @@ use Rattle.text.specs.declared.Number.{Number}
 use Rattle.text.specs.declared.Number.the-variants.{Is, NoNumber}
 use Rattle.text.specs.declared.Coordinate.{Coordinate}
 use Rattle.text.specs.declared.Coordinate.the-variants.{At, NoCoordinate}
-use Rattle.text.specs.Numbers.{numberOf}
+use Rattle.text.specs.Numbers.{decimalOf}
 
 -- The f32 of a coordinate's size, 2^21 for all that is larger. A put refuses every coordinate beyond 2^20 with 7, whichever it is, so nothing is lost (Cap.antt).
 unfoldable pub capped : ℕ → Float
@@ -28,4 +28,4 @@ afterMinus NoNumber = NoCoordinate
 
 -- Document 01, 'Printed tree': 'only a coordinate may have a minus sign before it, and -0 is out of form'. 45 is the minus sign.
 unfoldable pub coordinateOf : List ℕ → Coordinate
-coordinateOf s = cond (eqb (getD s 0 0) 45) (afterMinus (numberOf (drop 1 s))) (withoutMinus (numberOf s))
+coordinateOf s = cond (eqb (getD s 0 0) 45) (afterMinus (decimalOf (drop 1 s))) (withoutMinus (decimalOf s))

@@ -1,7 +1,6 @@
+pub mod Quoted
 pub mod Pieces
 pub mod Numbers
 pub mod Coordinates
 pub mod Fields
-pub mod Quoted
 pub mod Cap
-pub mod Examples

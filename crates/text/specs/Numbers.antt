@@ -18,8 +18,8 @@ digitsFrom b v [] = Is v
 digitsFrom b v (x ∷ s) = cond (ltb (digitValue x) b) (digitsFrom b (v * b + digitValue x) s) NoNumber
 
 -- Document 01, 'Printed tree': 'A number has at most nine digits and no leading zero'. A lone 0 is a number.
-unfoldable pub numberOf : List ℕ → Number
-numberOf s = cond (leb 1 (length s) && leb (length s) 9 && (eqb (length s) 1 || not (eqb (getD s 0 0) 48))) (digitsFrom 10 0 s) NoNumber
+unfoldable pub decimalOf : List ℕ → Number
+decimalOf s = cond (leb 1 (length s) && leb (length s) 9 && (eqb (length s) 1 || not (eqb (getD s 0 0) 48))) (digitsFrom 10 0 s) NoNumber
 
 -- Document 01, 'Printed tree': 'words 16 .. upper-case hexadecimal digits'
 unfoldable pub wordOf : List ℕ → Number

@@ -1,10 +1,11 @@
 -- A text cut into the pieces between separator bytes: its lines between line feeds, a line's fields between spaces. Definitions.
 use Prim.Native.Nat.{ℕ, suc, _+_, _≤_}
-use mathlib.Core.Path.{_≡_}
+use mathlib.Core.Path.{_≡_, refl}
 use mathlib.Core.List.{List, [], _∷_}
 use mathlib.Core.Bool.{Bool, true, false, cond}
 use lib.ListN.{length, drop}
 use lib.Dec.{eqb, leb}
+use Rattle.text.specs.Quoted.{bytes}
 
 -- a byte put before the first of the pieces
 abbrev pub onto : ℕ → List (List ℕ) → List (List ℕ)
@@ -17,6 +18,11 @@ onto x (p ∷ ps) = (x ∷ p) ∷ ps
 unfoldable pub pieces : ℕ → List ℕ → List (List ℕ)
 pieces b [] = [] ∷ []
 pieces b (x ∷ s) = cond (eqb x b) ([] ∷ pieces b s) (onto x (pieces b s))
+
+-- the field 0, an empty piece between the two spaces, the field 1, and an empty piece at the end
+four-pieces : pieces 32 (bytes "0  1 ") ≡ bytes "0" ∷ [] ∷ bytes "1" ∷ [] ∷ []
+unfolding pieces
+four-pieces = refl
 
 -- the pieces of what stands from the place k on, none past the text's end
 unfoldable pub piecesFrom : ℕ → List ℕ → ℕ → List (List ℕ)

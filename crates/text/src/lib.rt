@@ -4,7 +4,7 @@ ghost use Prim.Native.Nat.{_+_, _-_, _*_, _≤_, _<_, _^_, min};
 ghost use lib.ListN.{length, take, drop, set};
 ghost use lib.Seq.{sets};
 ghost use Rattle.text.specs.Pieces.{bytesBefore, piecesFrom, PieceEnds};
-ghost use Rattle.text.specs.Numbers.{digitValue, digitsFrom, numberOf, wordOf};
+ghost use Rattle.text.specs.Numbers.{digitValue, digitsFrom, decimalOf, wordOf};
 ghost use Rattle.text.specs.Coordinates.{capped, withoutMinus, afterMinus, coordinateOf};
 ghost use Rattle.text.specs.Fields.{numberInForm, numberOrZero, coordinateInForm, coordinateOrZero, wordsFrom, coordinatesFrom};
 
@@ -87,7 +87,7 @@ fn read_digits(field: &[u8], base: u64) -> Number
 // The number that a field is: one to nine digits, no leading zero.
 // Rules out 01 read as 1, and ten digits read.
 pub fn read_number(field: &[u8]) -> Number
-    ensures { λ r. ⌜ r ≡ numberOf (now (field .entry)) ⌝ }
+    ensures { λ r. ⌜ r ≡ decimalOf (now (field .entry)) ⌝ }
 {
     let n = field.len();
     if n == 0 {

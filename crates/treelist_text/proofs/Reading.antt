@@ -11,7 +11,7 @@ use lib.Ieee.{Float}
 use lib.ListN.{length, take, drop}
 use Rattle.text.specs.declared.Number.{Number}
 use Rattle.text.specs.declared.Number.the-variants.{Is, NoNumber}
-use Rattle.text.specs.Numbers.{numberOf}
+use Rattle.text.specs.Numbers.{decimalOf}
 use Rattle.text.specs.Pieces.{pieces, piecesFrom, PieceEnds}
 use Rattle.text.proofs.Sizes.{number-small}
 use Rattle.randomcuttree.specs.Making.{madeBy}
@@ -38,7 +38,7 @@ pub in-form : (t : List ℕ) (f : Form) (n : ℕ) → f ≡ formOf t → f ≡ G
 in-form t f n e g = let z = form-tells t .good-is n (sym e ∙ g) in record { making = z .making; ops = z .ops; is = z .is }
 
 -- ---- three numbers below 10^9
-by-three : (p : List ℕ) (x y z : Number) → numberOf p ≡ z → (m : Making) → makingBy x y z ≡ some m → m .sixteenths < 1000000000
+by-three : (p : List ℕ) (x y z : Number) → decimalOf p ≡ z → (m : Making) → makingBy x y z ≡ some m → m .sixteenths < 1000000000
 by-three p NoNumber y z e m h = absurd (false≢true (ap isSome h))
 by-three p (Is x) NoNumber z e m h = absurd (false≢true (ap isSome h))
 by-three p (Is x) (Is y) NoNumber e m h = absurd (false≢true (ap isSome h))
@@ -51,7 +51,7 @@ unfolding makingOf
 few-sixteenths [] m h = absurd (false≢true (ap isSome h))
 few-sixteenths (a ∷ []) m h = absurd (false≢true (ap isSome h))
 few-sixteenths (a ∷ b ∷ []) m h = absurd (false≢true (ap isSome h))
-few-sixteenths (a ∷ b ∷ c ∷ []) m h = by-three c (numberOf a) (numberOf b) (numberOf c) refl m h
+few-sixteenths (a ∷ b ∷ c ∷ []) m h = by-three c (decimalOf a) (decimalOf b) (decimalOf c) refl m h
 few-sixteenths (a ∷ b ∷ c ∷ d ∷ ps) m h = absurd (false≢true (ap isSome h))
 
 -- ---- what the making's row is answered to be

@@ -1,4 +1,5 @@
 use Rattle.form.proofs.Making.{making-one, making-two, making-many, making-three}
+use native.Mathlib.Omega.{arith}
 use borrow.Author.Needs.{needs}
 use Rattle.form.proofs.read_making.Statement.{statement}
 use Rattle.form.proofs.read_making.Tie as tie
@@ -30,7 +31,7 @@ piece-end-requires-3 : tie.Need-piece-end-requires-3
 piece-end-requires-3 c κs = search needs
 
 returns-3 : tie.Need-returns-3
-returns-3 c = making-many _ (c .before .before .before .before .before .piece-end .ensures) (c .before .before .before .before .if1 .left) (c .before .before .before .piece-end2 .ensures) (c .before .before .if2 .left) (c .before .piece-end3 .ensures) (c .if3 .taken)
+returns-3 c = making-many _ (c .before .before .before .before .before .piece-end .ensures) (c .before .before .before .before .if1 .left) (c .before .before .before .piece-end2 .ensures) (c .before .before .if2 .left) (c .before .piece-end3 .ensures) (λ e. omega arith)
 
 number-at-requires : tie.Need-number-at-requires
 number-at-requires c κs = search needs

@@ -1,4 +1,5 @@
-use Rattle.text.proofs.Coordinates.{minus-is}
+use native.Mathlib.Omega.{arith}
+use Rattle.text.proofs.Coordinates.{minus-none, minus-is}
 use borrow.Author.Needs.{needs}
 use Rattle.text.proofs.after_minus.Statement.{statement}
 use Rattle.text.proofs.after_minus.Tie as tie
@@ -10,7 +11,7 @@ enum-known-number : tie.Need-enum-known-number
 enum-known-number c = search needs
 
 returns : tie.Need-returns
-returns c = search needs
+returns c = minus-none (c .before .before .number .given .1) (omega arith)
 
 capped-float-requires : tie.Need-capped-float-requires
 capped-float-requires c κs = search needs

@@ -10,7 +10,7 @@ returns : tie.Need-returns
 returns c = value-low _ (c .if1 .taken)
 
 returns-2 : tie.Need-returns-2
-returns-2 c = value-digit _ (omega arith) (c .if2 .taken)
+returns-2 c = value-digit _ (omega arith) (omega arith)
 
 returns-3 : tie.Need-returns-3
 returns-3 c = value-mid _ (omega arith) (c .if3 .taken)
