@@ -4,6 +4,7 @@ pub mod Keys
 pub mod Values
 pub mod Wholes
 pub mod Ranks
+pub mod Weights
 pub mod Words
 pub mod Shares
 pub mod Narrows
