@@ -10,6 +10,7 @@ use lib.Dec.{T, ltb, eqb, leb→le, eqb→eq, ltb→lt, nltb→le}
 use lib.Pow.{pow-pos, pow-mono}
 use lib.Ieee.{Float, binary64, mul, eq, ofInt}
 use lib.Ieee.Fits.{and-i, and-l, and-r, eq→eqb}
+use borrow.Table.Steps.{cases as by-test}
 use Rattle.readings.specs.Coordinate.{isCoordinate, rank}
 use Rattle.readings.specs.Word.{factorOf}
 use Rattle.readings.proofs.Words.{factor-value}
@@ -26,7 +27,6 @@ use Rattle.cut.specs.declared.Side.the-variants.{At}
 use Rattle.cut.specs.Draw.{outsideSum, lowEnd, highEnd, sideOf, rangeOf, sideFrom, drawnAt, separation}
 use Rattle.cut.specs.Document.{numberOf, channelOf, restOf, cutOf, documentCut}
 use Rattle.cut.specs.Laws.{Readings, AsDocument}
-use Rattle.cut.proofs.First.{by-test}
 use Rattle.cut.proofs.Number.{side-is}
 use Rattle.cut.proofs.Stretched.{beyond, out, outside-exact, range-exact, sum-stretched, side-exact, stretched}
 

@@ -7,14 +7,11 @@ use native.Mathlib.Omega.{arith}
 use mathlib.Core.Bool.{Bool, true, false, not, _&&_, cond}
 use lib.Dec.{T, leb, ltb, leb→le, nleb→lt, ltb→lt, nltb→le}
 use lib.Ieee.Fits.{and-l, and-r}
+use borrow.Table.Steps.{cases as by-test}
 use Rattle.readings.proofs.Tests.{leb-yes, yes, no, split}
 use Rattle.boundingbox.specs.Wholes.{sumTo}
 use Rattle.boundingbox.proofs.Sums.{sumTo-next, sum-pos}
 use Rattle.cut.specs.Paper.{falls, first}
-
-pub by-test : {A : Type 0} (b : Bool) → (b ≡ true → A) → (b ≡ false → A) → A
-by-test true f g = f refl
-by-test false f g = g refl
 
 -- the running sums do not fall
 pub sum-more : (g : ℕ → ℕ) (i j : ℕ) → i ≤ j → sumTo g i ≤ sumTo g j

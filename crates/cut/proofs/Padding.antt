@@ -7,6 +7,7 @@ use native.Mathlib.Omega.{arith}
 use mathlib.Core.Bool.{Bool, true, false, _&&_, cond}
 use lib.Ieee.{Float, binary64, round, lt}
 use lib.Ieee.Positive.{num, den}
+use borrow.Table.Steps.{cases as by-test}
 use Rattle.readings.specs.Coordinate.{rank}
 use Rattle.readings.proofs.Tests.{and-true}
 use Rattle.boundingbox.specs.Ends.{channel, least, greatest}
@@ -19,7 +20,7 @@ use Rattle.cut.specs.Paper.{falls, first, channelAt, restAt}
 use Rattle.cut.specs.Draw.{lowEnd, highEnd, partsAt, separation}
 use Rattle.cut.specs.Document.{numberOf, channelOf, restOf, cutOf, documentCut}
 use Rattle.cut.specs.Laws.{Readings, Padded, PaddingCutsNothing}
-use Rattle.cut.proofs.First.{by-test, Found}
+use Rattle.cut.proofs.First.{Found}
 use Rattle.cut.proofs.Stretched.{stretched}
 use Rattle.cut.proofs.AsDocument.{as-document, some-side}
 use Rattle.cut.proofs.Within.{channel-found}

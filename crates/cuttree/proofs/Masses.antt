@@ -5,7 +5,7 @@ use mathlib.Core.Option.{some}
 use Prim.Native.Nat.{ℕ, suc, _+_, _-_, _≤_, _<_}
 use native.Mathlib.Omega.{arith}
 use lib.Dec.{eqb, ltb}
-use borrow.Author.Tests.{ltb-true, ltb-false, ne-eqb}
+use borrow.Author.Tests.{ltb-true, ltb-false, eqb-false, ne-eqb}
 use Rattle.cuttree.specs.Setting.{Setting, Cut, below}
 use Rattle.cuttree.specs.Tree.{Tree, leaf, branch, height, total, lags, mass, parted, above, insert, addCopy, forget}
 use Rattle.cuttree.proofs.Tests.{by-cond, by-test}
@@ -17,28 +17,28 @@ use Rattle.cuttree.proofs.Copies.{Filled, total-insert, total-copy, tot
 module _ (S : Setting) where
   open Setting S using (Point, Word)
 
-  -- THE MASS
-  pub mass-leaf : (i : ℕ) (q : Point) (n : ℕ) → 0 < n → mass S (leaf i q n) ≡ cond (eqb n 1) 1 (n - 1)
-  mass-leaf i q n h = by-test (ltb 1 n)
-      (λ e. let z : 1 < n = ltb-true 1 n e in rw (e, ne-eqb n 1 (omega arith)))
-      (λ e. let z : n ≡ 1 = omega (arith, ltb-false 1 n e) in rw z)
-
   -- the copy that a mass lags behind is there
   pub mass-lag : (t : Tree S) → Filled S t → mass S t + cond (lags S t) 1 0 ≡ total S t
-  mass-lag t h = let z : 1 ≤ total S t = omega (arith, leaves-total S t h, leaves-branches S t) in
-      by-test (lags S t) (λ e. rw e (omega arith)) (λ e. rw e (omega arith))
+  mass-lag (leaf i q n) h = by-test (ltb 1 n)
+      (λ e. let z : 1 < n = ltb-true 1 n e in rw (e, ne-eqb n 1 (omega arith)) (omega arith))
+      (λ e. let z : n ≡ 1 = omega (arith, ltb-false 1 n e) in rw z)
+  mass-lag (branch b k g l r) h = let z : 1 ≤ total S (branch b k g l r) = omega (arith, leaves-total S (branch b k g l r) h, leaves-branches S l) in
+      by-test g (λ e. rw e (omega arith)) (λ e. rw e (omega arith))
+
+  pub mass-most : (t : Tree S) → Filled S t → mass S t ≤ total S t
+  mass-most t h = omega (arith, mass-lag t h)
 
   pub mass-pos : (t : Tree S) → Filled S t → 0 < mass S t
-  mass-pos (leaf i q n) h = by-test (ltb 1 n) (λ e. rw e (omega (arith, ltb-true 1 n e))) (λ e. rw e (omega arith))
+  mass-pos (leaf i q n) h = by-test (eqb n 1) (λ e. rw e (omega arith)) (λ e. let z = eqb-false n 1 e in rw e (omega arith))
   mass-pos (branch b k g l r) h = let z : 2 ≤ total S (branch b k g l r) = omega (arith, leaves-total S (branch b k g l r) h, leaves-branches S l, leaves-branches S r) in
       by-test g (λ e. rw e (omega arith)) (λ e. rw e (omega arith))
 
   -- a new branch weighs one more than its old side
   pub mass-above : (b : ℕ) (k : Cut S) (i : ℕ) (p : Point) (t : Tree S) → Filled S t → mass S (above S b k i p t) ≡ suc (mass S t)
-  mass-above b k i p t h = let z : 1 ≤ total S t = omega (arith, leaves-total S t h, leaves-branches S t) in
+  mass-above b k i p t h = let z = mass-lag t h in
       by-cond (λ x. mass S x ≡ suc (mass S t)) (below S k p) _ _
-      (λ _. by-test (lags S t) (λ e. rw e (omega arith)) (λ e. rw e (omega arith)))
-      (λ _. by-test (lags S t) (λ e. rw e (omega arith)) (λ e. rw e (omega arith)))
+      (λ _. by-test (lags S t) (λ e. rw e (omega (arith, rw e at z))) (λ e. rw e (omega (arith, rw e at z))))
+      (λ _. by-test (lags S t) (λ e. rw e (omega (arith, rw e at z))) (λ e. rw e (omega (arith, rw e at z))))
 
   -- a branch keeps its lag, so it gains and loses what its side does
   module _ (b : ℕ) (k : Cut S) (g : Bool) (l r : Tree S) (p : Point) (h : Filled S (branch b k g l r)) where

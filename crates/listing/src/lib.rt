@@ -8,8 +8,9 @@ ghost use Prim.Native.Nat.{_≤_, _<_};
 ghost use lib.ListN.{getD};
 ghost use Rattle.limits.specs.Limits.{capacityLimit, branchLimit, pointLimit};
 ghost use Rattle.lines.specs.Lines.{Wrote};
-ghost use Rattle.nodestore.specs.Rows.{field};
-ghost use Rattle.listing.specs.Listing.{leafMass, rowLine, PrintsNode, SomeListed};
+ghost use Rattle.cuttree.specs.Tree.{leafMass};
+ghost use Rattle.layout.specs.Slots.{field};
+ghost use Rattle.listing.specs.Listing.{rowLine, PrintsNode, SomeListed};
 ghost use Rattle.listing.specs.Printed.{PrintsTree, SomeRead};
 
 fn wide(x: u16) -> usize

@@ -15,11 +15,11 @@ relink-at-requires c κs = search needs
 manage-ancestors-add-requires : tie.Need-manage-ancestors-add-requires
 manage-ancestors-add-requires c κs =
     let s = c .before .before .before .before .before .before .before in
-    (s .pre .1 .0, (s .pre .1 .1 .0, rw (c .before .relink-at .ensures, c .before .before .before .put-cell .ensures .0, c .before .before .before .before .wide16 .ensures) (s .pre .1 .1 .1 .1)))
+    (s .pre .1 .0, (s .pre .1 .1 .0, rw (c .before .relink-at .ensures, c .before .before .before .put-cell .ensures .0, c .before .before .before .before .wide16 .ensures .0) (s .pre .1 .1 .1 .1)))
 
 returns : tie.Need-returns
 returns c =
-    (cc (c .manage-ancestors-add .ensures, c .before .before .relink-at .ensures, c .before .before .before .before .put-cell .ensures .0, c .before .before .before .before .before .wide16 .ensures), rw (← c .before .before .before .before .before .wide16 .ensures) (c .before .before .before .before .put-cell .ensures .1))
+    (cc (c .manage-ancestors-add .ensures, c .before .before .relink-at .ensures, c .before .before .before .before .put-cell .ensures .0, c .before .before .before .before .before .wide16 .ensures .0), rw (← c .before .before .before .before .before .wide16 .ensures .0) (c .before .before .before .before .put-cell .ensures .1))
 
 pub insert-spec : {M : Type 1} → statement M
 insert-spec =
