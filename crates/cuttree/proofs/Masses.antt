@@ -5,7 +5,7 @@ use mathlib.Core.Option.{some}
 use Prim.Native.Nat.{ℕ, suc, _+_, _-_, _≤_, _<_}
 use native.Mathlib.Omega.{arith}
 use lib.Dec.{eqb, ltb}
-use borrow.Author.Tests.{ltb-true, ltb-false, eqb-false, ne-eqb}
+use borrow.Author.Tests.{ltb-true, ltb-false, eqb-true, eqb-false, ne-eqb}
 use Rattle.cuttree.specs.Setting.{Setting, Cut, below}
 use Rattle.cuttree.specs.Tree.{Tree, leaf, branch, height, total, lags, mass, parted, above, insert, addCopy, forget}
 use Rattle.cuttree.proofs.Tests.{by-cond, by-test}
@@ -25,8 +25,9 @@ module _ (S : Setting) where
   mass-lag (branch b k g l r) h = let z : 1 ≤ total S (branch b k g l r) = omega (arith, leaves-total S (branch b k g l r) h, leaves-branches S l) in
       by-test g (λ e. rw e (omega arith)) (λ e. rw e (omega arith))
 
-  pub mass-most : (t : Tree S) → Filled S t → mass S t ≤ total S t
-  mass-most t h = omega (arith, mass-lag t h)
+  pub mass-most : (t : Tree S) → mass S t ≤ total S t
+  mass-most (leaf i q n) = by-test (eqb n 1) (λ e. rw e (omega (arith, eqb-true n 1 e))) (λ e. rw e (omega arith))
+  mass-most (branch b k g l r) = omega arith
 
   pub mass-pos : (t : Tree S) → Filled S t → 0 < mass S t
   mass-pos (leaf i q n) h = by-test (eqb n 1) (λ e. rw e (omega arith)) (λ e. let z = eqb-false n 1 e in rw e (omega arith))

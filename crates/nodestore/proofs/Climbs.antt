@@ -97,7 +97,7 @@ module _ (d c : ℕ) where
         masses = λ j m. let a = above-of d c h p j t (omega arith) (omega (arith, up j)) in
             let e = mass-read (a .at) (a .higher) (a .within) in
             subst (λ y. (1 ≤ field N y 2) × (field N y 2 ≤ high)) (a .is-id)
-            (omega (arith, e, mass-pos S (sub S t (a .at) p) (filled-at (a .at) (a .within))), omega (arith, e, mass-most S (sub S t (a .at) p) (filled-at (a .at) (a .within)), sub-total (a .at) p t (a .within)));
+            (omega (arith, e, mass-pos S (sub S t (a .at) p) (filled-at (a .at) (a .within))), omega (arith, e, mass-most S (sub S t (a .at) p), sub-total (a .at) p t (a .within)));
       }
 
       pub weighed : (f : ℕ → ℕ) → Once d c (replace S t h p s) → 0 < total S s → ((x : ℕ) → 0 < x → f x + total S (sub S t h p) ≡ x + total S s) →

@@ -14,7 +14,6 @@ use Rattle.cuttree.specs.Setting.{Setting, Cut as CutOf}
 use Rattle.cuttree.specs.Tree.{Tree, id, height, mass, above}
 use Rattle.cuttree.specs.Walk.{sub, graft}
 use Rattle.cuttree.proofs.Masses.{mass-most}
-use Rattle.cuttree.proofs.Nodes.{all-in}
 use Rattle.wholetree.specs.Reading.{Reading}
 use Rattle.wholetree.specs.Whole.{whole}
 use Rattle.layout.specs.Slots.{rowOf, field}
@@ -48,7 +47,7 @@ module _ {d c n k b index h : ℕ} {N path : List (List ℕ)} {C : List Float} {
   mass-is o e = rw (e ∙ node-is) (mass-at d c t p N C K (w .stored) (sub S t h p) (in-sub d c h p t within))
 
   pub mass-low : (o : ℕ) → o ≡ field path k 0 → massAt c N K o ≤ totalLimit - 1
-  mass-low o e = omega (arith, mass-is o e, mass-most S (sub S t h p) (all-in S (λ i q n. 0 < n) (in-sub d c h p t within) (w .stored .filled)), sub-total d c h p t within, w .room)
+  mass-low o e = omega (arith, mass-is o e, mass-most S (sub S t h p), sub-total d c h p t within, w .room)
 
   row-is : (o m : ℕ) → o ≡ field path k 0 → m ≡ massAt c N K o → rowFor left (index + c) o m (cut .dimension) ≡ rowOf d c (above S b x index p (sub S t h p))
   row-is o m e g = rw (g ∙ mass-is o e, e ∙ node-is, w .left-is, w .channel-is) (sym (new-row d c t p N C K (w .stored) h b index x within (w .fresh) (w .small)))

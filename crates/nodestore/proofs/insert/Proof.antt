@@ -1,4 +1,6 @@
 -- `insert` meets its contract: cell, pointer and masses are written one after the other. Assumes nothing.
+use Rattle.nodestore.specs.Rows.{heavier}
+use Rattle.nodestore.proofs.Facts.{edited}
 use borrow.Author.Needs.{needs}
 use Rattle.nodestore.proofs.insert.Statement.{statement}
 use Rattle.nodestore.proofs.insert.Tie as tie
@@ -19,7 +21,10 @@ manage-ancestors-add-requires c κs =
 
 returns : tie.Need-returns
 returns c =
-    (cc (c .manage-ancestors-add .ensures, c .before .before .relink-at .ensures, c .before .before .before .before .put-cell .ensures .0, c .before .before .before .before .before .wide16 .ensures .0), rw (← c .before .before .before .before .before .wide16 .ensures .0) (c .before .before .before .before .put-cell .ensures .1))
+    let s = c .before .before .before .before in
+    let a = s .before .before .before .before .args in
+    let e = s .before .wide16 .ensures .0 in
+    (edited heavier (a .nodes .now) (a .path .now) (a .row) (a .k) (a .old) (a .b) e (s .put-cell .ensures .0) (c .before .before .relink-at .ensures) (c .manage-ancestors-add .ensures), rw (← e) (s .put-cell .ensures .1))
 
 pub insert-spec : {M : Type 1} → statement M
 insert-spec =
