@@ -4,12 +4,11 @@ use mathlib.Core.List.{List}
 use Prim.Native.Nat.{ℕ, zero, suc, _+_, _-_, _*_, _/_, _^_, _≤_, _<_}
 use native.Mathlib.Nat.{le-trans}
 use native.Mathlib.Omega.{arith}
-use mathlib.Core.Bool.{Bool, true, false, _&&_, cond}
+use mathlib.Core.Bool.{Bool, true, false, _&&_, cond, and-true}
 use lib.Ieee.{Float, binary64, round, lt}
 use lib.Ieee.Positive.{num, den}
 use borrow.Table.Steps.{cases as by-test}
 use Rattle.readings.specs.Coordinate.{rank}
-use Rattle.readings.proofs.Tests.{and-true}
 use Rattle.boundingbox.specs.Ends.{channel, least, greatest}
 use Rattle.boundingbox.specs.Sides.{nought}
 use Rattle.boundingbox.specs.Contained.{every, stays, contains}

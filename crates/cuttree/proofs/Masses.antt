@@ -1,21 +1,20 @@
--- The Rust's masses: at least 1, one more for each add below and one less for each delete below.
+-- The Rust's masses: at least 1, at most the copies; and a branch gains and loses what its side does.
 use mathlib.Core.Path.{_≡_}
-use mathlib.Core.Bool.{Bool, false, cond}
-use mathlib.Core.Option.{some}
+use mathlib.Core.Bool.{Bool, cond}
 use Prim.Native.Nat.{ℕ, suc, _+_, _-_, _≤_, _<_}
 use native.Mathlib.Omega.{arith}
 use lib.Dec.{eqb, ltb}
 use borrow.Author.Tests.{ltb-true, ltb-false, eqb-true, eqb-false, ne-eqb}
 use Rattle.cuttree.specs.Setting.{Setting, Cut, below}
-use Rattle.cuttree.specs.Tree.{Tree, leaf, branch, height, total, lags, mass, parted, above, insert, addCopy, forget}
+use Rattle.cuttree.specs.Tree.{Tree, leaf, branch, total, lags, mass, above}
 use Rattle.cuttree.proofs.Tests.{by-cond, by-test}
-use Rattle.cuttree.proofs.Steps.{toward, rejoin, rejoined}
+use Rattle.cuttree.proofs.Steps.{toward, rejoin}
 use Rattle.cuttree.proofs.Sums.{sum-rejoin}
-use Rattle.cuttree.proofs.Leaves.{all-toward, all-forget, leaves-branches, leaves-total}
-use Rattle.cuttree.proofs.Copies.{Filled, total-insert, total-copy, total-forget}
+use Rattle.cuttree.proofs.Leaves.{leaves-branches, leaves-total}
+use Rattle.cuttree.proofs.Copies.{Filled}
 
 module _ (S : Setting) where
-  open Setting S using (Point, Word)
+  open Setting S using (Point)
 
   -- the copy that a mass lags behind is there
   pub mass-lag : (t : Tree S) → Filled S t → mass S t + cond (lags S t) 1 0 ≡ total S t
@@ -52,16 +51,3 @@ module _ (S : Setting) where
         (below S k p) _ _
         (λ _ e. by-test g (λ f. rw f (omega (arith, e, rw f at m))) (λ f. rw f (omega (arith, e))))
         (λ _ e. by-test g (λ f. rw f (omega (arith, e, rw f at m))) (λ f. rw f (omega (arith, e)))) s
-
-    pub mass-copy : mass S (addCopy S p (branch b k g l r)) ≡ suc (mass S (branch b k g l r))
-    mass-copy = rw (rejoined S b k g l r p (addCopy S p)) (omega (arith, total-copy S p (toward S k p l r), mass-rejoin (addCopy S p (toward S k p l r)) (omega (arith, total-copy S p (toward S k p l r)))))
-
-    pub mass-insert : (c i : ℕ) (w : ℕ → Word) → parted S (branch b k g l r) p (w (height S (branch b k g l r) p)) ≡ false → mass S (insert S c i p w (branch b k g l r)) ≡ suc (mass S (branch b k g l r))
-    mass-insert c i w e = rw (e, rejoined S b k g l r p (insert S c i p w))
-        (omega (arith, total-insert S c i p w (toward S k p l r), mass-rejoin (insert S c i p w (toward S k p l r)) (omega (arith, total-insert S c i p w (toward S k p l r)))))
-
-    pub mass-forget : (x : Tree S) → forget S p (toward S k p l r) ≡ some x → suc (mass S (rejoin S b k g l r p x)) ≡ mass S (branch b k g l r)
-    mass-forget x e =
-        let f : Filled S (toward S k p l r) = all-toward S (λ i q n. 0 < n) k p l r h in
-        let y : Filled S x = rw e at (all-forget S (λ i q n. 0 < n) p (λ i q n m _. omega arith) (toward S k p l r) f) in
-        omega (arith, mass-rejoin x (omega (arith, leaves-total S x y, leaves-branches S x)), rw e at (total-forget S p (toward S k p l r) f))

@@ -7,7 +7,6 @@ use borrow.Author.Tests.{lt-ltb, le-leb, lt-leb}
 use Rattle.limits.specs.Limits.{branchLimit}
 use Rattle.intervalstoremanager.specs.declared.IntervalStoreManager.{IntervalStoreManager}
 use Rattle.intervalstoremanager.specs.Rows.{topped}
-
 -- a case for each answer of a test
 pub use borrow.Table.Steps.{cases as by-test}
 

@@ -13,8 +13,8 @@ use borrow.Author.Tests.{lt-ltb, le-ltb, eq-eqb, ne-eqb}
 use Rattle.limits.specs.Limits.{branchLimit, pointLimit, totalLimit}
 use Rattle.boundingbox.specs.Sides.{nought}
 use Rattle.cuttree.specs.Setting.{Setting}
-use Rattle.cuttree.specs.Tree.{Tree, leaf, branch, id, ending, height, walk, total, addCopy, forget, freed}
-use Rattle.cuttree.specs.Walk.{sub, sibling, replace}
+use Rattle.cuttree.specs.Tree.{Tree, leaf, branch, id, ending, height, total, addCopy, forget, freed}
+use Rattle.cuttree.specs.Walk.{sibling, replace}
 use Rattle.cuttree.proofs.Tests.{cond-true, cond-false}
 use Rattle.cuttree.proofs.Leaves.{all-ending}
 use Rattle.cuttree.proofs.Heights.{sub-leaf}
@@ -23,11 +23,9 @@ use Rattle.wholetree.specs.Reading.{Reading}
 use Rattle.wholetree.specs.Whole.{whole, tab}
 use Rattle.layout.specs.Slots.{rowOf, cutOf, countAt, field}
 use Rattle.layout.specs.Layout.{noRow, rootOf}
-use Rattle.layout.specs.Stands.{trail}
 use Rattle.layout.proofs.Tabs.{entry-of, set-tab}
 use Rattle.layout.proofs.Slots.{leaf-tab}
 use Rattle.layout.proofs.Rows.{apart-once}
-use Rattle.layout.proofs.Trails.{path-node, path-sibling}
 use Rattle.layout.proofs.Ranges.{range-ending}
 use Rattle.layout.proofs.Counts.{count-ending}
 use Rattle.walk.proofs.Ends.{walk-is, fork-is, sibling-is}

@@ -2,15 +2,14 @@
 use mathlib.Core.Path.{_≡_}
 use mathlib.Core.Bool.{Bool}
 use mathlib.Core.Option.{Option, some}
-use mathlib.Core.List.{List, []}
+use mathlib.Core.List.{List}
 use Prim.Native.Nat.{ℕ, _+_, _≤_, _<_, _-_}
-use lib.ListN.{length, getD, take}
-use lib.Ieee.{Float, nan}
+use lib.Ieee.{Float}
 use Rattle.limits.specs.Limits.{width, capacityLimit, branchLimit, pointLimit, totalLimit}
 use Rattle.boundingbox.specs.Sides.{nought}
 use Rattle.cut.specs.declared.Cut.{Cut}
 use Rattle.cuttree.specs.Setting.{Cut as CutOf, below}
-use Rattle.cuttree.specs.Tree.{Tree, is, id, ending, height, walk, leaves, total, sum, All}
+use Rattle.cuttree.specs.Tree.{Tree, is, ending, height, walk, total, sum, All}
 use Rattle.wholetree.specs.Reading.{Reading}
 use Rattle.wholetree.specs.Whole.{whole, tab}
 use Rattle.layout.specs.Slots.{uses, rowOf, cutOf, countAt}
