@@ -8,7 +8,7 @@ use native.Mathlib.Nat.{le-of-suc-le-suc, not-suc-le-zero, eq-or-lt-of-le, le-su
 use native.Mathlib.Numerals.{add-one}
 use lib.Dec.{T, leb, leb→le, nleb→lt}
 use lib.Ieee.Fits.{and-l, and-r, and-i}
-use Rattle.readings.proofs.Tests.{split, same-test}
+use Rattle.readings.proofs.Tests.{yes, no, split, same-test}
 use Rattle.boundingbox.specs.Contained.{every}
 
 module _ (p : ℕ → Bool) where
@@ -37,11 +37,11 @@ module _ (p : ℕ → Bool) where
     where
       go : (b : Bool) → leb d i ≡ b → every p (min d (i + 1)) ≡ (every p (min d i) && (b || p i))
       go true e =
-          let l : d ≤ i = leb→le d i (subst T (sym e) tt) in
+          let l : d ≤ i = leb→le d i (yes e) in
           let z : min d (i + 1) ≡ min d i = omega arith in
           rw z (sym (and-true (every p (min d i))))
       go false e =
-          let l : i < d = nleb→lt d i (subst (λ (b : Bool). T (not b)) (sym e) tt) in
+          let l : i < d = nleb→lt d i (no e) in
           let z : min d (i + 1) ≡ i + 1 = omega arith in
           let y : min d i ≡ i = omega arith in
           rw (z, y) (every-next i)

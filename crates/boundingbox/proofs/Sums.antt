@@ -1,7 +1,7 @@
 -- The sides of a box of coordinates, and their sum, are exact: the floats are the whole numbers. Assumes nothing.
 use mathlib.Core.Path.{_≡_, refl, sym, ap, _∙_, subst}
 use mathlib.Core.Logic.{⊎-elim}
-use mathlib.Core.Bool.{Bool, true, false, cond, true≢false}
+use mathlib.Core.Bool.{Bool, true, false, cond, true≢false, and-true}
 use Prim.Native.Nat.{ℕ, zero, suc, _+_, _-_, _*_, _^_, _≤_, _<_, zero-le}
 use native.Mathlib.Nat.{le-trans, le-suc, le-refl, le-of-lt, le-of-suc-le-suc, not-suc-le-zero, eq-or-lt-of-le, mul-pos, mul-one, eq-of-mul-eq-mul-right}
 use native.Mathlib.Numerals.{add-one}
@@ -12,7 +12,7 @@ use lib.Ieee.{Float, nan, inf, fin, binary32, binary64, up, down, sub, lt, eq, o
 use lib.Ieee.Fits.{down-pos}
 use lib.Ieee.Exact.{HasValue}
 use Rattle.readings.specs.Coordinate.{isCoordinate, rank}
-use Rattle.readings.proofs.Tests.{and-true, eqb-iff, cross-l, cross-r}
+use Rattle.readings.proofs.Tests.{eqb-iff, cross-l, cross-r}
 use Rattle.readings.proofs.Wholes.{ofInt-value, ofInt-wide, ofInt-add}
 use Rattle.readings.proofs.Ranks.{rank-le, sub-rank}
 use Rattle.boundingbox.specs.Sides.{gapOf, nought, total}

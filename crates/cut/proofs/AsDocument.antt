@@ -10,10 +10,11 @@ use lib.Dec.{T, ltb, eqb, leb→le, eqb→eq, ltb→lt, nltb→le}
 use lib.Pow.{pow-pos, pow-mono}
 use lib.Ieee.{Float, binary64, mul, eq, ofInt}
 use lib.Ieee.Fits.{and-i, and-l, and-r, eq→eqb}
+use borrow.Table.Steps.{cases as by-test}
 use Rattle.readings.specs.Coordinate.{isCoordinate, rank}
 use Rattle.readings.specs.Word.{factorOf}
 use Rattle.readings.proofs.Words.{factor-value}
-use Rattle.readings.proofs.Tests.{same-test, yes}
+use Rattle.readings.proofs.Tests.{same-test, yes, no}
 use Rattle.readings.proofs.Values.{mul-value}
 use Rattle.readings.proofs.Wholes.{ofInt-value, ofInt-add}
 use Rattle.readings.proofs.Ranks.{lt-rank}
@@ -26,7 +27,6 @@ use Rattle.cut.specs.declared.Side.the-variants.{At}
 use Rattle.cut.specs.Draw.{outsideSum, lowEnd, highEnd, sideOf, rangeOf, sideFrom, drawnAt, separation}
 use Rattle.cut.specs.Document.{numberOf, channelOf, restOf, cutOf, documentCut}
 use Rattle.cut.specs.Laws.{Readings, AsDocument}
-use Rattle.cut.proofs.First.{by-test}
 use Rattle.cut.proofs.Number.{side-is}
 use Rattle.cut.proofs.Stretched.{beyond, out, outside-exact, range-exact, sum-stretched, side-exact, stretched}
 
@@ -49,7 +49,7 @@ module _ (lo hi p : List Float) where
           below t = let l : x < a = ltb→lt x a (yes t) in off (a - x) (omega arith)
 
           above : ltb x a ≡ false → eqb (x - b) 0 ≡ not (ltb b x)
-          above t = by-test (ltb b x) (λ u. rw u (let l : b < x = ltb→lt b x (yes u) in off (x - b) (omega arith))) (λ u. rw u (let l : x ≤ b = nltb→le b x (subst (λ (c : Bool). T (not c)) (sym u) tt) in zero-is (x - b) (omega arith)))
+          above t = by-test (ltb b x) (λ u. rw u (let l : b < x = ltb→lt b x (yes u) in off (x - b) (omega arith))) (λ u. rw u (let l : x ≤ b = nltb→le b x (no u) in zero-is (x - b) (omega arith)))
             where
               zero-is : (k : ℕ) → k ≡ 0 → eqb k 0 ≡ true
               zero-is k e = ap (λ (z : ℕ). eqb z 0) e

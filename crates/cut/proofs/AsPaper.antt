@@ -4,12 +4,12 @@ use mathlib.Core.Logic.{_⊎_, inl, inr}
 use Prim.Native.Nat.{ℕ, zero, suc, _+_, _*_, _/_, _^_, _≤_, _<_, zero-le}
 use native.Mathlib.Nat.{le-trans, le-of-eq, lt-of-le-of-lt, sub-le, zero-add, eq-zero-or-pos, eq-or-lt-of-le, mul-right-comm, mul-le-mul-right, le-of-mul-le-mul-right}
 use native.Mathlib.Omega.{arith}
-use mathlib.Core.Bool.{Bool, true, false, _&&_, cond}
+use mathlib.Core.Bool.{Bool, true, false, _&&_, cond, and-false}
 use lib.Dec.{ltb}
 use lib.Pow.{pow-pos}
 use lib.Ieee.Exact.{HasValue}
 use lib.Ieee.Positive.{num, den, den-pos, value→cross}
-use Rattle.readings.proofs.Tests.{leb-iff, leb-no, leb-yes, and-false}
+use Rattle.readings.proofs.Tests.{leb-iff, leb-no, leb-yes}
 use Rattle.readings.proofs.Values.{scaled-exact}
 use Rattle.boundingbox.specs.Wholes.{side, sumTo}
 use Rattle.boundingbox.proofs.Sums.{sumTo-next}

@@ -12,6 +12,7 @@ use lib.ListN.{getD}
 use lib.Pow.{pow-pos, pow-mono}
 use lib.Ieee.{Float, nan, binary64, round, sub, mul, lt, ofInt}
 use lib.Ieee.Positive.{num}
+use borrow.Table.Steps.{cases as by-test}
 use Rattle.readings.specs.Word.{factorOf}
 use Rattle.readings.proofs.Tests.{same-test, yes, no}
 use Rattle.readings.proofs.Values.{sum-minus, lt-value}
@@ -26,7 +27,7 @@ use Rattle.cut.specs.Draw.{lowEnd, highEnd, sideOf, drawnAt, separation}
 use Rattle.cut.specs.Document.{numberOf, channelOf, restOf}
 use Rattle.cut.specs.Laws.{Readings}
 use Rattle.cut.specs.Sums.{one, atLeastOne, countBelow}
-use Rattle.cut.proofs.First.{by-test, Short, Found, before-found, short-before}
+use Rattle.cut.proofs.First.{Short, Found, before-found, short-before}
 use Rattle.cut.proofs.Range.{Range, whole-over, off-is}
 use Rattle.cut.proofs.Going.{expo, den-is}
 use Rattle.cut.proofs.Number.{own}

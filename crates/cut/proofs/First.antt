@@ -1,5 +1,5 @@
 -- The first channel to which a number falls: there is one, and it is the one whose stretch of the running sum has the number in it. Assumes nothing.
-use mathlib.Core.Path.{_≡_, refl, sym, ap, _∙_, subst}
+use mathlib.Core.Path.{_≡_, sym, ap, _∙_, subst}
 use mathlib.Core.Logic.{_⊎_, inl, inr}
 use Prim.Native.Nat.{ℕ, zero, suc, _+_, _*_, _≤_, _<_}
 use native.Mathlib.Nat.{le-trans, le-of-eq, lt-of-le-of-lt, lt-of-lt-of-le, mul-le-mul-right, eq-zero-or-pos, eq-or-lt-of-le, lt-irrefl}
@@ -7,14 +7,11 @@ use native.Mathlib.Omega.{arith}
 use mathlib.Core.Bool.{Bool, true, false, not, _&&_, cond}
 use lib.Dec.{T, leb, ltb, leb→le, nleb→lt, ltb→lt, nltb→le}
 use lib.Ieee.Fits.{and-l, and-r}
+use borrow.Table.Steps.{cases as by-test}
 use Rattle.readings.proofs.Tests.{leb-yes, yes, no, split}
 use Rattle.boundingbox.specs.Wholes.{sumTo}
 use Rattle.boundingbox.proofs.Sums.{sumTo-next, sum-pos}
 use Rattle.cut.specs.Paper.{falls, first}
-
-pub by-test : {A : Type 0} (b : Bool) → (b ≡ true → A) → (b ≡ false → A) → A
-by-test true f g = f refl
-by-test false f g = g refl
 
 -- the running sums do not fall
 pub sum-more : (g : ℕ → ℕ) (i j : ℕ) → i ≤ j → sumTo g i ≤ sumTo g j

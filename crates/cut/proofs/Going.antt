@@ -12,6 +12,7 @@ use lib.Ieee.{Float, nan, inf, fin, binary64, up, down, round, sub, lt, le, fits
 use lib.Ieee.Fits.{and-l, and-r, round-fits}
 use lib.Ieee.Exact.{HasValue}
 use lib.Ieee.Positive.{num, den}
+use borrow.Table.Steps.{cases as by-test}
 use Rattle.readings.proofs.Tests.{leb-iff, leb-yes, no, pow-le-back}
 use Rattle.readings.proofs.Keys.{value-unique}
 use Rattle.readings.proofs.Values.{scaled-exact, sum-minus, scale-up, lt-value, zero-value}
@@ -22,7 +23,7 @@ use Rattle.boundingbox.proofs.Sums.{sumTo-next}
 use Rattle.cut.specs.declared.Side.the-variants.{At}
 use Rattle.cut.specs.Paper.{falls, first}
 use Rattle.cut.specs.Draw.{reaches, leftOf, sideFrom}
-use Rattle.cut.proofs.First.{by-test, Short, falls-wide, falls-thin, short-next, never}
+use Rattle.cut.proofs.First.{Short, falls-wide, falls-thin, short-next, never}
 use Rattle.cut.proofs.Range.{Range, off-is, off-exact, off-test}
 
 -- ---- a number as its own fraction: its denominator is 2 ^ expo

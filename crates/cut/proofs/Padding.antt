@@ -4,11 +4,11 @@ use mathlib.Core.List.{List}
 use Prim.Native.Nat.{ℕ, zero, suc, _+_, _-_, _*_, _/_, _^_, _≤_, _<_}
 use native.Mathlib.Nat.{le-trans}
 use native.Mathlib.Omega.{arith}
-use mathlib.Core.Bool.{Bool, true, false, _&&_, cond}
+use mathlib.Core.Bool.{Bool, true, false, _&&_, cond, and-true}
 use lib.Ieee.{Float, binary64, round, lt}
 use lib.Ieee.Positive.{num, den}
+use borrow.Table.Steps.{cases as by-test}
 use Rattle.readings.specs.Coordinate.{rank}
-use Rattle.readings.proofs.Tests.{and-true}
 use Rattle.boundingbox.specs.Ends.{channel, least, greatest}
 use Rattle.boundingbox.specs.Sides.{nought}
 use Rattle.boundingbox.specs.Contained.{every, stays, contains}
@@ -19,7 +19,7 @@ use Rattle.cut.specs.Paper.{falls, first, channelAt, restAt}
 use Rattle.cut.specs.Draw.{lowEnd, highEnd, partsAt, separation}
 use Rattle.cut.specs.Document.{numberOf, channelOf, restOf, cutOf, documentCut}
 use Rattle.cut.specs.Laws.{Readings, Padded, PaddingCutsNothing}
-use Rattle.cut.proofs.First.{by-test, Found}
+use Rattle.cut.proofs.First.{Found}
 use Rattle.cut.proofs.Stretched.{stretched}
 use Rattle.cut.proofs.AsDocument.{as-document, some-side}
 use Rattle.cut.proofs.Within.{channel-found}

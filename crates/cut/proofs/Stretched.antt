@@ -8,6 +8,7 @@ use mathlib.Core.Bool.{Bool, true, false, cond}
 use lib.IntN.{pos}
 use lib.Dec.{T, ltb, ltb→lt, nltb→le}
 use lib.Ieee.{Float, binary64, ofInt}
+use borrow.Table.Steps.{cases as by-test}
 use Rattle.readings.specs.Coordinate.{isCoordinate, rank}
 use Rattle.readings.proofs.Tests.{no, yes}
 use Rattle.readings.proofs.Ranks.{lt-rank, rank-le}
@@ -18,7 +19,6 @@ use Rattle.boundingbox.specs.Sides.{gapOf, total, rangeSum}
 use Rattle.boundingbox.specs.Wholes.{Box, side, sumTo}
 use Rattle.cut.specs.Draw.{outsideOf, outsideSum, lowEnd, highEnd, sideOf}
 use Rattle.cut.specs.Laws.{Readings}
-use Rattle.cut.proofs.First.{by-test}
 
 -- ---- one channel
 -- how far x lies outside a to b, in ranks

@@ -12,10 +12,10 @@ use lib.Seq.{getD-set-same}
 use lib.Ieee.{Float, nan, binary64, add, lt}
 use borrow.Author.Count.{below-more}
 use borrow.Author.Needs.{read-below}
+use borrow.Table.Steps.{cases as by-test}
 use Rattle.readings.proofs.Tests.{yes, no}
 use Rattle.boundingbox.specs.Sides.{total}
 use Rattle.cut.specs.Sums.{countBelow}
-use Rattle.cut.proofs.First.{by-test}
 
 -- ---- the sums: those of up to i numbers stand, and the turn writes the next
 pub sums-turn : (f : ℕ → Float) (sums : List Float) (i : ℕ) (x : Float) → i + 1 < length sums → ((j : ℕ) → j < i + 1 → getD sums j nan ≡ total f j) → x ≡ f i →

@@ -6,6 +6,7 @@ use native.Mathlib.Nat.{zero-add}
 use native.Mathlib.Omega.{arith}
 use mathlib.Core.Bool.{Bool, true, false}
 use lib.Ieee.{Float, binary64, add, mul, eq}
+use borrow.Table.Steps.{cases as by-test}
 use Rattle.readings.specs.Word.{factorOf}
 use Rattle.boundingbox.specs.Sides.{nought, rangeSum}
 use Rattle.cut.specs.declared.Cut.{Cut}
@@ -13,7 +14,6 @@ use Rattle.cut.specs.declared.Separation.the-variants.{NoCut, Drawn}
 use Rattle.cut.specs.declared.Side.{Side}
 use Rattle.cut.specs.declared.Side.the-variants.{At, Nowhere}
 use Rattle.cut.specs.Draw.{outsideSum, sideOf, rangeOf, reaches, leftOf, sideFrom, cutAt, drawnAt, separation}
-use Rattle.cut.proofs.First.{by-test}
 
 module _ (g : ℕ → Float) (n i : ℕ) (rest : Float) where
   next : i < n → n - i ≡ suc (n - (i + 1))

@@ -11,6 +11,7 @@ use lib.Ieee.{Float, binary32, lt, le, eq, fits}
 use lib.Ieee.Bits.{is-true}
 use lib.Ieee.Fits.{add-fits}
 use lib.Ieee.Positive.{num, den}
+use borrow.Table.Steps.{cases as by-test}
 use Rattle.readings.specs.Coordinate.{isCoordinate, rank}
 use Rattle.readings.specs.Narrow.{narrowed}
 use Rattle.readings.proofs.Tests.{yes}
@@ -24,7 +25,7 @@ use Rattle.cut.specs.Paper.{channelAt}
 use Rattle.cut.specs.Draw.{lowEnd, highEnd, moved, placed, parts, partsAt}
 use Rattle.cut.specs.Document.{numberOf, channelOf, restOf, cutOf}
 use Rattle.cut.specs.Laws.{Readings, Within, CutWithin, LeafParts, strays, seeded17, NeverSeeded17}
-use Rattle.cut.proofs.First.{by-test, falls-says, Found, first-found}
+use Rattle.cut.proofs.First.{falls-says, Found, first-found}
 use Rattle.cut.proofs.Stretched.{stretched}
 use Rattle.cut.proofs.Number.{number-most}
 use Rattle.cut.proofs.AsDocument.{outside-is, some-side, point-is, side-drawn}

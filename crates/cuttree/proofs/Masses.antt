@@ -1,44 +1,44 @@
--- The Rust's masses: at least 1, one more for each add below and one less for each delete below.
+-- The Rust's masses: at least 1, at most the copies; and a branch gains and loses what its side does.
 use mathlib.Core.Path.{_≡_}
-use mathlib.Core.Bool.{Bool, false, cond}
-use mathlib.Core.Option.{some}
+use mathlib.Core.Bool.{Bool, cond}
 use Prim.Native.Nat.{ℕ, suc, _+_, _-_, _≤_, _<_}
 use native.Mathlib.Omega.{arith}
 use lib.Dec.{eqb, ltb}
-use borrow.Author.Tests.{ltb-true, ltb-false, ne-eqb}
+use borrow.Author.Tests.{ltb-true, ltb-false, eqb-true, eqb-false, ne-eqb}
 use Rattle.cuttree.specs.Setting.{Setting, Cut, below}
-use Rattle.cuttree.specs.Tree.{Tree, leaf, branch, height, total, lags, mass, parted, above, insert, addCopy, forget}
+use Rattle.cuttree.specs.Tree.{Tree, leaf, branch, total, lags, mass, above}
 use Rattle.cuttree.proofs.Tests.{by-cond, by-test}
-use Rattle.cuttree.proofs.Steps.{toward, rejoin, rejoined}
+use Rattle.cuttree.proofs.Steps.{toward, rejoin}
 use Rattle.cuttree.proofs.Sums.{sum-rejoin}
-use Rattle.cuttree.proofs.Leaves.{all-toward, all-forget, leaves-branches, leaves-total}
-use Rattle.cuttree.proofs.Copies.{Filled, total-insert, total-copy, total-forget}
+use Rattle.cuttree.proofs.Leaves.{leaves-branches, leaves-total}
+use Rattle.cuttree.proofs.Copies.{Filled}
 
 module _ (S : Setting) where
-  open Setting S using (Point, Word)
-
-  -- THE MASS
-  pub mass-leaf : (i : ℕ) (q : Point) (n : ℕ) → 0 < n → mass S (leaf i q n) ≡ cond (eqb n 1) 1 (n - 1)
-  mass-leaf i q n h = by-test (ltb 1 n)
-      (λ e. let z : 1 < n = ltb-true 1 n e in rw (e, ne-eqb n 1 (omega arith)))
-      (λ e. let z : n ≡ 1 = omega (arith, ltb-false 1 n e) in rw z)
+  open Setting S using (Point)
 
   -- the copy that a mass lags behind is there
   pub mass-lag : (t : Tree S) → Filled S t → mass S t + cond (lags S t) 1 0 ≡ total S t
-  mass-lag t h = let z : 1 ≤ total S t = omega (arith, leaves-total S t h, leaves-branches S t) in
-      by-test (lags S t) (λ e. rw e (omega arith)) (λ e. rw e (omega arith))
+  mass-lag (leaf i q n) h = by-test (ltb 1 n)
+      (λ e. let z : 1 < n = ltb-true 1 n e in rw (e, ne-eqb n 1 (omega arith)) (omega arith))
+      (λ e. let z : n ≡ 1 = omega (arith, ltb-false 1 n e) in rw z)
+  mass-lag (branch b k g l r) h = let z : 1 ≤ total S (branch b k g l r) = omega (arith, leaves-total S (branch b k g l r) h, leaves-branches S l) in
+      by-test g (λ e. rw e (omega arith)) (λ e. rw e (omega arith))
+
+  pub mass-most : (t : Tree S) → mass S t ≤ total S t
+  mass-most (leaf i q n) = by-test (eqb n 1) (λ e. rw e (omega (arith, eqb-true n 1 e))) (λ e. rw e (omega arith))
+  mass-most (branch b k g l r) = omega arith
 
   pub mass-pos : (t : Tree S) → Filled S t → 0 < mass S t
-  mass-pos (leaf i q n) h = by-test (ltb 1 n) (λ e. rw e (omega (arith, ltb-true 1 n e))) (λ e. rw e (omega arith))
+  mass-pos (leaf i q n) h = by-test (eqb n 1) (λ e. rw e (omega arith)) (λ e. let z = eqb-false n 1 e in rw e (omega arith))
   mass-pos (branch b k g l r) h = let z : 2 ≤ total S (branch b k g l r) = omega (arith, leaves-total S (branch b k g l r) h, leaves-branches S l, leaves-branches S r) in
       by-test g (λ e. rw e (omega arith)) (λ e. rw e (omega arith))
 
   -- a new branch weighs one more than its old side
   pub mass-above : (b : ℕ) (k : Cut S) (i : ℕ) (p : Point) (t : Tree S) → Filled S t → mass S (above S b k i p t) ≡ suc (mass S t)
-  mass-above b k i p t h = let z : 1 ≤ total S t = omega (arith, leaves-total S t h, leaves-branches S t) in
+  mass-above b k i p t h = let z = mass-lag t h in
       by-cond (λ x. mass S x ≡ suc (mass S t)) (below S k p) _ _
-      (λ _. by-test (lags S t) (λ e. rw e (omega arith)) (λ e. rw e (omega arith)))
-      (λ _. by-test (lags S t) (λ e. rw e (omega arith)) (λ e. rw e (omega arith)))
+      (λ _. by-test (lags S t) (λ e. rw e (omega (arith, rw e at z))) (λ e. rw e (omega (arith, rw e at z))))
+      (λ _. by-test (lags S t) (λ e. rw e (omega (arith, rw e at z))) (λ e. rw e (omega (arith, rw e at z))))
 
   -- a branch keeps its lag, so it gains and loses what its side does
   module _ (b : ℕ) (k : Cut S) (g : Bool) (l r : Tree S) (p : Point) (h : Filled S (branch b k g l r)) where
@@ -51,16 +51,3 @@ module _ (S : Setting) where
         (below S k p) _ _
         (λ _ e. by-test g (λ f. rw f (omega (arith, e, rw f at m))) (λ f. rw f (omega (arith, e))))
         (λ _ e. by-test g (λ f. rw f (omega (arith, e, rw f at m))) (λ f. rw f (omega (arith, e)))) s
-
-    pub mass-copy : mass S (addCopy S p (branch b k g l r)) ≡ suc (mass S (branch b k g l r))
-    mass-copy = rw (rejoined S b k g l r p (addCopy S p)) (omega (arith, total-copy S p (toward S k p l r), mass-rejoin (addCopy S p (toward S k p l r)) (omega (arith, total-copy S p (toward S k p l r)))))
-
-    pub mass-insert : (c i : ℕ) (w : ℕ → Word) → parted S (branch b k g l r) p (w (height S (branch b k g l r) p)) ≡ false → mass S (insert S c i p w (branch b k g l r)) ≡ suc (mass S (branch b k g l r))
-    mass-insert c i w e = rw (e, rejoined S b k g l r p (insert S c i p w))
-        (omega (arith, total-insert S c i p w (toward S k p l r), mass-rejoin (insert S c i p w (toward S k p l r)) (omega (arith, total-insert S c i p w (toward S k p l r)))))
-
-    pub mass-forget : (x : Tree S) → forget S p (toward S k p l r) ≡ some x → suc (mass S (rejoin S b k g l r p x)) ≡ mass S (branch b k g l r)
-    mass-forget x e =
-        let f : Filled S (toward S k p l r) = all-toward S (λ i q n. 0 < n) k p l r h in
-        let y : Filled S x = rw e at (all-forget S (λ i q n. 0 < n) p (λ i q n m _. omega arith) (toward S k p l r) f) in
-        omega (arith, mass-rejoin x (omega (arith, leaves-total S x y, leaves-branches S x)), rw e at (total-forget S p (toward S k p l r) f))

@@ -11,6 +11,10 @@ use Rattle.cuttree.specs.Setting.{Setting, Cut, below, parts}
 abbrev pub is : ℕ → ℕ → ℕ
 is a b = cond (eqb a b) 1 0
 
+-- "A leaf of k copies has Rust mass 1 for k = 1, otherwise k − 1"
+abbrev pub leafMass : ℕ → ℕ
+leafMass k = cond (eqb k 1) 1 (k - 1)
+
 module _ (S : Setting) where
   open Setting S using (Coord, Chan, Point, Word, le, at, same, draw)
 
@@ -79,14 +83,15 @@ module _ (S : Setting) where
   abbrev pub copies : Tree → Point → ℕ
   copies t v = sum (λ i q n. cond (same q v) n 0) (λ b. 0) t
 
-  -- THE MASS, as the Rust has it: "a leaf of k copies has mass 1 for k = 1, otherwise k − 1, and a branch made above it inherits
-  -- this". So one copy is missing from it, or none, and a branch keeps which from the day that it is made.
+  -- THE MASS, as the Rust has it: a leaf's, "and a branch made above it inherits this". So one copy is missing from a mass, or none, and a
+  -- branch keeps which from the day that it is made.
   abbrev pub lags : Tree → Bool
   lags (leaf i q n) = ltb 1 n
   lags (branch b k g l r) = g
 
   abbrev pub mass : Tree → ℕ
-  mass t = total t - cond (lags t) 1 0
+  mass (leaf i q n) = leafMass n
+  mass (branch b k g l r) = total (branch b k g l r) - cond g 1 0
 
   -- INSERTION: "a new reading enters at the highest box from which a drawn cut parts it"
   abbrev pub drawn : Tree → Point → Word → Cut S

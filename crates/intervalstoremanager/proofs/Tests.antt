@@ -1,16 +1,14 @@
 -- Tests decided: a proof by a test's two answers, and whether a manager has a top row. Assumes nothing.
-use mathlib.Core.Path.{_≡_, refl}
-use mathlib.Core.Bool.{Bool, true, false}
+use mathlib.Core.Path.{_≡_}
+use mathlib.Core.Bool.{true, false}
 use Prim.Native.Nat.{_≤_, _<_}
 use native.Mathlib.Omega.{arith}
 use borrow.Author.Tests.{lt-ltb, le-leb, lt-leb}
 use Rattle.limits.specs.Limits.{branchLimit}
 use Rattle.intervalstoremanager.specs.declared.IntervalStoreManager.{IntervalStoreManager}
 use Rattle.intervalstoremanager.specs.Rows.{topped}
-
-pub by-test : {P : Type 0} (b : Bool) → (b ≡ true → P) → (b ≡ false → P) → P
-by-test true f g = f refl
-by-test false f g = g refl
+-- a case for each answer of a test
+pub use borrow.Table.Steps.{cases as by-test}
 
 pub is-topped : (m : IntervalStoreManager) → 0 < m .«last_in_use» → m .«last_in_use» ≤ branchLimit → topped m ≡ true
 is-topped m some all = rw (lt-ltb 0 (m .«last_in_use») some, le-leb (m .«last_in_use») branchLimit all)

@@ -3,10 +3,15 @@ use mathlib.Core.Bool.{cond}
 use mathlib.Core.List.{List, [], _∷_}
 use Prim.Native.Nat.{ℕ}
 use lib.Dec.{eqb, ltb}
+use lib.ListN.{getD}
 use lib.Ieee.{Float}
 use Rattle.boundingbox.specs.Sides.{nought}
 use Rattle.cuttree.specs.Tree.{Tree, leaf, branch, id, is, sum, lo, hi, mass}
 use Rattle.wholetree.specs.Whole.{whole, ends}
+
+-- the number k of the row i
+abbrev pub field : List (List ℕ) → ℕ → ℕ → ℕ
+field rows i k = getD (getD rows i []) k 0
 
 module _ (d c : ℕ) where
   -- how often the branch number j is in the tree

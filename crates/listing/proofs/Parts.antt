@@ -4,34 +4,29 @@ use mathlib.Core.Bool.{Bool}
 use mathlib.Core.List.{List, [], _++_}
 use Prim.Native.Nat.{ℕ, _+_, _-_, _≤_, _<_}
 use native.Mathlib.Omega.{arith}
-use borrow.Author.Tests.{lt-ltb, le-ltb}
-use lib.Dec.{ltb}
+use borrow.Author.Tests.{eqb-true, eqb-false, ne-eqb}
+use lib.Dec.{eqb}
 use lib.ListN.{length, getD, length-append}
 use lib.Ieee.{Float, nan, binary32, toBits}
 use Rattle.limits.specs.Limits.{capacityLimit, pointLimit}
 use Rattle.lines.specs.Lines.{branchLine, leafLine, Wrote}
 use Rattle.lines.proofs.Writes.{then, long}
 use Rattle.cuttree.specs.Setting.{Cut}
-use Rattle.cuttree.specs.Tree.{Tree, leaf, branch, id, mass}
+use Rattle.cuttree.specs.Tree.{Tree, leaf, branch, id, leafMass}
 use Rattle.cuttree.proofs.Tests.{by-test}
-use Rattle.wholetree.specs.Reading.{Reading}
 use Rattle.wholetree.specs.Whole.{whole}
-use Rattle.layout.specs.Slots.{rowOf}
+use Rattle.layout.specs.Slots.{field, rowOf}
 use Rattle.layout.specs.Stands.{Laid, Once}
-use Rattle.nodestore.specs.Rows.{field}
 use Rattle.boxstore.specs.Boxed.{Linked}
 use Rattle.boxstore.proofs.Depths.{deep, depth, depth-few, deep-is}
-use Rattle.listing.specs.Listing.{leafMass, rowLine, linesOf, Listed, SomeListed, PrintsNode}
+use Rattle.listing.specs.Listing.{rowLine, linesOf, Listed, SomeListed, PrintsNode}
 
 -- a leaf's mass: of more copies than one, and of one at most
 pub mass-less : {k n : ℕ} → k ≡ n → 1 < k → k - 1 ≡ leafMass n
-mass-less {k} {n} e h = rw (lt-ltb 1 n (omega arith)) (omega arith)
+mass-less {k} {n} e h = rw (ne-eqb n 1 (omega arith)) (omega arith)
 
 pub mass-same : {k n : ℕ} → k ≡ n → k ≤ 1 → k ≡ leafMass n
-mass-same {k} {n} e h = rw (le-ltb 1 n (omega arith)) e
-
-leaf-mass : (d i : ℕ) (q : Reading) (n : ℕ) → leafMass n ≡ mass (whole d) (leaf i q n)
-leaf-mass d i q n = by-test (ltb 1 n) (λ e. rw e) (λ e. rw e (omega arith))
+mass-same {k} {n} e h = by-test (eqb n 1) (λ f. rw f (omega (arith, eqb-true n 1 f))) (λ f. let z = eqb-false n 1 f in rw f (omega arith))
 
 -- a branch's line, of numbers that are read from its row
 pub row-written : (nodes : List (List ℕ)) (cuts : List Float) (b : ℕ) {dimension cut left right mass at place : ℕ} {before after : List ℕ}
@@ -73,7 +68,7 @@ module _ (c : ℕ) (nodes : List (List ℕ)) (cuts : List Float) (copies : List 
         → PrintsNode c node nodes cuts copies at before place after
     leaf-printed h w d (leaf i q n) e B =
         let z : node - c ≡ i = omega arith in
-        rw (e, ← leaf-mass d i q n) (rw (z, B .leaves) at w)
+        rw e (rw (z, B .leaves) at w)
     leaf-printed h w d (branch b x g l r) e B = absurd (omega (arith, B .in-range))
 
     -- BRANCHES

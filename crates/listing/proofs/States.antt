@@ -19,6 +19,7 @@ use Rattle.cuttree.specs.Sound.{Sound}
 use Rattle.cuttree.proofs.Tests.{by-test}
 use Rattle.cuttree.proofs.Nodes.{In, here, left, right}
 use Rattle.cuttree.proofs.Leaves.{leaves-branches, leaves-total}
+use Rattle.cuttree.proofs.Masses.{mass-most}
 use Rattle.cuttree.proofs.Room.{at-leaf, index-below, index-once, intervals-few}
 use Rattle.wholetree.specs.Reading.{Reading}
 use Rattle.wholetree.specs.Whole.{whole, tab}
@@ -52,7 +53,7 @@ id-below d c (branch b k g l r) m h = omega (arith, h .0)
 
 -- the lines of a tree
 lines-few : (d c : ℕ) (t : Tree (whole d)) → c ≤ capacityLimit → InRange d c t → total (whole d) t < 65536 → length (linesOf d c t) ≤ 31 * branches d t + 19 * leaves (whole d) t
-lines-few d c (leaf i q n) m h w = omega (arith, leaf-few (i + c) (mass (whole d) (leaf i q n)) (id-below d c (leaf i q n) m h) (omega arith))
+lines-few d c (leaf i q n) m h w = omega (arith, leaf-few (i + c) (mass (whole d) (leaf i q n)) (id-below d c (leaf i q n) m h) (omega (arith, mass-most (whole d) (leaf i q n))))
 lines-few d c (branch b k g l r) m h w =
     let one = lines-few d c l m (h .2) (omega arith) in
     let two = lines-few d c r m (h .3) (omega arith) in

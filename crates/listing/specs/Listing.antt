@@ -1,21 +1,14 @@
 -- The lines of a tree's nodes, and a tree that stands in the arrays that they are read from. Definitions.
 use mathlib.Core.Path.{_≡_}
-use mathlib.Core.Bool.{cond}
 use mathlib.Core.List.{List, [], _++_}
-use Prim.Native.Nat.{ℕ, _+_, _-_, _<_}
-use lib.Dec.{ltb}
+use Prim.Native.Nat.{ℕ, _+_, _<_}
 use lib.ListN.{length, getD}
 use lib.Ieee.{Float, nan, binary32, toBits}
 use Rattle.lines.specs.Lines.{branchLine, leafLine, Wrote}
 use Rattle.cuttree.specs.Tree.{Tree, leaf, branch, id, mass, All}
 use Rattle.wholetree.specs.Whole.{whole}
-use Rattle.layout.specs.Slots.{rowOf, cutOf}
+use Rattle.layout.specs.Slots.{field, rowOf, cutOf}
 use Rattle.layout.specs.Stands.{Laid, Once, InRange}
-use Rattle.nodestore.specs.Rows.{field}
-
--- 'A leaf of k copies has Rust mass 1 for k = 1, otherwise k − 1'
-abbrev pub leafMass : ℕ → ℕ
-leafMass k = cond (ltb 1 k) (k - 1) k
 
 -- the line of the branch whose row and cut stand at its number
 abbrev pub rowLine : List (List ℕ) → List Float → ℕ → List ℕ

@@ -1,4 +1,6 @@
 // The printed tree of `treelist`: a line of names, then a line for each node, branch before left before right, read from the arrays that a tree stands in.
+use casts::wide16;
+use casts::wide32;
 use limits::Copies;
 use limits::Cuts;
 use limits::Nodes;
@@ -8,28 +10,17 @@ ghost use Prim.Native.Nat.{_≤_, _<_};
 ghost use lib.ListN.{getD};
 ghost use Rattle.limits.specs.Limits.{capacityLimit, branchLimit, pointLimit};
 ghost use Rattle.lines.specs.Lines.{Wrote};
-ghost use Rattle.nodestore.specs.Rows.{field};
-ghost use Rattle.listing.specs.Listing.{leafMass, rowLine, PrintsNode, SomeListed};
+ghost use Rattle.cuttree.specs.Tree.{leafMass};
+ghost use Rattle.layout.specs.Slots.{field};
+ghost use Rattle.listing.specs.Listing.{rowLine, PrintsNode, SomeListed};
 ghost use Rattle.listing.specs.Printed.{PrintsTree, SomeRead};
-
-fn wide(x: u16) -> usize
-    ensures { λ r. ⌜ r ≡ x ⌝ }
-{
-    x as usize
-}
-
-fn wide32(x: u32) -> usize
-    ensures { λ r. ⌜ r ≡ x ⌝ }
-{
-    x as usize
-}
 
 // A number of a branch's row: 0 is its left side, 1 its right, 2 its mass and 3 its channel.
 fn number_of(nodes: &Nodes, node: usize, i: usize) -> usize
     requires { ⌜ (node < branchLimit) × (i < 4) ⌝ }
     ensures { λ r. ⌜ r ≡ field (now (nodes .entry)) node i ⌝ }
 {
-    wide(nodes[node][i])
+    wide16(nodes[node][i])
 }
 
 // The mass of a leaf, which is one less than its copies where it has more than one.
@@ -37,7 +28,7 @@ fn mass_of(copies: &Copies, index: usize) -> usize
     requires { ⌜ index < pointLimit ⌝ }
     ensures { λ r. ⌜ r ≡ leafMass (getD (now (copies .entry)) index 0) ⌝ }
 {
-    let k = wide(copies[index]);
+    let k = wide16(copies[index]);
     if 1 < k {
         return k - 1;
     }
@@ -103,11 +94,11 @@ pub fn print_tree(
         return below;
     }
     print_node(
-        wide(tree.root),
+        wide16(tree.root),
         nodes,
         cuts,
         copies,
-        wide(tree.capacity),
+        wide16(tree.capacity),
         out,
         below,
     )

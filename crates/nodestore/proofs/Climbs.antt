@@ -15,12 +15,12 @@ use Rattle.cuttree.specs.Walk.{sub, replace}
 use Rattle.cuttree.proofs.Tests.{by-test}
 use Rattle.cuttree.proofs.Steps.{toward, along, height-step}
 use Rattle.cuttree.proofs.Copies.{Filled}
-use Rattle.cuttree.proofs.Masses.{mass-pos}
+use Rattle.cuttree.proofs.Masses.{mass-most, mass-pos}
 use Rattle.cuttree.proofs.Heights.{height-sub, sub-sub}
 use Rattle.cuttree.proofs.Nodes.{In, here, left, right, all-in}
 use Rattle.wholetree.specs.Reading.{Reading}
 use Rattle.wholetree.specs.Whole.{whole, tab}
-use Rattle.layout.specs.Slots.{uses, slot, rowOf}
+use Rattle.layout.specs.Slots.{uses, slot, rowOf, field}
 use Rattle.layout.specs.Layout.{noRow}
 use Rattle.layout.specs.Stands.{Once, InRange, trailFrom, trail, noSibling}
 use Rattle.layout.proofs.Tabs.{is-tab}
@@ -28,7 +28,7 @@ use Rattle.layout.proofs.Slots.{branch-of, range-in}
 use Rattle.layout.proofs.Replaced.{upper, upper-top, upper-down, upper-uses, upper-at, above-of, in-sub, id-replace, slot-above}
 use Rattle.layout.proofs.Rows.{mass-changed}
 use Rattle.layout.proofs.Trails.{trail-step}
-use Rattle.nodestore.specs.Rows.{field, times, massOver, Climb}
+use Rattle.nodestore.specs.Rows.{times, massOver, Climb}
 use Rattle.nodestore.proofs.Masses.{length-mass, mass-other, mass-same}
 
 module _ (d c : ℕ) where
@@ -97,7 +97,7 @@ module _ (d c : ℕ) where
         masses = λ j m. let a = above-of d c h p j t (omega arith) (omega (arith, up j)) in
             let e = mass-read (a .at) (a .higher) (a .within) in
             subst (λ y. (1 ≤ field N y 2) × (field N y 2 ≤ high)) (a .is-id)
-            (omega (arith, e, mass-pos S (sub S t (a .at) p) (filled-at (a .at) (a .within))), omega (arith, e, sub-total (a .at) p t (a .within)));
+            (omega (arith, e, mass-pos S (sub S t (a .at) p) (filled-at (a .at) (a .within))), omega (arith, e, mass-most S (sub S t (a .at) p), sub-total (a .at) p t (a .within)));
       }
 
       pub weighed : (f : ℕ → ℕ) → Once d c (replace S t h p s) → 0 < total S s → ((x : ℕ) → 0 < x → f x + total S (sub S t h p) ≡ x + total S s) →

@@ -13,45 +13,29 @@ use borrow.Author.Tests.{lt-ltb, le-ltb, eq-eqb, ne-eqb}
 use Rattle.limits.specs.Limits.{branchLimit, pointLimit, totalLimit}
 use Rattle.boundingbox.specs.Sides.{nought}
 use Rattle.cuttree.specs.Setting.{Setting}
-use Rattle.cuttree.specs.Tree.{Tree, leaf, branch, id, ending, height, walk, total, addCopy, forget, freed}
-use Rattle.cuttree.specs.Walk.{sub, sibling, replace}
+use Rattle.cuttree.specs.Tree.{Tree, leaf, branch, id, ending, height, total, addCopy, forget, freed}
+use Rattle.cuttree.specs.Walk.{sibling, replace}
 use Rattle.cuttree.proofs.Tests.{cond-true, cond-false}
 use Rattle.cuttree.proofs.Leaves.{all-ending}
 use Rattle.cuttree.proofs.Heights.{sub-leaf}
 use Rattle.cuttree.proofs.Edits.{leafWith, copy-replace, less-replace, last-alone, last-lifted}
 use Rattle.wholetree.specs.Reading.{Reading}
 use Rattle.wholetree.specs.Whole.{whole, tab}
-use Rattle.layout.specs.Slots.{rowOf, cutOf, countAt}
+use Rattle.layout.specs.Slots.{rowOf, cutOf, countAt, field}
 use Rattle.layout.specs.Layout.{noRow, rootOf}
-use Rattle.layout.specs.Stands.{trail}
 use Rattle.layout.proofs.Tabs.{entry-of, set-tab}
 use Rattle.layout.proofs.Slots.{leaf-tab}
 use Rattle.layout.proofs.Rows.{apart-once}
-use Rattle.layout.proofs.Trails.{path-node, path-sibling}
 use Rattle.layout.proofs.Ranges.{range-ending}
 use Rattle.layout.proofs.Counts.{count-ending}
-use Rattle.nodestore.specs.Rows.{field, massOver, heavier, lighter, Climb, relink}
-use Rattle.nodestore.specs.Stored.{Walked, Arrays, Stored, Reached}
+use Rattle.walk.proofs.Ends.{walk-is, fork-is, sibling-is}
+use Rattle.nodestore.specs.Rows.{massOver, heavier, lighter, Climb, relink}
+use Rattle.nodestore.specs.Stored.{Arrays, Stored, Reached}
 use Rattle.nodestore.proofs.Facts.{root-replace}
 use Rattle.nodestore.proofs.Climbs.{sub-total, climbs}
 use Rattle.nodestore.proofs.Recounts.{copy-linked, copy-arrays}
 use Rattle.nodestore.proofs.Removals.{gone-small, parent-low, gone-climb, gone-arrays}
 
--- OF A WALKED PATH
-module _ {d c n : ℕ} {path : List (List ℕ)} {t : Tree (whole d)} {p : Reading} (w : Walked d c path n t p) where
-  pub walk-is : take (walk (whole d) t p) path ≡ trail d c t p
-  walk-is = ap (λ m. take m path) (sym (w .count)) ∙ w .is-trail
-
-  pub last-is : field path (n - 1) 0 ≡ ending (whole d) t p .index + c
-  last-is = path-node d c p path t walk-is (n - 1) 0 (omega (arith, w .count)) ∙ ap (id (whole d) c) (sub-leaf (whole d) p t)
-
-  pub fork-is : 2 ≤ n → field path (n - 2) 0 ≡ id (whole d) c (sub (whole d) t 1 p)
-  fork-is m = path-node d c p path t walk-is (n - 2) 1 (omega (arith, w .count))
-
-  pub sibling-is : 2 ≤ n → field path (n - 1) 1 ≡ id (whole d) c (sibling (whole d) t 0 p)
-  sibling-is m = let e : n - 1 ≡ suc (n - 2) = omega arith in rw e (path-sibling d c p path t walk-is (n - 2) 0 (omega (arith, w .count)))
-
--- OF A REACHED LEAF
 module _ {d c n index : ℕ} {N path : List (List ℕ)} {C : List Float} {K : List ℕ} {t : Tree (whole d)} {p : Reading} (w : Reached d c N C K path n index t p) where
   abbrev S : Setting
   S = whole d

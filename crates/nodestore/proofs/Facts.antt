@@ -1,9 +1,11 @@
 -- Small facts of a stored tree that every edit of it uses.
 use mathlib.Core.Path.{_≡_, ap, _∙_}
 use mathlib.Core.Bool.{Bool, cond}
+use mathlib.Core.List.{List}
 use Prim.Native.Nat.{ℕ, _+_, _≤_, _<_}
 use native.Mathlib.Omega.{arith}
 use lib.Dec.{eqb}
+use lib.ListN.{take, set}
 use borrow.Author.Tests.{eqb-true, eqb-false}
 use Rattle.cuttree.specs.Setting.{Setting}
 use Rattle.cuttree.specs.Tree.{Tree, is, id, height, total}
@@ -16,6 +18,12 @@ use Rattle.wholetree.specs.Reading.{Reading}
 use Rattle.wholetree.specs.Whole.{whole}
 use Rattle.layout.specs.Slots.{uses}
 use Rattle.layout.proofs.Replaced.{id-replace}
+use Rattle.nodestore.specs.Rows.{massOver, relink}
+
+-- cell, pointer and masses written one after the other, at a number that is b
+pub edited : (f : ℕ → ℕ) (N path : List (List ℕ)) (row : List ℕ) (k old new : ℕ) {N₁ N₂ N₃ : List (List ℕ)} {w b : ℕ} → w ≡ b → N₁ ≡ set N w row → N₂ ≡ relink N₁ path k old new → N₃ ≡ massOver f (take k path) N₂ →
+    N₃ ≡ massOver f (take k path) (relink (set N b row) path k old new)
+edited f N path row k old new e g h m = m ∙ ap (massOver f (take k path)) (h ∙ ap (λ n. relink n path k old new) (g ∙ ap (λ x. set N x row) e))
 
 pub no-either : (b : Bool) → cond {A = ℕ} b 0 0 ≡ 0
 no-either b = by-test b (λ e. rw e) (λ e. rw e)

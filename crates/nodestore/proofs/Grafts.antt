@@ -17,12 +17,12 @@ use Rattle.cuttree.specs.Walk.{sub, replace, graft}
 use Rattle.cuttree.proofs.Tests.{by-cond, by-test}
 use Rattle.cuttree.proofs.Intervals.{is-same, is-other}
 use Rattle.cuttree.proofs.Sums.{sum-above}
-use Rattle.cuttree.proofs.Masses.{mass-leaf, mass-above}
+use Rattle.cuttree.proofs.Masses.{mass-above}
 use Rattle.cuttree.proofs.Heights.{sum-replace}
 use Rattle.cuttree.proofs.Nodes.{In, here, left, right, all-in}
 use Rattle.wholetree.specs.Reading.{Reading}
 use Rattle.wholetree.specs.Whole.{whole, tab}
-use Rattle.layout.specs.Slots.{uses, slot, rowOf, cutOf, countAt}
+use Rattle.layout.specs.Slots.{uses, slot, rowOf, cutOf, countAt, field}
 use Rattle.layout.specs.Layout.{noRow}
 use Rattle.layout.specs.Stands.{Once, trail}
 use Rattle.layout.proofs.Tabs.{entry-of}
@@ -31,7 +31,7 @@ use Rattle.layout.proofs.Replaced.{upper-uses, in-sub, in-new}
 use Rattle.layout.proofs.Rows.{apart-once}
 use Rattle.layout.proofs.Ranges.{range-node}
 use Rattle.layout.proofs.Counts.{count-in, count-set}
-use Rattle.nodestore.specs.Rows.{field, massOver, relink, heavier, Climb, rowFor, massAt}
+use Rattle.nodestore.specs.Rows.{massOver, relink, heavier, Climb, rowFor, massAt}
 use Rattle.nodestore.specs.Stored.{Arrays, Stored}
 use Rattle.nodestore.proofs.Facts.{no-either, uses-replace}
 use Rattle.nodestore.proofs.Climbs.{Linked, climbs, weighed}
@@ -49,7 +49,7 @@ module _ (d c : ℕ) (t : Tree (whole d)) (p : Reading) (N : List (List ℕ)) (C
   mass-at (leaf i q n) e =
       let z : (i + c) - c ≡ i = omega arith in
       let m : getD K i 0 ≡ n = entry-of pointLimit (countAt d c t) K (w .arrays .counts) 0 i (range-node d c e (w .in-range)) ∙ count-in d c (w .apart) e in
-      rw (le-ltb (i + c) c (omega arith), z, m) (sym (mass-leaf S i q n (all-in S (λ i q n. 0 < n) e (w .filled))))
+      rw (le-ltb (i + c) c (omega arith), z, m)
   mass-at (branch b k g l r) e =
       let m = range-in d c (w .in-range) e in
       rw (lt-ltb b c (omega (arith, m))) (ap (λ y. getD y 2 0) (entry-of branchLimit (slot d c (rowOf d c) noRow t) N (w .arrays .rows) [] b (omega (arith, m, w .small)) ∙ slot-in d c (rowOf d c) noRow once e))

@@ -1,4 +1,3 @@
-pub mod Paths
 pub mod Masses
 pub mod Facts
 pub mod Climbs

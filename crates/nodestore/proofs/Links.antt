@@ -20,7 +20,7 @@ use Rattle.cuttree.proofs.Heights.{height-sub, sub-sub}
 use Rattle.cuttree.proofs.Nodes.{In}
 use Rattle.wholetree.specs.Reading.{Reading}
 use Rattle.wholetree.specs.Whole.{whole, tab}
-use Rattle.layout.specs.Slots.{uses, slot, rowOf, cutOf}
+use Rattle.layout.specs.Slots.{uses, slot, rowOf, cutOf, field}
 use Rattle.layout.specs.Layout.{noRow}
 use Rattle.layout.specs.Stands.{Once, InRange, trail}
 use Rattle.layout.proofs.Tabs.{length-of, entry-of, set-tab}
@@ -28,7 +28,7 @@ use Rattle.layout.proofs.Slots.{branch-of, range-in, slot-node}
 use Rattle.layout.proofs.Replaced.{upper, upper-uses, upper-at, above-of, in-sub, uses-sub, slot-above, slot-kept}
 use Rattle.layout.proofs.Rows.{Apart, apart-once, cut-replace, row-same, row-turned, apart-in}
 use Rattle.layout.proofs.Trails.{path-node}
-use Rattle.nodestore.specs.Rows.{field, redirect, relink}
+use Rattle.nodestore.specs.Rows.{redirect, relink}
 use Rattle.nodestore.proofs.Climbs.{Linked, row-mass}
 
 length-redirect : (n : List (List ℕ)) (a old new : ℕ) → length (redirect n a old new) ≡ length n

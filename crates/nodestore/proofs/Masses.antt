@@ -12,7 +12,9 @@ use Rattle.limits.specs.Limits.{capacityLimit, branchLimit}
 use Rattle.cuttree.specs.Tree.{is}
 use Rattle.cuttree.proofs.Tests.{by-test}
 use Rattle.cuttree.proofs.Intervals.{is-same}
-use Rattle.nodestore.specs.Rows.{field, nodeOf, times, weigh, massOver, Climb}
+use Rattle.layout.specs.Slots.{field}
+use Rattle.walk.specs.Walks.{nodeOf}
+use Rattle.nodestore.specs.Rows.{times, weigh, massOver, Climb}
 
 differ : (a b : ℕ) → is a b ≡ 0 → b ≢ a
 differ a b z e = let v : is a b ≡ 1 = rw e (is-same a) in absurd (omega arith)

@@ -13,17 +13,18 @@ use Rattle.cut.specs.declared.Cut.{Cut}
 use Rattle.cuttree.specs.Setting.{Setting, Cut as CutOf}
 use Rattle.cuttree.specs.Tree.{Tree, id, height, mass, above}
 use Rattle.cuttree.specs.Walk.{sub, graft}
+use Rattle.cuttree.proofs.Masses.{mass-most}
 use Rattle.wholetree.specs.Reading.{Reading}
 use Rattle.wholetree.specs.Whole.{whole}
-use Rattle.layout.specs.Slots.{rowOf}
+use Rattle.layout.specs.Slots.{rowOf, field}
 use Rattle.layout.proofs.Replaced.{in-sub}
 use Rattle.layout.proofs.Trails.{path-node}
-use Rattle.nodestore.specs.Rows.{field, massOver, relink, heavier, Climb, rowFor, massAt}
+use Rattle.nodestore.specs.Rows.{massOver, relink, heavier, Climb, rowFor, massAt}
 use Rattle.nodestore.specs.Stored.{Arrays, Graft}
 use Rattle.nodestore.proofs.Masses.{climb-low}
 use Rattle.nodestore.proofs.Facts.{root-replace}
 use Rattle.nodestore.proofs.Climbs.{sub-total}
-use Rattle.nodestore.proofs.Ends.{walk-is}
+use Rattle.walk.proofs.Ends.{walk-is}
 use Rattle.nodestore.proofs.Grafts.{mass-at, id-low, new-id, new-row, parent-low, new-climb, new-arrays}
 
 module _ {d c n k b index h : ℕ} {N path : List (List ℕ)} {C : List Float} {K : List ℕ} {cut : Cut} {left : Bool} {t : Tree (whole d)} {p : Reading} {x : CutOf (whole d)} (w : Graft d c N C K path k b index cut left n t p h x) where
@@ -46,7 +47,7 @@ module _ {d c n k b index h : ℕ} {N path : List (List ℕ)} {C : List Float} {
   mass-is o e = rw (e ∙ node-is) (mass-at d c t p N C K (w .stored) (sub S t h p) (in-sub d c h p t within))
 
   pub mass-low : (o : ℕ) → o ≡ field path k 0 → massAt c N K o ≤ totalLimit - 1
-  mass-low o e = omega (arith, mass-is o e, sub-total d c h p t within, w .room)
+  mass-low o e = omega (arith, mass-is o e, mass-most S (sub S t h p), sub-total d c h p t within, w .room)
 
   row-is : (o m : ℕ) → o ≡ field path k 0 → m ≡ massAt c N K o → rowFor left (index + c) o m (cut .dimension) ≡ rowOf d c (above S b x index p (sub S t h p))
   row-is o m e g = rw (g ∙ mass-is o e, e ∙ node-is, w .left-is, w .channel-is) (sym (new-row d c t p N C K (w .stored) h b index x within (w .fresh) (w .small)))

@@ -18,7 +18,7 @@ use Rattle.cuttree.proofs.Heights.{sum-replace}
 use Rattle.cuttree.proofs.Nodes.{here, all-in}
 use Rattle.wholetree.specs.Reading.{Reading}
 use Rattle.wholetree.specs.Whole.{whole, tab}
-use Rattle.layout.specs.Slots.{uses, slot, rowOf, cutOf, countAt}
+use Rattle.layout.specs.Slots.{uses, slot, rowOf, cutOf, countAt, field}
 use Rattle.layout.specs.Layout.{noRow}
 use Rattle.layout.specs.Stands.{Once, trail}
 use Rattle.layout.proofs.Slots.{branch-of, range-in, slot-none}
@@ -27,7 +27,7 @@ use Rattle.layout.proofs.Rows.{apart-once}
 use Rattle.layout.proofs.Forks.{sum-fork, in-sibling}
 use Rattle.layout.proofs.Ranges.{range-ending}
 use Rattle.layout.proofs.Counts.{count-ending, count-set}
-use Rattle.nodestore.specs.Rows.{field, massOver, relink, lighter, Climb}
+use Rattle.nodestore.specs.Rows.{massOver, relink, lighter, Climb}
 use Rattle.nodestore.specs.Stored.{Arrays, Stored}
 use Rattle.nodestore.proofs.Facts.{no-either, filled-total, uses-replace}
 use Rattle.nodestore.proofs.Climbs.{Linked, climbs, weighed}

@@ -1,28 +1,17 @@
--- Rows of branches and rows of a path, as lists: what one step down reads, and what an edit writes. Definitions.
+-- Rows of branches and rows of a path, as lists: what an edit writes. Definitions.
 use mathlib.Core.Bool.{Bool, cond}
 use mathlib.Core.List.{List, [], _∷_}
 use Prim.Native.Nat.{ℕ, _+_, _-_, _≤_, _<_}
 use lib.Dec.{eqb, ltb}
 use lib.ListN.{getD, set}
-use lib.Ieee.{Float, nan, le}
 use Rattle.limits.specs.Limits.{branchLimit}
-use Rattle.boundingbox.specs.Ends.{channel}
-use Rattle.cuttree.specs.Tree.{is}
+use Rattle.cuttree.specs.Tree.{is, leafMass}
+use Rattle.layout.specs.Slots.{field}
+use Rattle.walk.specs.Walks.{nodeOf}
 
--- a branch's row is left, right, mass and channel; field k of branch i
-abbrev pub field : List (List ℕ) → ℕ → ℕ → ℕ
-field n i k = getD (getD n i []) k 0
-
+-- number k of the branch i made v
 abbrev pub setField : List (List ℕ) → ℕ → ℕ → ℕ → List (List ℕ)
 setField n i k v = set n i (set (getD n i []) k v)
-
--- the side that the point goes to, and the other
-abbrev pub stepOf : List (List ℕ) → List Float → List Float → ℕ → List ℕ
-stepOf n x p i = cond (le (channel p (field n i 3)) (getD x i nan)) (field n i 0 ∷ field n i 1 ∷ []) (field n i 1 ∷ field n i 0 ∷ [])
-
--- a path's row is the id of a node and that of its sibling
-abbrev pub nodeOf : List ℕ → ℕ
-nodeOf s = getD s 0 0
 
 -- how often b is a node of these rows
 abbrev pub times : List (List ℕ) → ℕ → ℕ
@@ -59,10 +48,6 @@ relink n path k old new = cond (eqb k 0) n (redirect n (field path (k - 1) 0) ol
 -- A NEW BRANCH over `old`, with the leaf `new` on the left or on the right
 abbrev pub rowFor : Bool → ℕ → ℕ → ℕ → ℕ → List ℕ
 rowFor left new old m d = cond left new old ∷ cond left old new ∷ (m + 1) ∷ d ∷ []
-
--- "a leaf of k copies has Rust mass 1 for k = 1, otherwise k − 1"
-abbrev pub leafMass : ℕ → ℕ
-leafMass k = cond (eqb k 1) 1 (k - 1)
 
 -- the mass of the node of an id
 abbrev pub massAt : ℕ → List (List ℕ) → List ℕ → ℕ → ℕ

@@ -1,50 +1,21 @@
--- A tree in the rows, cuts and copies of a node store, and the walk of a point in its path: what the functions are told and what they give.
--- Definitions.
+-- A tree in the rows, cuts and copies of a node store: what the functions are told and what they give. Definitions.
 use mathlib.Core.Path.{_≡_}
 use mathlib.Core.Bool.{Bool}
 use mathlib.Core.Option.{Option, some}
-use mathlib.Core.List.{List, []}
+use mathlib.Core.List.{List}
 use Prim.Native.Nat.{ℕ, _+_, _≤_, _<_, _-_}
-use lib.ListN.{length, getD, take}
-use lib.Ieee.{Float, nan}
+use lib.Ieee.{Float}
 use Rattle.limits.specs.Limits.{width, capacityLimit, branchLimit, pointLimit, totalLimit}
 use Rattle.boundingbox.specs.Sides.{nought}
 use Rattle.cut.specs.declared.Cut.{Cut}
 use Rattle.cuttree.specs.Setting.{Cut as CutOf, below}
-use Rattle.cuttree.specs.Tree.{Tree, is, id, ending, height, walk, leaves, total, sum, All}
+use Rattle.cuttree.specs.Tree.{Tree, is, ending, height, walk, total, sum, All}
 use Rattle.wholetree.specs.Reading.{Reading}
 use Rattle.wholetree.specs.Whole.{whole, tab}
 use Rattle.layout.specs.Slots.{uses, rowOf, cutOf, countAt}
 use Rattle.layout.specs.Layout.{noRow, slotIn, countIn}
-use Rattle.layout.specs.Stands.{Laid, InRange, trail}
-
--- THE WALK: the rows and cuts from the root are those of t, and the point is p's
-pub record Walks (d c : ℕ) (nodes : List (List ℕ)) (cuts point : List Float) (root : ℕ) (t : Tree (whole d)) (p : Reading) : Type 0 where
-  pub rows : Laid d c (rowOf d c) (λ (j : ℕ). getD nodes j []) t
-  pub values : Laid d c (cutOf d c) (λ (j : ℕ). getD cuts j nan) t
-  pub in-range : InRange d c t
-  pub few : leaves (whole d) t ≤ c
-  pub root-is : root ≡ id (whole d) c t
-  pub point-is : point ≡ p .row
-
-pub record SomeWalks (c : ℕ) (nodes : List (List ℕ)) (cuts point : List Float) (root : ℕ) : Type 0 where
-  pub channels : ℕ
-  pub tree : Tree (whole channels)
-  pub reading : Reading
-  pub walks : Walks channels c nodes cuts point root tree reading
-
--- the first n rows of the path are p's walk
-pub record Walked (d c : ℕ) (path : List (List ℕ)) (n : ℕ) (t : Tree (whole d)) (p : Reading) : Type 0 where
-  pub long : length path ≡ capacityLimit
-  pub most : n ≤ capacityLimit
-  pub count : n ≡ walk (whole d) t p
-  pub is-trail : take n path ≡ trail d c t p
-
-pub record SomeWalked (c : ℕ) (path : List (List ℕ)) (n : ℕ) : Type 0 where
-  pub channels : ℕ
-  pub tree : Tree (whole channels)
-  pub reading : Reading
-  pub walked : Walked channels c path n tree reading
+use Rattle.layout.specs.Stands.{InRange}
+use Rattle.walk.specs.Walks.{Walked}
 
 -- THE ARRAYS of a tree or of none: every slot of a branch's row, of a branch's cut and of a leaf's copies
 pub record Arrays (d c : ℕ) (nodes : List (List ℕ)) (cuts : List Float) (copies : List ℕ) (o : Option (Tree (whole d))) : Type 0 where

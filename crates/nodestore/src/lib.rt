@@ -1,109 +1,33 @@
-// The rows, cuts and copies of a cut tree's nodes: the walk of a point, and the edits of a tree written into the arrays that hold it. After nodestore.rs,
-// its boxes left to another crate. A path is lent, as the Rust's vector of node and sibling is.
-use limits::CHANNELS;
+// The rows, cuts and copies of a cut tree's nodes: the edits of a tree, written into the arrays that hold it. After nodestore.rs, its walk and its boxes left
+// to other crates.
+use casts::wide16;
 use limits::Copies;
 use limits::Cuts;
 use limits::Nodes;
 use limits::Path;
-use limits::Row;
 ghost use mathlib.Core.Path.{_≡_};
 ghost use mathlib.Core.Bool.{Bool, cond};
 ghost use mathlib.Core.Option.{none, some};
-ghost use mathlib.Core.List.{List, [], _∷_};
-ghost use Prim.Native.Nat.{ℕ, _+_, _-_, _*_, _<_, _≤_};
+ghost use mathlib.Core.List.{List};
+ghost use Prim.Native.Nat.{ℕ, _+_, _-_, _<_, _≤_};
 ghost use lib.Dec.{eqb};
-ghost use lib.ListN.{length, getD, set, take, drop};
+ghost use lib.ListN.{length, getD, set, take};
 ghost use lib.Ieee.{Float};
 ghost use Rattle.limits.specs.Limits.{width, capacityLimit, branchLimit, pointLimit, totalLimit};
 ghost use Rattle.boundingbox.specs.Sides.{nought};
-ghost use Rattle.cuttree.specs.Tree.{Tree, leaf, id, ending, addCopy, forget, freed};
+ghost use Rattle.cuttree.specs.Tree.{Tree, leaf, id, leafMass, addCopy, forget, freed};
 ghost use Rattle.cuttree.specs.Setting.{Cut as CutOf};
 ghost use Rattle.cuttree.specs.Walk.{graft};
-ghost use Rattle.wholetree.specs.Reading.{Reading, sameRow};
+ghost use Rattle.wholetree.specs.Reading.{Reading};
 ghost use Rattle.wholetree.specs.Whole.{whole};
 ghost use Rattle.layout.specs.Layout.{noRow, rootOf};
-ghost use Rattle.nodestore.specs.Rows.{field, stepOf, massOver, weigh, heavier, lighter, Climb, redirect, relink, rowFor, leafMass, massAt};
-ghost use Rattle.nodestore.specs.Stored.{Walks, SomeWalks, Walked, SomeWalked, Arrays, Reached, SomeReached, Graft, SomeGraft};
+ghost use Rattle.layout.specs.Slots.{field};
+ghost use Rattle.nodestore.specs.Rows.{massOver, weigh, heavier, lighter, Climb, redirect, relink, rowFor, massAt};
+ghost use Rattle.nodestore.specs.Stored.{Arrays, Reached, SomeReached, Graft, SomeGraft};
 ghost use Rattle.cut.specs.declared.Cut.{Cut};
 use cut::Cut;
-
-// The root stands in a path with this in place of a sibling.
-const NO_SIBLING: u16 = 65535;
-
-pub fn wide16(x: u16) -> usize
-    ensures { λ r. ⌜ r ≡ x ⌝ }
-{
-    x as usize
-}
-
-fn rows_of(s: &[[u16; 2]]) {}
-
-// A lent path has all its rows, which the array's type doesn't tell a proof.
-fn path_length(path: &Path)
-    ensures { λ _. ⌜ length (now (path .entry)) ≡ capacityLimit ⌝ }
-{
-    rows_of(path);
-}
-
-// Two u16s as one number.
-fn together(low: u16, high: u16) -> u32
-    ensures { λ r. ⌜ (r ≡ low + 65536 * high) × (low < 65536) × (high < 65536) ⌝ }
-{
-    (low as u32) + 65536 * (high as u32)
-}
-
-fn either(first: bool, x: u32, y: u32) -> u32
-    ensures { λ r. ⌜ r ≡ cond first x y ⌝ }
-{
-    if first { x } else { y }
-}
-
-// Two ids, in turn or turned round. The test picks one number of two, so that no branch has to be guessed.
-fn in_turn(straight: bool, a: u16, b: u16) -> [u16; 2]
-    ensures { λ r. ⌜ r ≡ cond straight (a ∷ b ∷ []) (b ∷ a ∷ []) ⌝ }
-{
-    let both = either(straight, together(a, b), together(b, a));
-    [(both % 65536) as u16, (both / 65536) as u16]
-}
-
-// The side that the point goes to, and the other.
-fn step_at(nodes: &Nodes, cuts: &Cuts, point: &Row, i: usize) -> [u16; 2]
-    requires { ⌜ i < branchLimit ⌝ }
-    requires { ⌜ field (now nodes) i 3 < width ⌝ }
-    ensures { λ r. ⌜ r ≡ stepOf (now (nodes .entry)) (now (cuts .entry)) (now (point .entry)) i ⌝ }
-{
-    let d = wide16(nodes[i][3]);
-    let left = nodes[i][0];
-    let right = nodes[i][1];
-    in_turn(point[d] <= cuts[i], left, right)
-}
-
-// The nodes from the root to the leaf, each with its sibling; the root has none. The rows after the walk's stay as they are.
-pub fn set_path(
-    nodes: &Nodes,
-    cuts: &Cuts,
-    point: &Row,
-    root: u16,
-    capacity: u16,
-    path: &mut Path,
-) -> usize
-    requires { ⌜ capacity ≤ capacityLimit ⌝ }
-    requires { ⌜ SomeWalks capacity (now nodes) (now cuts) (now point) root ⌝ }
-    ensures walked { λ r. ⌜ ((d : ℕ) (t : Tree (whole d)) (p : Reading) → Walks d capacity (now (nodes .entry)) (now (cuts .entry)) (now (point .entry)) root t p → Walked d capacity (now (path .exit)) r t p) ⌝ }
-    ensures rest { λ r. ⌜ drop r (now (path .exit)) ≡ drop r (now (path .entry)) ⌝ }
-{
-    path_length(path);
-    path[0] = [root, NO_SIBLING];
-    let mut n: usize = 1;
-    let mut node = root;
-    while node < capacity {
-        let s = step_at(nodes, cuts, point, wide16(node));
-        path[n] = s;
-        node = s[0];
-        n += 1;
-    }
-    n
-}
+use walk::node_at;
+use walk::sibling_at;
 
 fn heavier_by_one(nodes: &mut Nodes, i: usize)
     requires { ⌜ i < branchLimit ⌝ }
@@ -218,35 +142,6 @@ fn insert(
     manage_ancestors_add(nodes, path, k);
 }
 
-// Equal coordinates in every channel.
-pub fn same_point(a: &Row, b: &Row) -> bool
-    ensures { λ r. ⌜ r ≡ sameRow (now (a .entry)) (now (b .entry)) ⌝ }
-{
-    let mut i: usize = 0;
-    while i < CHANNELS {
-        if a[i] == b[i] {
-            i += 1;
-        } else {
-            return false;
-        }
-    }
-    true
-}
-
-fn node_at(path: &Path, i: usize) -> u16
-    requires { ⌜ i < capacityLimit ⌝ }
-    ensures { λ r. ⌜ r ≡ field (now (path .entry)) i 0 ⌝ }
-{
-    path[i][0]
-}
-
-fn sibling_at(path: &Path, i: usize) -> u16
-    requires { ⌜ i < capacityLimit ⌝ }
-    ensures { λ r. ⌜ r ≡ field (now (path .entry)) i 1 ⌝ }
-{
-    path[i][1]
-}
-
 fn put_copies(copies: &mut Copies, index: usize, n: u16)
     requires { ⌜ index < pointLimit ⌝ }
     ensures { λ _. ⌜ now (copies .exit) ≡ set (now (copies .entry)) index n ⌝ }
@@ -268,14 +163,6 @@ fn one_less(copies: &mut Copies, index: usize)
     ensures { λ _. ⌜ now (copies .exit) ≡ set (now (copies .entry)) index (getD (now (copies .entry)) index 0 - 1) ⌝ }
 {
     copies[index] = copies[index] - 1;
-}
-
-// The point index of the leaf that the path ends in.
-pub fn leaf_at(path: &Path, n: usize, capacity: u16) -> usize
-    requires { ⌜ SomeWalked capacity (now path) n ⌝ }
-    ensures { λ r. ⌜ ((d : ℕ) (t : Tree (whole d)) (p : Reading) → Walked d capacity (now (path .entry)) n t p → r ≡ ending (whole d) t p .index) ⌝ }
-{
-    wide16(node_at(path, n - 1)) - wide16(capacity)
 }
 
 // One copy more of the leaf that the path ends in.

@@ -2,7 +2,7 @@
 use mathlib.Core.Path.{_≡_, refl, sym, ap, _∙_, subst}
 use mathlib.Core.List.{List}
 use mathlib.Core.Logic.{_⊎_, inl, inr}
-use mathlib.Core.Bool.{Bool, true, false, _&&_, cond}
+use mathlib.Core.Bool.{Bool, true, false, _&&_, cond, and-true}
 use Prim.Native.Nat.{ℕ, _+_, _≤_, _<_}
 use native.Mathlib.Nat.{eq-or-lt-of-le, lt-irrefl}
 use native.Mathlib.Numerals.{add-one}
@@ -14,7 +14,6 @@ use lib.Ieee.{Float, nan, binary32, fits}
 use lib.Ieee.Bits.{is-true}
 use Rattle.limits.specs.Limits.{width}
 use Rattle.readings.specs.Coordinate.{isCoordinate}
-use Rattle.readings.proofs.Tests.{and-true}
 use Rattle.boundingbox.specs.Ends.{channel}
 use Rattle.boundingbox.specs.Sides.{nought}
 use Rattle.wholetree.specs.Reading.{isCoordinate32, padded}

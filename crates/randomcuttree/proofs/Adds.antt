@@ -24,7 +24,8 @@ use Rattle.wholetree.specs.Whole.{whole, tab}
 use Rattle.wholetree.proofs.Laws.{whole-laws}
 use Rattle.layout.specs.Slots.{rowOf, cutOf, lowOf, highOf}
 use Rattle.layout.specs.Layout.{noRow, slotIn, countIn, boxIn}
-use Rattle.nodestore.specs.Stored.{Walks, SomeWalks, Walked, SomeWalked, Arrays, Reached, SomeReached}
+use Rattle.walk.specs.Walks.{Walks, SomeWalks, Walked, SomeWalked}
+use Rattle.nodestore.specs.Stored.{Arrays, Reached, SomeReached}
 use Rattle.nodestore.proofs.Ends.{index-low}
 use Rattle.boxstore.proofs.Copies.{copy-boxes}
 use Rattle.randomcuttree.specs.declared.RCFTree.{RCFTree}

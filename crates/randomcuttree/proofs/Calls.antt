@@ -18,7 +18,7 @@ use Rattle.wholetree.specs.Reading.{Reading, sameRow}
 use Rattle.wholetree.specs.Whole.{whole}
 use Rattle.layout.specs.Layout.{Table, tableOf, mark}
 use Rattle.layout.proofs.Tabs.{entry-of}
-use Rattle.nodestore.specs.Stored.{Walks, Walked}
+use Rattle.walk.specs.Walks.{Walks, Walked}
 use Rattle.randomcuttree.specs.declared.RCFTree.{RCFTree}
 use Rattle.randomcuttree.specs.State.{Lent, State, Reachable, headerOf}
 use Rattle.randomcuttree.specs.Answers.{Called}

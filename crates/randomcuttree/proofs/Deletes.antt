@@ -15,7 +15,7 @@ use Rattle.cuttree.proofs.Tests.{cond-true, cond-false}
 use Rattle.wholetree.specs.Reading.{Reading, sameRow}
 use Rattle.wholetree.specs.Whole.{whole}
 use Rattle.layout.proofs.Ranges.{range-ending}
-use Rattle.nodestore.specs.Stored.{Walks, SomeWalks, Walked, SomeWalked}
+use Rattle.walk.specs.Walks.{Walks, SomeWalks, Walked, SomeWalked}
 use Rattle.randomcuttree.specs.declared.RCFTree.{RCFTree}
 use Rattle.randomcuttree.specs.declared.DeleteAnswer.{DeleteAnswer}
 use Rattle.randomcuttree.specs.declared.DeleteAnswer.the-variants.{Deleted, NotDeleted}

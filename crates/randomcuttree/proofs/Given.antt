@@ -25,7 +25,8 @@ use Rattle.layout.specs.Layout.{noRow, rootOf, slotIn, countIn, boxIn, pointRow
 use Rattle.layout.specs.Stands.{Laid, Once, InRange}
 use Rattle.layout.proofs.Tabs.{entry-of}
 use Rattle.layout.proofs.Slots.{tab-laid, tab-boxes}
-use Rattle.nodestore.specs.Stored.{Stored, Walks}
+use Rattle.walk.specs.Walks.{Walks}
+use Rattle.nodestore.specs.Stored.{Stored}
 use Rattle.boxstore.specs.Boxed.{Linked, Boxed}
 use Rattle.randomcuttree.specs.declared.RCFTree.{RCFTree}
 use Rattle.randomcuttree.specs.State.{InRow, Reachable, Lent, State}

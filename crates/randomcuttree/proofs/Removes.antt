@@ -32,7 +32,8 @@ use Rattle.layout.proofs.Slots.{slot-none, tab-laid}
 use Rattle.layout.proofs.Ranges.{range-forget}
 use Rattle.nodestore.specs.Stored.{Arrays, Reached, SomeReached}
 use Rattle.nodestore.proofs.Facts.{root-replace}
-use Rattle.nodestore.proofs.Ends.{copies-are, copies-some, walk-is}
+use Rattle.walk.proofs.Ends.{walk-is}
+use Rattle.nodestore.proofs.Ends.{copies-are, copies-some}
 use Rattle.boxstore.specs.Written.{written}
 use Rattle.boxstore.specs.Edited.{Walked, lifted, Forgotten, SomeForgotten, RepairedAbove}
 use Rattle.boxstore.proofs.Copies.{less-boxes}

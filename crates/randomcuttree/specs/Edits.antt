@@ -18,7 +18,8 @@ use Rattle.wholetree.specs.Whole.{whole, tab}
 use Rattle.layout.specs.Slots.{rowOf, cutOf, lowOf, highOf}
 use Rattle.layout.specs.Layout.{noRow, rootOf, slotIn, countIn, boxIn}
 use Rattle.layout.specs.Stands.{Once}
-use Rattle.nodestore.specs.Stored.{Stored, Walked}
+use Rattle.walk.specs.Walks.{Walked}
+use Rattle.nodestore.specs.Stored.{Stored}
 use Rattle.boxstore.specs.Boxed.{Boxed}
 use Rattle.randomcuttree.specs.declared.RCFTree.{RCFTree}
 use Rattle.randomcuttree.specs.State.{Lent}

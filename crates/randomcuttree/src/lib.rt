@@ -484,7 +484,7 @@ impl RCFTree {
             return AddAnswer::Added(headed_by(self, root, 1, self.manager), index, 0);
         }
         let mut path = [[0u16; 2]; CAPACITY];
-        let n = nodestore::set_path(
+        let n = walk::set_path(
             nodes,
             cuts,
             &points[index],
@@ -492,8 +492,8 @@ impl RCFTree {
             self.capacity,
             &mut path,
         );
-        let leaf = nodestore::leaf_at(&path, n, self.capacity);
-        if nodestore::same_point(&points[leaf], &points[index]) {
+        let leaf = walk::leaf_at(&path, n, self.capacity);
+        if walk::same_point(&points[leaf], &points[index]) {
             nodestore::add_copy(nodes, copies, &path, n, leaf);
             return AddAnswer::Added(
                 headed_by(self, self.root, self.total + 1, self.manager),
@@ -553,7 +553,7 @@ impl RCFTree {
             return DeleteAnswer::NotDeleted(12);
         }
         let mut path = [[0u16; 2]; CAPACITY];
-        let n = nodestore::set_path(
+        let n = walk::set_path(
             nodes,
             cuts,
             &points[index],
@@ -561,8 +561,8 @@ impl RCFTree {
             self.capacity,
             &mut path,
         );
-        let leaf = nodestore::leaf_at(&path, n, self.capacity);
-        if !nodestore::same_point(&points[leaf], &points[index]) {
+        let leaf = walk::leaf_at(&path, n, self.capacity);
+        if !walk::same_point(&points[leaf], &points[index]) {
             return DeleteAnswer::NotDeleted(13);
         }
         let tree = remove_copy(

@@ -4,7 +4,7 @@ use mathlib.Core.Logic.{_⊎_, inl, inr}
 use Prim.Native.Nat.{ℕ, zero, suc, _+_, _-_, _*_, _/_, _%_, _^_, _≤_, _<_}
 use native.Mathlib.Nat.{lt-irrefl, le-trans, le-of-eq, le-add-right, le-of-lt, lt-of-lt-of-le, mul-one, mul-pos, mul-le-mul-right, eq-or-lt-of-le, le-of-suc-le-suc}
 use native.Mathlib.Omega.{arith}
-use mathlib.Core.Bool.{Bool, true, false, not, _&&_, cond}
+use mathlib.Core.Bool.{Bool, true, false, not, _&&_, cond, and-true, and-false}
 use lib.IntN.{ℤ, pos, negsuc}
 use lib.Dec.{T, leb, ltb, eqb, leb→le, ltb→lt, nleb→lt, nltb→le, not-T, eqb→eq}
 use lib.Pow.{pow-add, pow-pos, pow-mono, shl-lt}
@@ -15,7 +15,7 @@ use lib.Ieee.Fits.{down-pos, eq→eqb}
 use lib.Ieee.Positive.{first-pos}
 use lib.Ieee.Digits.{odd-val}
 use Rattle.readings.specs.Coordinate.{isCoordinate}
-use Rattle.readings.proofs.Tests.{same-test, split, leb-yes, leb-no, leb-iff, leb-scale, and-false, tz-more, and-true}
+use Rattle.readings.proofs.Tests.{same-test, split, leb-yes, leb-no, leb-iff, leb-scale, tz-more}
 
 abbrev notNeg : ℤ → Bool
 notNeg (pos k) = true

@@ -3,7 +3,7 @@ use mathlib.Core.Path.{_≡_, refl, sym, ap, _∙_, subst}
 use Prim.Native.Nat.{ℕ, zero, suc, _+_, _-_, _*_, _/_, _%_, _^_, _≤_, _<_}
 use native.Mathlib.Nat.{le-trans, le-of-eq, mul-one, one-mul, mul-assoc, mul-right-comm, mul-pos, mul-le-mul-right, mul-lt-mul-of-pos-right, lt-of-mul-lt-mul-right, eq-of-mul-eq-mul-right, zero-mul, mul-div-cancel, add-mul}
 use native.Mathlib.Omega.{arith}
-use mathlib.Core.Bool.{Bool, true, false, _&&_, _||_, cond, Bool·beq}
+use mathlib.Core.Bool.{Bool, true, false, _&&_, _||_, cond, Bool·beq, and-true}
 use lib.IntN.{ℤ, pos, negsuc}
 use lib.Dec.{T, leb, ltb, eqb, leb→le, ltb→lt, eqb→eq}
 use lib.Pow.{pow-add, pow-pos}
@@ -13,7 +13,7 @@ use lib.Ieee.Fits.{up-pos, down-pos, and-i, and-l, and-r, eq→eqb}
 use lib.Ieee.Bits.{ofBits-toBits}
 use lib.Ieee.Exact.{HasValue}
 use lib.Ieee.Scale.{finite}
-use Rattle.readings.proofs.Tests.{same-test, leb-no, ltb-iff, lt-or-eq, ltb-scale, cross-l, cross-r, eqb-iff, and-true, pow-le-back}
+use Rattle.readings.proofs.Tests.{same-test, leb-no, ltb-iff, lt-or-eq, ltb-scale, cross-l, cross-r, eqb-iff, pow-le-back}
 
 -- sizes are counted in units of 2 ^ -1074, the smallest f64, and keys from 2 ^ 2098, the size of no f64
 abbrev pub unit : ℕ

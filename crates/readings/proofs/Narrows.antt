@@ -33,15 +33,11 @@ units-neg f q k = go (ltb (q * 2 ^ k) (2 ^ (low f + suc (emax f))))
 round-neg : (f : Format) (a c : ℕ) → round f true a c ≡ neg (round f false a c)
 round-neg f a c = round-is f true a c ∙ units-neg f _ _ ∙ sym (ap neg (round-is f false a c))
 
-not-not : (b : Bool) → not (not b) ≡ b
-not-not true = refl
-not-not false = refl
-
 neg-neg : (x : Float) → neg (neg x) ≡ x
 unfolding neg
 neg-neg nan = refl
-neg-neg (inf s) = ap inf (not-not s)
-neg-neg (fin s m e) = ap (λ (b : Bool). fin b m e) (not-not s)
+neg-neg (inf s) = ap inf (Bool·not-not s)
+neg-neg (fin s m e) = ap (λ (b : Bool). fin b m e) (Bool·not-not s)
 
 -- narrowing keeps the sign
 pub narrowed-neg : (x : Float) → narrowed (neg x) ≡ neg (narrowed x)

@@ -1,10 +1,11 @@
 -- Which results are numbers: what is rounded never is a NaN, nor is a difference of two values in order, nor a value that a comparison places. Assumes nothing.
-use mathlib.Core.Path.{_≡_, refl, sym, ap, _∙_, subst}
+use mathlib.Core.Path.{_≡_, refl, sym, ap, _∙_}
 use Prim.Native.Nat.{ℕ, zero, suc, _+_, _-_, _*_, _^_}
 use mathlib.Core.Bool.{Bool, true, false, not, _&&_, cond, Bool·beq, false≢true}
 use lib.Dec.{T, ltb}
 use lib.Ieee.{Float, nan, inf, fin, Format, binary32, binary64, prec, low, emax, up, down, odd, units, round, sum, add, sub, neg, lt, eq, ne, fits, isNan}
 use lib.Ieee.Fits.{round-is, fits-widens, and-i, sub-fits}
+use Rattle.readings.proofs.Tests.{no}
 
 odd-number : (d : ℕ) (s : Bool) (q k l : ℕ) → isNan (odd d s q k l) ≡ false
 unfolding odd isNan
@@ -50,7 +51,7 @@ sub-number f (fin s m e) (fin t n d) h = sum-number f s (m * up e * down d) (not
 
 -- what `x as f64` asks of an f32
 wide-cast : (x : Float) → T (fits binary32 x) → isNan x ≡ false → T (fits binary64 x && not (isNan x))
-wide-cast x f n = and-i (fits binary64 x) (not (isNan x)) (fits-widens x f) (subst (λ (b : Bool). T (not b)) (sym n) tt)
+wide-cast x f n = and-i (fits binary64 x) (not (isNan x)) (fits-widens x f) (no n)
 
 -- so the difference of two f32s in order can be cast
 pub sub-cast : (x y : Float) → lt y x ≡ true → T (fits binary64 (sub binary32 x y) && not (isNan (sub binary32 x y)))

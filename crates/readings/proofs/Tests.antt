@@ -4,7 +4,7 @@ use mathlib.Core.Logic.{_⊎_, inl, inr}
 use Prim.Native.Nat.{ℕ, zero, suc, _*_, _/_, _%_, _^_, _≤_, _<_, compare, Ordering, Ordering·lt, Ordering·eq, Ordering·gt}
 use native.Mathlib.Nat.{lt-irrefl, le-of-eq, le-of-lt, lt-of-not-le, lt-of-lt-of-le, mul-one, mul-comm, mul-assoc, mul-right-comm, mul-lt-mul-of-pos-right, lt-of-mul-lt-mul-right, le-of-mul-le-mul-right, mul-le-mul-right, le-of-suc-le-suc, not-suc-le-zero, div-lt-iff-lt-mul, zero-lt-suc, pow-suc}
 use native.Mathlib.Omega.{arith}
-use mathlib.Core.Bool.{Bool, true, false, not, _&&_, _||_}
+use mathlib.Core.Bool.{Bool, true, false, not, _||_}
 use lib.Dec.{T, leb, ltb, eqb, leb→le, le→leb, nleb→lt, eqb→eq, eqb-refl, isLe, isEq, ltb→lt, lt→ltb}
 use lib.Arith.{lt-of-le-ne}
 use lib.Pow.{pow-lt, pow-mono}
@@ -22,15 +22,6 @@ no h = subst (λ (a : Bool). T (not a)) (sym h) tt
 pub split : (b : Bool) → T b ⊎ T (not b)
 split true = inl tt
 split false = inr tt
-
--- `&&` with a known right side
-pub and-false : (a : Bool) → (a && false) ≡ false
-and-false true = refl
-and-false false = refl
-
-pub and-true : (a : Bool) → (a && true) ≡ a
-and-true true = refl
-and-true false = refl
 
 -- ---- two tests answer alike where each passes if the other does
 pub same-test : (a b : Bool) → (T a → T b) → (T b → T a) → a ≡ b

@@ -4,7 +4,7 @@ use mathlib.Core.Logic.{_⊎_, inl, inr}
 use Prim.Native.Nat.{ℕ, suc, _+_, _-_, _*_, _^_, _≤_, _<_}
 use native.Mathlib.Nat.{lt-of-lt-of-le, mul-comm, mul-assoc, mul-right-comm, mul-pos, eq-of-mul-eq-mul-right, zero-mul, add-mul, mul-sub, mul-mul-mul-comm, eq-zero-or-pos, add-zero}
 use native.Mathlib.Omega.{arith}
-use mathlib.Core.Bool.{Bool, true, false, not, _&&_, _||_, cond, Bool·beq, true≢false, false≢true}
+use mathlib.Core.Bool.{Bool, true, false, not, _&&_, _||_, cond, Bool·beq, true≢false, false≢true, and-true}
 use lib.IntN.{pos}
 use lib.Dec.{T, leb, ltb, eqb, lt→ltb}
 use lib.Pow.{pow-add, pow-pos, pow-mono, shl-lt}
@@ -12,7 +12,7 @@ use lib.Ieee.{Float, nan, inf, fin, Format, binary64, prec, low, up, down, round
 use lib.Ieee.Fits.{down-pos, round-is}
 use lib.Ieee.Exact.{HasValue, round-exact, odd-sign}
 use lib.Ieee.Scale.{round-same}
-use Rattle.readings.proofs.Tests.{and-true, lt-or-eq, leb-yes, leb-no, ltb-scale, leb-scales, cross-l, cross-r}
+use Rattle.readings.proofs.Tests.{lt-or-eq, leb-yes, leb-no, ltb-scale, leb-scales, cross-l, cross-r}
 
 -- ---- a sum's rounding sees only the sizes: X / W is a / U, and Y / W is b / U
 pub sub-mul : (a b c : ℕ) → (a - b) * c ≡ a * c - b * c

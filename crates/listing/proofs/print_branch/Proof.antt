@@ -8,7 +8,6 @@ use Rattle.listing.proofs.print_branch.Reads as reads
 use Rattle.listing.proofs.print_branch.Lts as lts
 use Rattle.lines.proofs.put_branch.Reads as put-branch-reads
 use Rattle.listing.proofs.number_of.Reads as number-of-reads
-use Rattle.listing.proofs.wide32.Reads as wide32-reads
 use Rattle.little.proofs.pattern_of.Reads as pattern-of-reads
 
 mul-pattern-of : tie.Need-mul-pattern-of
@@ -43,7 +42,7 @@ same-length c = search needs
 
 returns : tie.Need-returns
 returns c = let a = c .before .before .before .before .before .before .before .before .before .before .before .before .args in
-    row-written (a .nodes .now) (a .cuts .now) (a .id) (c .before .before .before .before .number-of4 .ensures) (c .before .before .before .before .before .before .before .before .wide32 .ensures ∙ c .before .before .before .before .before .before .before .before .before .pattern-of .ensures) (c .before .before .before .before .before .before .before .number-of .ensures) (c .before .before .before .before .before .before .number-of2 .ensures) (c .before .before .before .before .before .number-of3 .ensures) (c .before .before .put-branch .ensures .0)
+    row-written (a .nodes .now) (a .cuts .now) (a .id) (c .before .before .before .before .number-of4 .ensures) (c .before .before .before .before .before .before .before .before .wide32 .ensures .0 ∙ c .before .before .before .before .before .before .before .before .before .pattern-of .ensures) (c .before .before .before .before .before .before .before .number-of .ensures) (c .before .before .before .before .before .before .number-of2 .ensures) (c .before .before .before .before .before .number-of3 .ensures) (c .before .before .put-branch .ensures .0)
 
 pub print-branch-spec : {M : Type 1} → statement M
 print-branch-spec =

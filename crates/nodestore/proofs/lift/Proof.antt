@@ -1,5 +1,8 @@
 -- `lift` meets its contract: cell, pointer and masses are written one after the other. Assumes nothing.
 use lib.Ieee.{ofBits}
+use Rattle.layout.specs.Layout.{noRow}
+use Rattle.nodestore.specs.Rows.{lighter}
+use Rattle.nodestore.proofs.Facts.{edited}
 use borrow.Author.Needs.{needs}
 use Rattle.nodestore.proofs.lift.Statement.{statement}
 use Rattle.nodestore.proofs.lift.Tie as tie
@@ -16,12 +19,15 @@ relink-at-requires c κs = search needs
 manage-ancestors-delete-requires : tie.Need-manage-ancestors-delete-requires
 manage-ancestors-delete-requires c κs =
     let s = c .before .before .before .before .before .before .before in
-    (s .pre .1 .0, (s .pre .1 .1 .0, rw (c .before .relink-at .ensures, c .before .before .before .put-cell .ensures .0, c .before .before .before .before .wide16 .ensures) (s .pre .1 .1 .1 .1)))
+    (s .pre .1 .0, (s .pre .1 .1 .0, rw (c .before .relink-at .ensures, c .before .before .before .put-cell .ensures .0, c .before .before .before .before .wide16 .ensures .0) (s .pre .1 .1 .1 .1)))
 
 returns : tie.Need-returns
 unfolding ofBits
 returns c =
-    (cc (c .manage-ancestors-delete .ensures, c .before .before .relink-at .ensures, c .before .before .before .before .put-cell .ensures .0, c .before .before .before .before .before .wide16 .ensures), rw (← c .before .before .before .before .before .wide16 .ensures) (c .before .before .before .before .put-cell .ensures .1))
+    let s = c .before .before .before .before in
+    let a = s .before .before .before .before .args in
+    let e = s .before .wide16 .ensures .0 in
+    (edited lighter (a .nodes .now) (a .path .now) noRow (a .k) (a .b) (a .s) e (s .put-cell .ensures .0) (c .before .before .relink-at .ensures) (c .manage-ancestors-delete .ensures), rw (← e) (s .put-cell .ensures .1))
 
 pub lift-spec : {M : Type 1} → statement M
 lift-spec =

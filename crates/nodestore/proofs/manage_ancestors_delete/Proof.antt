@@ -23,7 +23,7 @@ here c =
     let s = c .before .before .before .before .before in
     let l = c .before .before .before .before .loop in
     let m = c .before .before .before .loop-test .taken in
-    turn lighter _ (s .args .path .now) _ (s .pre .0) (s .pre .1 .0) (s .pre .1 .1) (l .nodes) (l .k) (l .k - 1) (c .wide16 .result) (l .inv .1) (omega arith) (omega (arith, l .inv .0)) (c .wide16 .ensures)
+    turn lighter _ (s .args .path .now) _ (s .pre .0) (s .pre .1 .0) (s .pre .1 .1) (l .nodes) (l .k) (l .k - 1) (c .wide16 .result) (l .inv .1) (omega arith) (omega (arith, l .inv .0)) (c .wide16 .ensures .0)
 
 loop-holds : tie.Need-loop-holds Inv-loop μ-loop
 loop-holds c = (search needs, begin lighter _ (c .args .path .now) _ (c .pre .0) (c .pre .1 .0))

@@ -12,13 +12,13 @@ mul-result : tie.Need-mul-result
 mul-result c = search needs
 
 index-1-result : tie.Need-index-1-result
-index-1-result c = omega (arith, c .wide16 .ensures, c .before .before .pre .0 (c .before .if1 .taken))
+index-1-result c = omega (arith, c .wide16 .ensures .0, c .before .before .pre .0 (c .before .if1 .taken))
 
 index-2-result : tie.Need-index-2-result
 index-2-result c = search needs
 
 returns : tie.Need-returns
-returns c = rw (lt-ltb _ _ (c .before .before .if1 .taken), ← c .before .wide16 .ensures)
+returns c = rw (lt-ltb _ _ (c .before .before .if1 .taken), ← c .before .wide16 .ensures .0)
 
 wide16-requires-2 : tie.Need-wide16-requires-2
 wide16-requires-2 c κs = search needs
@@ -36,10 +36,10 @@ element-copy-out-leaf-mass : tie.Need-element-copy-out-leaf-mass
 element-copy-out-leaf-mass c = search needs
 
 leaf-mass-requires : tie.Need-leaf-mass-requires
-leaf-mass-requires c κs = rw (c .before .wide163 .ensures, c .before .before .wide162 .ensures) (c .before .before .before .before .pre .1 .1 (c .before .before .before .if1 .left))
+leaf-mass-requires c κs = rw (c .before .wide163 .ensures .0, c .before .before .wide162 .ensures .0) (c .before .before .before .before .pre .1 .1 (c .before .before .before .if1 .left))
 
 returns-2 : tie.Need-returns-2
-returns-2 c = rw (le-ltb _ _ (c .before .before .before .before .if1 .left), ← c .before .before .before .wide162 .ensures, ← c .before .before .wide163 .ensures) (c .leaf-mass .ensures)
+returns-2 c = rw (le-ltb _ _ (c .before .before .before .before .if1 .left), ← c .before .before .before .wide162 .ensures .0, ← c .before .before .wide163 .ensures .0) (c .leaf-mass .ensures)
 
 pub mass-of-spec : {M : Type 1} → statement M
 mass-of-spec =

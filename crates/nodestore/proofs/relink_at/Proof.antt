@@ -24,10 +24,10 @@ wide16-requires : tie.Need-wide16-requires
 wide16-requires c κs = search needs
 
 replace-node-requires : tie.Need-replace-node-requires
-replace-node-requires c κs = omega (arith, c .wide16 .ensures, c .before .before .before .before .pre .1 (omega arith))
+replace-node-requires c κs = omega (arith, c .wide16 .ensures .0, c .before .before .before .before .pre .1 (omega arith))
 
 returns-2 : tie.Need-returns-2
-returns-2 c = rw (ne-eqb _ _ (c .before .before .before .before .if1 .left), ← c .before .wide16 .ensures) (c .replace-node .ensures)
+returns-2 c = rw (ne-eqb _ _ (c .before .before .before .before .if1 .left), ← c .before .wide16 .ensures .0) (c .replace-node .ensures)
 
 pub relink-at-spec : {M : Type 1} → statement M
 relink-at-spec =

@@ -18,11 +18,10 @@ use Rattle.cuttree.proofs.Leaves.{walk-leaves}
 use Rattle.wholetree.specs.Reading.{Reading, coordinate}
 use Rattle.wholetree.specs.Whole.{whole}
 use Rattle.wholetree.proofs.Readings.{coordinate-is}
-use Rattle.layout.specs.Slots.{rowOf, cutOf}
+use Rattle.layout.specs.Slots.{rowOf, cutOf, field}
 use Rattle.layout.specs.Stands.{Laid, InRange, trailFrom, trail, noSibling}
 use Rattle.layout.proofs.Trails.{trail-step}
-use Rattle.nodestore.specs.Rows.{field, stepOf, nodeOf}
-use Rattle.nodestore.specs.Stored.{Walks, Walked}
+use Rattle.walk.specs.Walks.{stepOf, nodeOf, Walks, Walked}
 
 write-next : (path : List (List ℕ)) (n : ℕ) (v : List ℕ) (more all : List (List ℕ)) → n < length path → take n path ++ (v ∷ more) ≡ all → take (n + 1) (set path n v) ++ more ≡ all
 write-next path n v more all lt e = rw (add-one, take-suc-set path n v, append-snoc) e

@@ -5,8 +5,8 @@ use mathlib.Core.Path.{_≡_}
 use mathlib.Core.Bool.{Bool, true, false, cond}
 use mathlib.Core.List.{[], _∷_}
 use Prim.Native.Nat.{ℕ, _+_, _*_, _/_, _%_, _<_}
-use Rattle.nodestore.proofs.in_turn.Statement.{statement}
-use Rattle.nodestore.proofs.in_turn.Tie as tie
+use Rattle.walk.proofs.in_turn.Statement.{statement}
+use Rattle.walk.proofs.in_turn.Tie as tie
 
 halves : (a b x : ℕ) → x ≡ a + 65536 * b → a < 65536 → x % 65536 ∷ x / 65536 ∷ [] ≡ a ∷ b ∷ []
 halves a b x e h =

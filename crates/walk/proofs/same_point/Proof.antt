@@ -10,8 +10,8 @@ use Rattle.boundingbox.specs.Contained.{every}
 use Rattle.boundingbox.proofs.Every.{every-next, every-fails}
 use Rattle.wholetree.specs.Reading.{sameRow}
 use borrow.Author.Needs.{needs}
-use Rattle.nodestore.proofs.same_point.Statement.{statement}
-use Rattle.nodestore.proofs.same_point.Tie as tie
+use Rattle.walk.proofs.same_point.Statement.{statement}
+use Rattle.walk.proofs.same_point.Tie as tie
 
 abbrev Inv-loop : tie.InvT-loop
 Inv-loop a b i₀ i = (i ≤ width) × (every (λ (j : ℕ). eq (channel a j) (channel b j)) i ≡ true)

@@ -11,11 +11,11 @@ use Rattle.limits.specs.Limits.{capacityLimit}
 use Rattle.cuttree.specs.Tree.{Tree}
 use Rattle.wholetree.specs.Reading.{Reading}
 use Rattle.wholetree.specs.Whole.{whole}
-use Rattle.nodestore.specs.Stored.{Walks, SomeWalks}
-use Rattle.nodestore.proofs.Paths.{Reaching, Turn, start, turn, arrived, drop-next}
+use Rattle.walk.specs.Walks.{Walks, SomeWalks}
+use Rattle.walk.proofs.Paths.{Reaching, Turn, start, turn, arrived, drop-next}
 use borrow.Author.Needs.{needs}
-use Rattle.nodestore.proofs.set_path.Statement.{statement}
-use Rattle.nodestore.proofs.set_path.Tie as tie
+use Rattle.walk.proofs.set_path.Statement.{statement}
+use Rattle.walk.proofs.set_path.Tie as tie
 
 abbrev Inv-loop : tie.InvT-loop
 Inv-loop nodes cuts point root capacity path₀ n₀ node₀ path n node =
@@ -47,7 +47,7 @@ wide16-requires c κs = search needs
 step-at-requires : tie.Need-step-at-requires Inv-loop μ-loop
 step-at-requires c κs =
     let t = here (c .before) in
-    (omega (arith, c .wide16 .ensures, c .before .before .loop .inv .0, t .small), rw (c .wide16 .ensures) (t .chan))
+    (omega (arith, c .wide16 .ensures .0, c .before .before .loop .inv .0, t .small), rw (c .wide16 .ensures .0) (t .chan))
 
 mul-t17 : tie.Need-mul-t17 Inv-loop μ-loop
 mul-t17 c = let t = here (c .before .before) in omega (arith, t .room, c .before .before .before .loop .inv .0)
@@ -73,7 +73,7 @@ loop-again c =
       omega arith,
       drop-next (l .path) (l .n) _ (set (a .path .now) 0 (a .root ∷ noSibling ∷ [])) (w .2),
       w .3,
-      λ d t p g. rw (c .step-at .ensures, c .before .wide16 .ensures) (turn _ _ _ _ d p t _ _ _ (w .0) (g .point-is) (w .4 d t p g) (c .before .before .loop-test .taken) .next),
+      λ d t p g. rw (c .step-at .ensures, c .before .wide16 .ensures .0) (turn _ _ _ _ d p t _ _ _ (w .0) (g .point-is) (w .4 d t p g) (c .before .before .loop-test .taken) .next),
     )
 
 returns : tie.Need-returns Inv-loop μ-loop

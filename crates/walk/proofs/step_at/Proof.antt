@@ -1,7 +1,7 @@
 -- `step_at` meets its contract. Assumes nothing.
 use borrow.Author.Needs.{needs}
-use Rattle.nodestore.proofs.step_at.Statement.{statement}
-use Rattle.nodestore.proofs.step_at.Tie as tie
+use Rattle.walk.proofs.step_at.Statement.{statement}
+use Rattle.walk.proofs.step_at.Tie as tie
 
 mul-wide16 : tie.Need-mul-wide16
 mul-wide16 c = search needs
@@ -49,7 +49,7 @@ in-turn-requires : tie.Need-in-turn-requires
 in-turn-requires c κs = search needs
 
 returns : tie.Need-returns
-returns c = rw (← c .before .before .before .before .before .wide16 .ensures) (c .in-turn .ensures)
+returns c = rw (← c .before .before .before .before .before .wide16 .ensures .0) (c .in-turn .ensures)
 
 pub step-at-spec : {M : Type 1} → statement M
 step-at-spec =
