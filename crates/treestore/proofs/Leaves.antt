@@ -22,7 +22,7 @@ use Rattle.nodestore.specs.Stored.{Arrays}
 use Rattle.treestore.specs.declared.Edited.{Edited}
 use Rattle.treestore.specs.Arrays.{Lent, lent, managerOf, editedOf, Leaves}
 
-lent-is : (b : Lent) (n : List (List ℕ)) (x : List Float) (m : List ℕ) (f : List (List ℕ)) (l h : List (List Float)) → b .nodes ≡ n → b .cuts ≡ x → b .copies ≡ m → b .free ≡ f → b .lows ≡ l → b .highs ≡ h → b ≡ lent n x m f l h
+pub lent-is : (b : Lent) (n : List (List ℕ)) (x : List Float) (m : List ℕ) (f : List (List ℕ)) (l h : List (List Float)) → b .nodes ≡ n → b .cuts ≡ x → b .copies ≡ m → b .free ≡ f → b .lows ≡ l → b .highs ≡ h → b ≡ lent n x m f l h
 lent-is b n x m f l h N X M F L H = rw (← N, ← X, ← M, ← F, ← L, ← H) refl
 
 module _ (d c k : ℕ) where
