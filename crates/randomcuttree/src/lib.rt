@@ -310,7 +310,8 @@ impl RCFTree {
         if self.total == 0 {
             nodestore::add_root(copies, index);
             let root = index as u16 + self.capacity;
-            return AddAnswer::Added(headed_by(self, root, 1, self.manager), index, 0);
+            let tree = headed_by(self, root, 1, self.manager);
+            return AddAnswer::Added(tree, index, 0);
         }
         let mut path = [[0u16; 2]; CAPACITY];
         let found = treestore::find(
@@ -326,11 +327,8 @@ impl RCFTree {
         let leaf = found.leaf;
         if found.held {
             nodestore::add_copy(nodes, copies, &path, n, leaf);
-            return AddAnswer::Added(
-                headed_by(self, self.root, self.total + 1, self.manager),
-                leaf,
-                0,
-            );
+            let tree = headed_by(self, self.root, self.total + 1, self.manager);
+            return AddAnswer::Added(tree, leaf, 0);
         }
         if self.manager.is_empty() {
             return AddAnswer::NotAdded(10);
@@ -357,11 +355,8 @@ impl RCFTree {
             words,
             &points[index],
         );
-        AddAnswer::Added(
-            headed_by(self, edited.root, self.total + 1, edited.manager),
-            index,
-            n,
-        )
+        let tree = headed_by(self, edited.root, self.total + 1, edited.manager);
+        AddAnswer::Added(tree, index, n)
     }
 
     // One copy less of the reading written for an index; or a refusal, in document 01's order, and nothing written.
@@ -423,9 +418,7 @@ impl RCFTree {
             leaf,
             &points[index],
         );
-        DeleteAnswer::Deleted(
-            headed_by(self, edited.root, self.total - 1, edited.manager),
-            leaf,
-        )
+        let tree = headed_by(self, edited.root, self.total - 1, edited.manager);
+        DeleteAnswer::Deleted(tree, leaf)
     }
 }
