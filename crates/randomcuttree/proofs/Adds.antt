@@ -1,60 +1,66 @@
--- An add: the call at each of its returns, and what the functions on the way there are told. Assumes nothing.
+-- An add by its steps: each refusal, the first leaf, a copy more, and a new value. Assumes nothing.
 use mathlib.Core.Path.{_≡_, refl, sym, ap, _∙_, subst}
 use mathlib.Core.Bool.{Bool, true, false}
 use mathlib.Core.Option.{Option, none, some}
 use mathlib.Core.List.{List, []}
-use Prim.Native.Nat.{ℕ, _+_, _≤_, _<_, _-_}
+use Prim.Native.Nat.{ℕ, _+_, _-_, _≤_, _<_}
 use native.Mathlib.Omega.{arith}
 use lib.Dec.{eqb, leb}
 use lib.ListN.{length, getD}
 use lib.Ieee.{Float}
 use borrow.Author.Tests.{le-leb, lt-leb, eq-eqb, ne-eqb, lt-ltb, le-ltb, leb-false, eqb-false}
 use Rattle.limits.specs.Limits.{branchLimit, pointLimit, totalLimit}
-use Rattle.boundingbox.specs.Sides.{nought}
-use Rattle.intervalstoremanager.specs.declared.IntervalStoreManager.{IntervalStoreManager}
-use Rattle.intervalstoremanager.specs.Stack.{next, afterGet}
+use Rattle.intervalstoremanager.specs.Stack.{next}
 use Rattle.cuttree.specs.Tree.{Tree, leaf, branch, id, ending, found, walk, leaves, total, insert, addCopy}
 use Rattle.cuttree.specs.Setting.{below}
 use Rattle.cuttree.specs.Run.{World, add, call, refuse, withPoint, enter, withTree, totalOf, Answer, refused, added, indexAbove, neverWritten, full, fewWords}
 use Rattle.cuttree.proofs.Tests.{by-cond, cond-true, cond-false}
-use Rattle.cuttree.proofs.Copies.{total-copy}
+use Rattle.cuttree.proofs.Copies.{total-copy, total-insert}
 use Rattle.cuttree.proofs.Room.{full-is, next-free, index-absent, at-none}
-use Rattle.wholetree.specs.Reading.{Reading, sameRow}
+use Rattle.wholetree.specs.Reading.{Reading}
 use Rattle.wholetree.specs.Whole.{whole, tab}
 use Rattle.wholetree.proofs.Laws.{whole-laws}
-use Rattle.layout.specs.Slots.{rowOf, cutOf, lowOf, highOf}
-use Rattle.layout.specs.Layout.{noRow, slotIn, countIn, boxIn}
-use Rattle.walk.specs.Walks.{Walks, SomeWalks, Walked, SomeWalked}
+use Rattle.layout.specs.Slots.{lowOf, highOf}
+use Rattle.layout.specs.Layout.{boxIn}
 use Rattle.nodestore.specs.Stored.{Arrays, Reached, SomeReached}
-use Rattle.nodestore.proofs.Ends.{index-low}
 use Rattle.boxstore.proofs.Copies.{copy-boxes}
+use Rattle.treestore.specs.declared.Edited.{Edited}
+use Rattle.treestore.specs.declared.Found.{Found}
+use Rattle.treestore.specs.Arrays.{Lent, lent, arraysOf, Leaves}
+use Rattle.treestore.specs.Finds.{SomeSought, Finds, FoundIn}
+use Rattle.treestore.specs.Edits.{Walking}
+use Rattle.treestore.specs.Enters.{Entering, SomeEntering, Enters}
+use Rattle.treestore.proofs.Leaves as Left
+use Rattle.treestore.proofs.Removes.{reached, free-are, lows-are, highs-are}
 use Rattle.randomcuttree.specs.declared.RCFTree.{RCFTree}
 use Rattle.randomcuttree.specs.declared.AddAnswer.{AddAnswer}
 use Rattle.randomcuttree.specs.declared.AddAnswer.the-variants.{Added, NotAdded}
-use Rattle.randomcuttree.specs.State.{Lent, lent, State, headerOf, headed}
+use Rattle.randomcuttree.specs.State.{cachedBy, State, headerOf, headed}
 use Rattle.randomcuttree.specs.Answers.{Called, addSays}
-use Rattle.randomcuttree.specs.Edits.{Lies, Walking}
-use Rattle.randomcuttree.specs.Enters.{Entering, SomeEntering}
-use Rattle.randomcuttree.proofs.Given.{sound}
 use Rattle.randomcuttree.proofs.Reaches.{reachable-call}
-use Rattle.randomcuttree.proofs.Removes.{no-boxes, reached, lying}
-use Rattle.randomcuttree.proofs.Calls.{unchanged, changed, unwritten, is-written, no-tree, a-tree, walks-it, walking, found-is}
+use Rattle.randomcuttree.proofs.Parts as Parts
+use Rattle.randomcuttree.proofs.Given.{sound}
+use Rattle.randomcuttree.proofs.Calls as Calls
 
 -- a copy more leaves the root's id
 copy-root : (d c : ℕ) (p : Reading) (t : Tree (whole d)) → id (whole d) c (addCopy (whole d) p t) ≡ id (whole d) c t
 copy-root d c p (leaf i q n) = refl
 copy-root d c p (branch b x g l r) = by-cond (λ s. id (whole d) c s ≡ b) (below (whole d) x p) _ _ (λ _. refl) (λ _. refl)
 
-module _ (d c k : ℕ) (W : World (whole d)) (tree : RCFTree) (a : Lent) (points : List (List Float)) (marks : List ℕ) (H : State d c k W tree a points marks) (i : ℕ) where
+module _ {d c : ℕ} {s : Float} {W : World (whole d)} {tree : RCFTree} {a : Lent} {points : List (List Float)} {marks : List ℕ} (H : State d c s W tree a points marks) (i : ℕ) where
+  abbrev k : ℕ
+  k = cachedBy s c
+
   -- the call with these words has this answer and leaves these arrays
   abbrev Done : List ℕ → AddAnswer → Lent → Type 0
-  Done ws r b = Called d c k (addSays d) (call (whole d) c W (add i ws)) r b points marks
+  Done ws r b = Called d c s (addSays d) (call (whole d) c W (add i ws)) r b points marks
 
-  not-done : (ws : List ℕ) (s : Answer (whole d)) (r : AddAnswer) → call (whole d) c W (add i ws) ≡ (s, W) → r ≡ addSays d (headerOf d c k W) s → Done ws r a
-  not-done ws s r = unchanged d c k W tree a points marks H (addSays d) (call (whole d) c W (add i ws)) s r
+  not-done : (ws : List ℕ) (y : Answer (whole d)) (r : AddAnswer) → call (whole d) c W (add i ws) ≡ (y, W) → r ≡ addSays d (headerOf d c s W) y → Done ws r a
+  not-done ws = Calls.unchanged H (addSays d) (call (whole d) c W (add i ws))
 
-  done : (ws : List ℕ) (s : Answer (whole d)) (o : Option (Tree (whole d))) (v : List (ℕ × ℕ)) (r : RCFTree) (b : Lent) (x : AddAnswer) → call (whole d) c W (add i ws) ≡ (s, withTree (whole d) W o v) → x ≡ addSays d r s → Lies d c k o v r b → Done ws x b
-  done ws s o v r b x e f L = changed d c k W tree a points marks H (addSays d) (call (whole d) c W (add i ws)) s (withTree (whole d) W o v) r b x e f L refl (reachable-call d c k W (add i ws) (H .reachable))
+  done : (ws : List ℕ) (y : Answer (whole d)) (o : Option (Tree (whole d))) (v : List (ℕ × ℕ)) (e : Edited) (n : ℕ) (header : RCFTree) (b : Lent) (r : AddAnswer) → call (whole d) c W (add i ws) ≡ (y, withTree (whole d) W o v) → r ≡ addSays d header y
+      → header ≡ headed tree (e .root) n (e .manager) → n ≡ totalOf (whole d) o → Leaves d c k o v e b → Done ws r b
+  done ws y o v e n header b r f g h N L = Calls.changed H (addSays d) (call (whole d) c W (add i ws)) y (withTree (whole d) W o v) e n header b r f g h N L refl (reachable-call d c W (add i ws) (H .reachable))
 
   pub above : (ws : List ℕ) → pointLimit ≤ i → Done ws (NotAdded 5) a
   above ws m = not-done ws (refused indexAbove) (NotAdded 5) (cond-true _ _ _ (le-leb pointLimit i m)) refl
@@ -67,145 +73,123 @@ module _ (d c k : ℕ) (W : World (whole d)) (tree : RCFTree) (a : Lent) (points
     pointed ws o e = cond-false _ _ _ (lt-leb pointLimit i m) ∙ ap (λ (x : Option Reading). withPoint (whole d) W x (then ws)) e
 
     pub blank : (ws : List ℕ) → getD marks i 0 ≡ 0 → Done ws (NotAdded 9) a
-    blank ws e = not-done ws (refused neverWritten) (NotAdded 9) (pointed ws none (unwritten d c k W tree a points marks H i m e)) refl
+    blank ws e = not-done ws (refused neverWritten) (NotAdded 9) (pointed ws none (Calls.unwritten H i m e)) refl
 
     module _ (known : getD marks i 0 ≡ 0 → ⊥) where
       abbrev p : Reading
-      p = is-written d c k W tree a points marks H i m known .0
+      p = Calls.is-written H i m known .0
 
       P : W .table i ≡ some p
-      P = is-written d c k W tree a points marks H i m known .1
+      P = Calls.is-written H i m known .1
 
       pub at-limit : (ws : List ℕ) → tree .total ≡ totalLimit → Done ws (NotAdded 10) a
-      at-limit ws e = not-done ws (refused full) (NotAdded 10) (pointed ws (some p) P ∙ cond-true _ _ _ (eq-eqb (totalOf (whole d) (W .tree)) totalLimit (sym (H .total-is) ∙ e))) refl
+      at-limit ws e = not-done ws (refused full) (NotAdded 10) (pointed ws (some p) P ∙ cond-true _ _ _ (eq-eqb (totalOf (whole d) (W .tree)) totalLimit (sym (Parts.total-is H) ∙ e))) refl
 
       module _ (room : tree .total ≡ totalLimit → ⊥) where
         entered : (ws : List ℕ) (o : Option (Tree (whole d))) → W .tree ≡ o → call (whole d) c W (add i ws) ≡ enter (whole d) c W o i p ws
-        entered ws o e = pointed ws (some p) P ∙ cond-false _ _ _ (ne-eqb (totalOf (whole d) (W .tree)) totalLimit (λ f. room (H .total-is ∙ f))) ∙ ap (λ (x : Option (Tree (whole d))). enter (whole d) c W x i p ws) e
+        entered ws o e = pointed ws (some p) P ∙ cond-false _ _ _ (ne-eqb (totalOf (whole d) (W .tree)) totalLimit (λ f. room (Parts.total-is H ∙ f))) ∙ ap (λ (x : Option (Tree (whole d))). enter (whole d) c W x i p ws) e
 
         -- ---- the first leaf
-        pub first : (ws : List ℕ) → tree .total ≡ 0 → (r : RCFTree) (root : ℕ) (K : List ℕ) → r ≡ headed tree root 1 (tree .manager) → root ≡ i + tree .capacity
+        pub first : (ws : List ℕ) → tree .total ≡ 0 → (header : RCFTree) (root : ℕ) (K : List ℕ) → header ≡ headed tree root 1 (tree .manager) → root ≡ i + tree .capacity
             → ((d c : ℕ) (nodes : List (List ℕ)) (cuts : List Float) (p : Reading) → Arrays d c nodes cuts (a .copies) none → Arrays d c nodes cuts K (some (leaf i p 1)))
-            → Done ws (Added r i 0) (lent (a .nodes) (a .cuts) K (a .free) (a .lows) (a .highs))
-        first ws z r root K e f h =
-            let N : W .tree ≡ none = no-tree d c k W tree a points marks H z in
-            let A : Arrays d c (a .nodes) (a .cuts) K (some (leaf i p 1)) = h d c (a .nodes) (a .cuts) p (record {
-              rows = H .nodes-are ∙ ap (λ (o : Option (Tree (whole d))). tab branchLimit (slotIn d c k (rowOf d c) noRow o)) N;
-              values = H .cuts-are ∙ ap (λ (o : Option (Tree (whole d))). tab branchLimit (slotIn d c k (cutOf d c) nought o)) N;
-              counts = H .copies-are ∙ ap (λ (o : Option (Tree (whole d))). tab pointLimit (countIn d c k o)) N;
-            }) in
-            done ws (added i 0) (some (leaf i p 1)) (W .free) r _ (Added r i 0) (entered ws none N) refl (record {
-              dimensions-are = ap (λ (x : RCFTree). x .dimensions) e ∙ H .dimensions-are;
-              capacity-is = ap (λ (x : RCFTree). x .capacity) e ∙ H .capacity-is;
-              cached-is = ap (λ (x : RCFTree). x .cached) e ∙ H .cached-is;
-              root-is = ap (λ (x : RCFTree). x .root) e ∙ f ∙ ap (λ x. i + x) (H .capacity-is);
-              total-is = ap (λ (x : RCFTree). x .total) e;
-              manager-is = ap (λ (x : RCFTree). x .manager) e ∙ H .manager-is;
-              nodes-are = A .rows;
-              cuts-are = A .values;
-              copies-are = A .counts;
-              free-are = H .free-are;
-              lows-are = H .lows-are ∙ ap (λ (o : Option (Tree (whole d))). tab branchLimit (boxIn d c k (lowOf d c) o)) N ∙ sym (no-boxes d c k p (lowOf d c) (leaf i p 1) refl);
-              highs-are = H .highs-are ∙ ap (λ (o : Option (Tree (whole d))). tab branchLimit (boxIn d c k (highOf d c) o)) N ∙ sym (no-boxes d c k p (highOf d c) (leaf i p 1) refl);
-            })
+            → Done ws (Added header i 0) (lent (a .nodes) (a .cuts) K (a .free) (a .lows) (a .highs))
+        first ws z header root K e f h =
+            let N : W .tree ≡ none = Calls.no-tree H z in
+            let A : a ≡ arraysOf d c k none (W .free) = subst (λ o. a ≡ arraysOf d c k o (W .free)) N (H .arrays-are) in
+            let lows : a .lows ≡ tab branchLimit (boxIn d c k (lowOf d c) none) = ap (λ (x : Lent). x .lows) A in
+            let highs : a .highs ≡ tab branchLimit (boxIn d c k (highOf d c) none) = ap (λ (x : Lent). x .highs) A in
+            done ws (added i 0) (some (leaf i p 1)) (W .free) (record { root = root; manager = tree .manager }) 1 header _ (Added header i 0) (entered ws none N) refl e refl
+            (Left.leaves d c k (some (leaf i p 1)) (W .free) root (tree .manager) _ (f ∙ ap (λ x. i + x) (Parts.capacity-is H)) (ap (λ (x : RCFTree). x .manager) (H .header-is))
+            (h d c (a .nodes) (a .cuts) p (record { rows = ap (λ (x : Lent). x .nodes) A; values = ap (λ (x : Lent). x .cuts) A; counts = ap (λ (x : Lent). x .copies) A })) (ap (λ (x : Lent). x .free) A)
+            (lows ∙ sym (Left.no-boxes d c k p (lowOf d c) (leaf i p 1) refl)) (highs ∙ sym (Left.no-boxes d c k p (highOf d c) (leaf i p 1) refl)))
 
         -- ---- a tree that holds something
-        module _ (held : tree .total ≡ 0 → ⊥) where
+        module _ (some-held : tree .total ≡ 0 → ⊥) where
           abbrev t : Tree (whole d)
-          t = a-tree d c k W tree a points marks H held .0
+          t = Calls.a-tree H some-held .0
 
           T : W .tree ≡ some t
-          T = a-tree d c k W tree a points marks H held .1
+          T = Calls.a-tree H some-held .1
 
-          own-walks : Walks d (tree .capacity) (a .nodes) (a .cuts) (getD points i []) (tree .root) t p
-          own-walks = subst (λ x. Walks d x (a .nodes) (a .cuts) (getD points i []) (tree .root) t p) (sym (H .capacity-is)) (walks-it d c k W tree a points marks H t T i p P)
+          pub sought : SomeSought (tree .capacity) (tree .root) (a .nodes) (a .cuts) points i
+          sought = Calls.some-sought H T m P
 
-          pub some-walks : SomeWalks (tree .capacity) (a .nodes) (a .cuts) (getD points i []) (tree .root)
-          some-walks = record { channels = d; tree = t; reading = p; walks = own-walks }
+          module _ {before path : List (List ℕ)} {f : Found} (F : Finds (tree .capacity) (tree .root) (a .nodes) (a .cuts) points i before f path) where
+            found-in : FoundIn d c t p before f path
+            found-in = Calls.found-in H T m P F
 
-          module _ (path : List (List ℕ)) (n : ℕ) (w : (d : ℕ) (t : Tree (whole d)) (p : Reading) → Walks d (tree .capacity) (a .nodes) (a .cuts) (getD points i []) (tree .root) t p → Walked d (tree .capacity) path n t p) where
-            pub some-walked : SomeWalked (tree .capacity) path n
-            some-walked = record { channels = d; tree = t; reading = p; walked = w d t p own-walks }
+            walking : Walking d c k t (W .free) p (headerOf d c s W .root) (headerOf d c s W .manager) a points path (f .nodes) (f .leaf) (getD points i [])
+            walking = Calls.walking H T m P F
 
-            module _ (end : ℕ) (l : (d : ℕ) (t : Tree (whole d)) (p : Reading) → Walked d (tree .capacity) path n t p → end ≡ ending (whole d) t p .index) where
-              end-is : end ≡ ending (whole d) t p .index
-              end-is = l d t p (w d t p own-walks)
+            total-of : tree .total ≡ total (whole d) t
+            total-of = Parts.total-is H ∙ ap (totalOf (whole d)) T
 
-              walk-in : Walking d c k t (W .free) p tree a points path n end (getD points i [])
-              walk-in = walking d c k W tree a points marks H t T i p P path n end (subst (λ x. Walked d x path n t p) (H .capacity-is) (w d t p own-walks)) end-is
+            light : total (whole d) t ≤ totalLimit - 1
+            light = omega (arith, walking .stored .light, total-of, room)
 
-              reach : Reached d c (a .nodes) (a .cuts) (a .copies) path n end t p
-              reach = reached d c k t (W .free) p tree a points path n end (getD points i []) walk-in
+            pub total-low : tree .total ≤ totalLimit - 1
+            total-low = omega (arith, light, total-of)
 
-              pub end-low : end < pointLimit
-              end-low = index-low reach
+            -- ---- a copy more
+            pub some-copied : SomeReached (a .nodes) (a .copies) path (f .nodes) (f .leaf) (totalLimit - 1)
+            some-copied = record { channels = d; capacity = c; cuts = a .cuts; tree = t; reading = p; reached = reached walking; room = light }
 
-              light : total (whole d) t ≤ totalLimit - 1
-              light = omega (arith, walk-in .stored .light, walk-in .lies .total-is, room)
+            pub copied : (ws : List ℕ) → f .held ≡ true → (header : RCFTree) (N : List (List ℕ)) (K : List ℕ) → header ≡ headed tree (tree .root) (tree .total + 1) (tree .manager)
+                → ((d c : ℕ) (cuts : List Float) (t : Tree (whole d)) (p : Reading) → Reached d c (a .nodes) cuts (a .copies) path (f .nodes) (f .leaf) t p → Arrays d c N cuts K (some (addCopy (whole d) p t)))
+                → Done ws (Added header (f .leaf) 0) (lent N (a .cuts) K (a .free) (a .lows) (a .highs))
+            copied ws g header N K e h =
+                let boxes = copy-boxes d c k t p (walking .once) in
+                done ws (added (ending (whole d) t p .index) 0) (some (addCopy (whole d) p t)) (W .free) (record { root = tree .root; manager = tree .manager }) (tree .total + 1) header _ (Added header (f .leaf) 0)
+                (entered ws (some t) T ∙ cond-true _ _ _ (sym (found-in .held-is) ∙ g)) (ap (λ j. Added header j 0) (found-in .leaf-is)) e (omega (arith, total-of, total-copy (whole d) p t))
+                (Left.leaves d c k (some (addCopy (whole d) p t)) (W .free) (tree .root) (tree .manager) _
+                (ap (λ (x : RCFTree). x .root) (H .header-is) ∙ walking .root-is ∙ sym (copy-root d c p t)) (ap (λ (x : RCFTree). x .manager) (H .header-is)) (h d c (a .cuts) t p (reached walking)) (free-are walking)
+                (lows-are walking ∙ sym (boxes .0)) (highs-are walking ∙ sym (boxes .1)))
 
-              pub total-low : tree .total ≤ totalLimit - 1
-              total-low = omega (arith, light, walk-in .lies .total-is)
+            -- ---- another value's leaf
+            module _ (other : f .held ≡ false) where
+              absent : found (whole d) t p ≡ false
+              absent = sym (found-in .held-is) ∙ other
 
-              -- the test of the rows tells whether p is held
-              test-is : (b : Bool) (v : Bool) → b ≡ sameRow (getD points end []) (getD points i []) → b ≡ v → found (whole d) t p ≡ v
-              test-is b v e f = sym (found-is d c k W tree a points marks H t T i p P end end-is) ∙ sym e ∙ f
+              full-as : (e v : Bool) → e ≡ eqb (tree .manager .«last_in_use») 0 → e ≡ v → leb c (leaves (whole d) t) ≡ v
+              full-as e v g h = full-is (whole d) c (whole-laws d) (W .table) t (W .free) (sound (H .reachable) T) ∙ ap (λ (x : RCFTree). eqb (x .manager .«last_in_use») 0) (sym (H .header-is)) ∙ sym g ∙ h
 
-              -- ---- a copy more
-              pub some-copied : SomeReached (a .nodes) (a .copies) path n end (totalLimit - 1)
-              some-copied = record { channels = d; capacity = c; cuts = a .cuts; tree = t; reading = p; reached = reach; room = light }
+              pub no-number : (ws : List ℕ) (e : Bool) → e ≡ eqb (tree .manager .«last_in_use») 0 → e ≡ true → Done ws (NotAdded 10) a
+              no-number ws e g h = not-done ws (refused full) (NotAdded 10) (entered ws (some t) T ∙ cond-false _ _ _ absent ∙ cond-true _ _ _ (full-as e true g h)) refl
 
-              pub copied : (ws : List ℕ) (b : Bool) → b ≡ sameRow (getD points end []) (getD points i []) → b ≡ true → (r : RCFTree) (N : List (List ℕ)) (K : List ℕ) → r ≡ headed tree (tree .root) (tree .total + 1) (tree .manager)
-                  → ((d c : ℕ) (cuts : List Float) (t : Tree (whole d)) (p : Reading) → Reached d c (a .nodes) cuts (a .copies) path n end t p → Arrays d c N cuts K (some (addCopy (whole d) p t))) → Done ws (Added r end 0) (lent N (a .cuts) K (a .free) (a .lows) (a .highs))
-              copied ws b f g r N K e h =
-                  let boxes = copy-boxes d c k t p (walk-in .once) in
-                  done ws (added (ending (whole d) t p .index) 0) (some (addCopy (whole d) p t)) (W .free) r _ (Added r end 0) (entered ws (some t) T ∙ cond-true _ _ _ (test-is b true f g)) (ap (λ j. Added r j 0) end-is)
-                  (lying d c k t (W .free) p tree a points path n end (getD points i []) walk-in (some (addCopy (whole d) p t)) (W .free) r (tree .root) (tree .total + 1) (tree .manager) _ e
-                  (walk-in .lies .root-is ∙ sym (copy-root d c p t)) (omega (arith, walk-in .lies .total-is, total-copy (whole d) p t)) (walk-in .lies .manager-is) (h d c (a .cuts) t p reach) (walk-in .lies .free-are)
-                  (walk-in .lies .lows-are ∙ sym (boxes .0)) (walk-in .lies .highs-are ∙ sym (boxes .1)))
+              module _ (e : Bool) (empty : e ≡ eqb (tree .manager .«last_in_use») 0) (some-left : e ≡ false) (ws : List ℕ) where
+                pub too-few : length ws < f .nodes → Done ws (NotAdded 11) a
+                too-few g = not-done ws (refused fewWords) (NotAdded 11) (entered ws (some t) T ∙ cond-false _ _ _ absent ∙ cond-false _ _ _ (full-as e false empty some-left)
+                    ∙ cond-true _ _ _ (lt-ltb (length ws) (walk (whole d) t p) (omega (arith, g, found-in .walked .count)))) refl
 
-              -- ---- another value's leaf
-              module _ (b : Bool) (same : b ≡ sameRow (getD points end []) (getD points i [])) (other : b ≡ false) where
-                absent : found (whole d) t p ≡ false
-                absent = test-is b false same other
+                module _ (enough : f .nodes ≤ length ws) where
+                  not-full : leaves (whole d) t < c
+                  not-full = leb-false c (leaves (whole d) t) (full-as e false empty some-left)
 
-                full-as : (e v : Bool) → e ≡ eqb (tree .manager .«last_in_use») 0 → e ≡ v → leb c (leaves (whole d) t) ≡ v
-                full-as e v f g = full-is (whole d) c (whole-laws d) (W .table) t (W .free) (sound d c k W (H .reachable) t T) ∙ ap (λ (x : IntervalStoreManager). eqb (x .«last_in_use») 0) (sym (H .manager-is)) ∙ sym f ∙ g
+                  entering : Entering d c k t (W .free) p (headerOf d c s W .root) (headerOf d c s W .manager) a points path (f .nodes) (f .leaf) i ws (getD points i [])
+                  entering =
+                      let S = sound (H .reachable) T in
+                      let fresh = next-free (whole d) c (whole-laws d) (W .table) t (W .free) S not-full in
+                      let left : length (W .free) ≡ 0 → ⊥ = λ z. eqb-false (tree .manager .«last_in_use») 0 (sym empty ∙ some-left) (ap (λ (x : RCFTree). x .manager .«last_in_use») (H .header-is) ∙ z) in
+                      record {
+                        walking = walking;
+                        absent = absent;
+                        room = light;
+                        some-free = omega (arith, left);
+                        number-below = omega (arith, fresh .0);
+                        number-fresh = fresh .1;
+                        index-fresh = at-none (whole d) (λ n. n) t i (index-absent (whole d) c (whole-laws d) (W .table) t (W .free) S i p P absent);
+                        index-small = m;
+                        enough = enough;
+                      }
 
-                pub no-number : (ws : List ℕ) (e : Bool) → e ≡ eqb (tree .manager .«last_in_use») 0 → e ≡ true → Done ws (NotAdded 10) a
-                no-number ws e f g = not-done ws (refused full) (NotAdded 10) (entered ws (some t) T ∙ cond-false _ _ _ absent ∙ cond-true _ _ _ (full-as e true f g)) refl
+                  pub some-entering : SomeEntering (tree .capacity) (tree .cached) (tree .root) (tree .manager) a points path (f .nodes) (f .leaf) i ws (getD points i [])
+                  some-entering = subst (λ (x : RCFTree). SomeEntering (x .capacity) (x .cached) (x .root) (x .manager) a points path (f .nodes) (f .leaf) i ws (getD points i [])) (sym (H .header-is))
+                      (record { channels = d; tree = t; free = W .free; reading = p; entering = entering })
 
-                module _ (e : Bool) (empty : e ≡ eqb (tree .manager .«last_in_use») 0) (some-left : e ≡ false) (ws : List ℕ) where
-                  pub too-few : length ws < n → Done ws (NotAdded 11) a
-                  too-few f = not-done ws (refused fewWords) (NotAdded 11) (entered ws (some t) T ∙ cond-false _ _ _ absent ∙ cond-false _ _ _ (full-as e false empty some-left)
-                      ∙ cond-true _ _ _ (lt-ltb (length ws) (walk (whole d) t p) (omega (arith, f, walk-in .walked .count)))) refl
-
-                  module _ (enough : n ≤ length ws) where
-                    not-full : leaves (whole d) t < c
-                    not-full = leb-false c (leaves (whole d) t) (full-as e false empty some-left)
-
-                    entering : Entering d c k t (W .free) p tree a points path n end i ws (getD points i [])
-                    entering =
-                        let S = sound d c k W (H .reachable) t T in
-                        let fresh = next-free (whole d) c (whole-laws d) (W .table) t (W .free) S not-full in
-                        let left : length (W .free) ≡ 0 → ⊥ = λ z. eqb-false (tree .manager .«last_in_use») 0 (sym empty ∙ some-left) (ap (λ (x : IntervalStoreManager). x .«last_in_use») (H .manager-is) ∙ z) in
-                        record {
-                          walking = walk-in;
-                          absent = absent;
-                          room = light;
-                          some-free = omega (arith, left);
-                          number-below = omega (arith, fresh .0);
-                          number-fresh = fresh .1;
-                          index-fresh = at-none (whole d) (λ n. n) t i (index-absent (whole d) c (whole-laws d) (W .table) t (W .free) S i p P absent);
-                          index-small = m;
-                          enough = enough;
-                        }
-
-                    pub some-entering : SomeEntering tree a points path n end i ws (getD points i [])
-                    some-entering = record { channels = d; capacity = c; cached = k; root = t; free = W .free; reading = p; entering = entering }
-
-                    pub inserted : (r : RCFTree) (b : Lent)
-                        → ((d c k : ℕ) (t : Tree (whole d)) (u : List (ℕ × ℕ)) (p : Reading) → Entering d c k t u p tree a points path n end i ws (getD points i []) → Lies d c k (some (insert (whole d) (next u) i p (λ m. getD ws m 0) t)) (afterGet u) r b)
-                        → Done ws (Added r i n) b
-                    inserted r b h = done ws (added i (walk (whole d) t p)) (some (insert (whole d) (next (W .free)) i p (λ m. getD ws m 0) t)) (afterGet (W .free)) r b (Added r i n)
-                        (entered ws (some t) T ∙ cond-false _ _ _ absent ∙ cond-false _ _ _ (full-as e false empty some-left) ∙ cond-false _ _ _ (le-ltb (length ws) (walk (whole d) t p) (omega (arith, enough, walk-in .walked .count))))
-                        (ap (λ x. Added r i x) (walk-in .walked .count)) (h d c k t (W .free) p entering)
+                  pub inserted : (r : Edited) (b : Lent) → Enters (tree .capacity) (tree .cached) (tree .root) (tree .manager) a points path (f .nodes) (f .leaf) i ws (getD points i []) r b
+                      → (header : RCFTree) → header ≡ headed tree (r .root) (tree .total + 1) (r .manager) → Done ws (Added header i (f .nodes)) b
+                  inserted r b h header g =
+                      let left = subst (λ (x : RCFTree). Enters (x .capacity) (x .cached) (x .root) (x .manager) a points path (f .nodes) (f .leaf) i ws (getD points i []) r b) (H .header-is) h d t (W .free) p entering in
+                      done ws (added i (walk (whole d) t p)) _ _ r (tree .total + 1) header b (Added header i (f .nodes))
+                      (entered ws (some t) T ∙ cond-false _ _ _ absent ∙ cond-false _ _ _ (full-as e false empty some-left) ∙ cond-false _ _ _ (le-ltb (length ws) (walk (whole d) t p) (omega (arith, enough, found-in .walked .count))))
+                      (ap (λ x. Added header i x) (found-in .walked .count)) g (omega (arith, total-of, total-insert (whole d) (next (W .free)) i p (λ m. getD ws m 0) t)) left

@@ -1,15 +1,14 @@
 -- A state whose tree is not empty: what the functions on rows and on boxes are told of it. Assumes nothing.
-use mathlib.Core.Path.{_≡_, refl, ap, _∙_, subst}
-use mathlib.Core.Bool.{Bool, true, false, cond}
+use mathlib.Core.Path.{_≡_, ap, _∙_, subst}
 use mathlib.Core.Option.{Option, some}
 use mathlib.Core.List.{List, []}
-use Prim.Native.Nat.{ℕ, _+_, _-_, _≤_}
+use Prim.Native.Nat.{ℕ, _+_, _≤_}
 use native.Mathlib.Omega.{arith}
-use lib.Dec.{ltb}
 use lib.ListN.{getD}
 use lib.Ieee.{Float, nan}
 use Rattle.limits.specs.Limits.{width, branchLimit, pointLimit}
 use Rattle.boundingbox.specs.Padding.{Padded}
+use Rattle.boundingbox.specs.Sides.{nought}
 use Rattle.cuttree.specs.Tree.{Tree, leaf, branch, is, id, sum, All, OfTree, leaves}
 use Rattle.cuttree.specs.Run.{World}
 use Rattle.cuttree.specs.Sound.{Sound}
@@ -19,7 +18,6 @@ use Rattle.cuttree.proofs.Room.{uses-in, number-below, index-below}
 use Rattle.wholetree.specs.Reading.{Reading}
 use Rattle.wholetree.specs.Whole.{whole, tab}
 use Rattle.wholetree.proofs.Laws.{whole-laws}
-use Rattle.boundingbox.specs.Sides.{nought}
 use Rattle.layout.specs.Slots.{slot, rowOf, cutOf, lowOf, highOf}
 use Rattle.layout.specs.Layout.{noRow, rootOf, slotIn, countIn, boxIn, pointRow, tableOf, Table}
 use Rattle.layout.specs.Stands.{Laid, Once, InRange}
@@ -27,11 +25,15 @@ use Rattle.layout.proofs.Tabs.{entry-of}
 use Rattle.layout.proofs.Slots.{tab-laid, tab-boxes}
 use Rattle.walk.specs.Walks.{Walks}
 use Rattle.nodestore.specs.Stored.{Stored}
-use Rattle.boxstore.specs.Boxed.{Linked, Boxed}
+use Rattle.boxstore.specs.Boxed.{Boxed}
+use Rattle.treestore.specs.Arrays.{Lent}
+use Rattle.treestore.proofs.Links.{linked}
 use Rattle.randomcuttree.specs.declared.RCFTree.{RCFTree}
-use Rattle.randomcuttree.specs.State.{InRow, Reachable, Lent, State}
+use Rattle.randomcuttree.specs.State.{cachedBy, InRow, Reachable, State}
+use Rattle.randomcuttree.proofs.Lookups as Lookups
+use Rattle.randomcuttree.proofs.Parts.{root-is, nodes-are, cuts-are, copies-are, lows-are, highs-are}
 
-module _ (d c k : ℕ) (W : World (whole d)) (R : Reachable d c k W) (t : Tree (whole d)) (T : W .tree ≡ some t) where
+module _ {d c : ℕ} {W : World (whole d)} (R : Reachable d c W) {t : Tree (whole d)} (T : W .tree ≡ some t) where
   pub sound : Sound (whole d) c (record { table = W .table; tree = some t; free = W .free })
   sound = subst (λ (o : Option (Tree (whole d))). Sound (whole d) c (record { table = W .table; tree = o; free = W .free })) T (R .sound)
 
@@ -59,82 +61,74 @@ module _ (d c k : ℕ) (W : World (whole d)) (R : Reachable d c k W) (t : Tree (
   apart = nodes-one (whole d) c (whole-laws d) (W .table) t (W .free) sound
 
   pub once : Once d c t
-  once j = omega (arith, sound .numbers j, at-most (ltb j (c - 1)))
-    where
-      at-most : (b : Bool) → cond {A = ℕ} b 1 0 ≤ 1
-      at-most true = omega arith
-      at-most false = omega arith
+  once = Lookups.once d c (W .table) t (W .free) sound
 
-  pub few : 2 ≤ c → leaves (whole d) t ≤ c
+  few : 2 ≤ c → leaves (whole d) t ≤ c
   few h = omega (arith, leaves-branches (whole d) t, sound .fits)
 
   pub narrow : All (whole d) (λ i q n. Padded (q .row) d width) t
   narrow = all-map (whole d) _ _ t (λ i q n e. R .narrow i q e) (sound .agree)
 
   -- the points of the table
-  module _ (points : List (List Float)) (marks : List ℕ) (E : record { points = points; written = marks } ≡ tableOf (W .table)) where
+  module _ {points : List (List Float)} {marks : List ℕ} (E : record { points = points; written = marks } ≡ tableOf (W .table)) where
     pub point-at : (i : ℕ) (q : Reading) → W .table i ≡ some q → getD points i [] ≡ q .row
     point-at i q e = entry-of pointLimit (λ (j : ℕ). pointRow (W .table j)) points (ap (λ (x : Table). x .points) E) [] i (R .sound .inside i q e) ∙ ap pointRow e
 
     pub leaves-stand : All (whole d) (λ i q n. getD points i [] ≡ q .row) t
     leaves-stand = all-map (whole d) _ _ t (λ i q n e. point-at i q e) (sound .agree)
 
-pub linked : (d c : ℕ) (nodes : List (List ℕ)) (t : Tree (whole d)) → Laid d c (rowOf d c) (λ (j : ℕ). getD nodes j []) t → Linked d c nodes t
-linked d c nodes (leaf i q n) h = tt
-linked d c nodes (branch b x g l r) h = (ap (λ (y : List ℕ). getD y 0 0) (h .0), ap (λ (y : List ℕ). getD y 1 0) (h .0), linked d c nodes l (h .1), linked d c nodes r (h .2))
+module _ {d c : ℕ} {s : Float} {W : World (whole d)} {tree : RCFTree} {a : Lent} {points : List (List Float)} {marks : List ℕ} (H : State d c s W tree a points marks) {t : Tree (whole d)} (T : W .tree ≡ some t) where
+  abbrev k : ℕ
+  k = cachedBy s c
 
-module _ (d c k : ℕ) (W : World (whole d)) (tree : RCFTree) (a : Lent) (points : List (List Float)) (marks : List ℕ) (H : State d c k W tree a points marks) (t : Tree (whole d)) (T : W .tree ≡ some t) where
-  abbrev R : Reachable d c k W
+  abbrev R : Reachable d c W
   R = H .reachable
 
   rows-are : a .nodes ≡ tab branchLimit (slot d c (rowOf d c) noRow t)
-  rows-are = H .nodes-are ∙ ap (λ (o : Option (Tree (whole d))). tab branchLimit (slotIn d c k (rowOf d c) noRow o)) T
+  rows-are = nodes-are H ∙ ap (λ (o : Option (Tree (whole d))). tab branchLimit (slotIn d c k (rowOf d c) noRow o)) T
 
   values-are : a .cuts ≡ tab branchLimit (slot d c (cutOf d c) nought t)
-  values-are = H .cuts-are ∙ ap (λ (o : Option (Tree (whole d))). tab branchLimit (slotIn d c k (cutOf d c) nought o)) T
+  values-are = cuts-are H ∙ ap (λ (o : Option (Tree (whole d))). tab branchLimit (slotIn d c k (cutOf d c) nought o)) T
 
-  pub lows-of : a .lows ≡ tab branchLimit (boxIn d c k (lowOf d c) (some t))
-  lows-of = H .lows-are ∙ ap (λ (o : Option (Tree (whole d))). tab branchLimit (boxIn d c k (lowOf d c) o)) T
+  lows-of : a .lows ≡ tab branchLimit (boxIn d c k (lowOf d c) (some t))
+  lows-of = lows-are H ∙ ap (λ (o : Option (Tree (whole d))). tab branchLimit (boxIn d c k (lowOf d c) o)) T
 
-  pub highs-of : a .highs ≡ tab branchLimit (boxIn d c k (highOf d c) (some t))
-  highs-of = H .highs-are ∙ ap (λ (o : Option (Tree (whole d))). tab branchLimit (boxIn d c k (highOf d c) o)) T
+  highs-of : a .highs ≡ tab branchLimit (boxIn d c k (highOf d c) (some t))
+  highs-of = highs-are H ∙ ap (λ (o : Option (Tree (whole d))). tab branchLimit (boxIn d c k (highOf d c) o)) T
 
   rows-laid : Laid d c (rowOf d c) (λ (j : ℕ). getD (a .nodes) j []) t
-  rows-laid = tab-laid d c (rowOf d c) noRow [] (a .nodes) t (H .limits .3) rows-are (once d c k W R t T) (in-range d c k W R t T)
+  rows-laid = tab-laid d c (rowOf d c) noRow [] (a .nodes) t (H .limits .3) rows-are (once R T) (in-range R T)
 
   values-laid : Laid d c (cutOf d c) (λ (j : ℕ). getD (a .cuts) j nan) t
-  values-laid = tab-laid d c (cutOf d c) nought nan (a .cuts) t (H .limits .3) values-are (once d c k W R t T) (in-range d c k W R t T)
+  values-laid = tab-laid d c (cutOf d c) nought nan (a .cuts) t (H .limits .3) values-are (once R T) (in-range R T)
 
   pub stored : Stored d c (a .nodes) (a .cuts) (a .copies) t
   stored = record {
     small = H .limits .3;
-    arrays = record { rows = rows-are; values = values-are; counts = H .copies-are ∙ ap (λ (o : Option (Tree (whole d))). tab pointLimit (countIn d c k o)) T };
-    apart = apart d c k W R t T;
-    in-range = in-range d c k W R t T;
-    filled = sound d c k W R t T .filled;
-    light = sound d c k W R t T .light;
+    arrays = record { rows = rows-are; values = values-are; counts = copies-are H ∙ ap (λ (o : Option (Tree (whole d))). tab pointLimit (countIn d c k o)) T };
+    apart = apart R T;
+    in-range = in-range R T;
+    filled = sound R T .filled;
+    light = sound R T .light;
   }
 
-  pub root-of : tree .root ≡ id (whole d) c t
-  root-of = H .root-is ∙ ap (rootOf d c k) T
-
-  pub walks : (p : Reading) → Walks d c (a .nodes) (a .cuts) (p .row) (tree .root) t p
-  walks p = record {
+  pub walks : (i : ℕ) (p : Reading) → W .table i ≡ some p → Walks d c (a .nodes) (a .cuts) (getD points i []) (tree .root) t p
+  walks i p P = record {
     rows = rows-laid;
     values = values-laid;
-    in-range = in-range d c k W R t T;
-    few = few d c k W R t T (H .limits .2);
-    root-is = root-of;
-    point-is = refl;
+    in-range = in-range R T;
+    few = few R T (H .limits .2);
+    root-is = root-is H ∙ ap (rootOf d c k) T;
+    point-is = point-at R T (H .table-is) i p P;
   }
 
   pub boxed : Boxed d c k (a .nodes) points (a .lows) (a .highs) t
   boxed = record {
     links = linked d c (a .nodes) t rows-laid;
-    leaves = leaves-stand d c k W R t T points marks (H .table-is);
-    in-range = in-range d c k W R t T;
+    leaves = leaves-stand R T (H .table-is);
+    in-range = in-range R T;
     cached = record {
-      low = tab-boxes d c k (lowOf d c) (a .lows) t (H .limits .3) lows-of (once d c k W R t T) (in-range d c k W R t T);
-      high = tab-boxes d c k (highOf d c) (a .highs) t (H .limits .3) highs-of (once d c k W R t T) (in-range d c k W R t T);
+      low = tab-boxes d c k (lowOf d c) (a .lows) t (H .limits .3) lows-of (once R T) (in-range R T);
+      high = tab-boxes d c k (highOf d c) (a .highs) t (H .limits .3) highs-of (once R T) (in-range R T);
     };
   }

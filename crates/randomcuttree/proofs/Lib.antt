@@ -1,11 +1,8 @@
 pub mod Reaches
-pub mod Given
-pub mod Manager
-pub mod Removes
-pub mod Enterings
-pub mod Makings
+pub mod Parts
 pub mod Lookups
-pub mod Boxings
+pub mod Given
+pub mod Makings
 pub mod Told
 pub mod Calls
 pub mod Deletes

@@ -3,8 +3,7 @@ use mathlib.Core.Path.{_≡_, refl, ap}
 use mathlib.Core.Bool.{Bool, true, false, cond, _&&_}
 use mathlib.Core.Option.{none}
 use mathlib.Core.List.{List}
-use Prim.Native.Nat.{ℕ, _-_, _≤_}
-use native.Mathlib.Omega.{arith}
+use Prim.Native.Nat.{ℕ, _≤_}
 use lib.Dec.{leb, ltb}
 use lib.Ieee.{Float}
 use borrow.Author.Tests.{leb-true}
@@ -17,32 +16,30 @@ use Rattle.randomcuttree.proofs.Reaches.{reachable-fresh}
 use Rattle.wholetree.specs.Whole.{whole}
 use Rattle.layout.specs.Layout.{noRow, noEnds, tableOf}
 use Rattle.layout.proofs.Tabs.{constant}
+use Rattle.treestore.specs.Arrays.{Lent}
+use Rattle.treestore.proofs.Leaves.{lent-is}
 use Rattle.randomcuttree.specs.declared.RCFTree.{RCFTree}
 use Rattle.randomcuttree.specs.declared.Made.{Made}
-use Rattle.randomcuttree.specs.State.{Lent, State}
-use Rattle.randomcuttree.specs.Making.{channelsTaken, capacityTaken, cachedBy, emptyTree, madeBy, cleared, lentBy, MakeDone}
+use Rattle.randomcuttree.specs.State.{cachedBy, State}
+use Rattle.randomcuttree.specs.Making.{channelsTaken, capacityTaken, emptyTree, madeBy, cleared, lentBy, MakeDone}
 
 -- ---- the state of a fresh tree
 either : {A : Type 0} (b : Bool) (x : A) → cond b x x ≡ x
 either b x = by-cond (λ (y : _). y ≡ x) b x x (λ _. refl) (λ _. refl)
 
-pub fresh-state : (d c k : ℕ) → (1 ≤ d) × (d ≤ width) × (2 ≤ c) × (c ≤ capacityLimit) × (k ≤ c - 1) → (points : List (List Float)) (marks : List ℕ)
-    → record { points = points; written = marks } ≡ tableOf (λ i. none) → State d c k (fresh (whole d) c) (emptyTree d c k) (cleared c) points marks
-fresh-state d c k l points marks e = record {
-  dimensions-are = refl;
-  capacity-is = refl;
-  cached-is = refl;
-  root-is = refl;
-  total-is = refl;
-  manager-is = refl;
-  nodes-are = constant branchLimit noRow _ (λ i. refl);
-  cuts-are = constant branchLimit nought _ (λ i. refl);
-  copies-are = constant pointLimit 0 _ (λ i. refl);
-  free-are = refl;
-  lows-are = constant branchLimit noEnds _ (λ i. either (ltb i k) noEnds);
-  highs-are = constant branchLimit noEnds _ (λ i. either (ltb i k) noEnds);
+pub fresh-state : (d c : ℕ) (s : Float) → (1 ≤ d) × (d ≤ width) × (2 ≤ c) × (c ≤ capacityLimit) × (isShare s ≡ true) → (points : List (List Float)) (marks : List ℕ)
+    → record { points = points; written = marks } ≡ tableOf (λ i. none) → State d c s (fresh (whole d) c) (emptyTree d c s) (cleared c) points marks
+fresh-state d c s l points marks e = record {
+  header-is = refl;
+  arrays-are = lent-is (cleared c) _ _ _ _ _ _
+      (constant branchLimit noRow _ (λ i. refl))
+      (constant branchLimit nought _ (λ i. refl))
+      (constant pointLimit 0 _ (λ i. refl))
+      refl
+      (constant branchLimit noEnds _ (λ i. either (ltb i (cachedBy s c)) noEnds))
+      (constant branchLimit noEnds _ (λ i. either (ltb i (cachedBy s c)) noEnds));
   table-is = e;
-  reachable = reachable-fresh d c k (l .2);
+  reachable = reachable-fresh d c (l .2);
   limits = l;
 }
 
@@ -72,14 +69,14 @@ module _ (d c : ℕ) (s : Float) (a : Lent) where
       unfolding madeBy
       refused-3 h = refuse 3 (rw (D, C, h) refl) (rw (D, C, h) refl)
 
-      pub made : isShare s ≡ true → (tree : RCFTree) (after : Lent) → tree ≡ emptyTree d c (cachedBy s c) → after ≡ cleared c → MakeDone d c s a after (Made.Tree tree)
+      pub made : isShare s ≡ true → (tree : RCFTree) (after : Lent) → tree ≡ emptyTree d c s → after ≡ cleared c → MakeDone d c s a after (Made.Tree tree)
       unfolding madeBy lentBy
       made h tree after e f = record {
         answer = rw (D, C, h) (ap (λ (t : RCFTree). Made.Tree t) e);
         arrays = rw (D, C, h) f;
         state = λ other g points marks t.
-            let z : emptyTree d c (cachedBy s c) ≡ other = cc in
+            let z : emptyTree d c s ≡ other = cc in
             let x = in-bounds 1 width d D in
             let y = in-bounds 2 capacityLimit c C in
-            rw (← z, f) (fresh-state d c (cachedBy s c) (x .0, x .1, y .0, y .1, omega arith) points marks t);
+            rw (← z, f) (fresh-state d c s (x .0, x .1, y .0, y .1, h) points marks t);
       }

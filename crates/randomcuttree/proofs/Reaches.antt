@@ -3,16 +3,12 @@ use mathlib.Core.Path.{_≡_, refl, sym, ap, _∙_, subst}
 use mathlib.Core.Bool.{true, not}
 use mathlib.Core.Option.{Option, none, some}
 use mathlib.Core.List.{List}
-use Prim.Native.Nat.{ℕ, _%_, _^_, _≤_, _<_}
+use Prim.Native.Nat.{ℕ, _≤_, _<_}
 use native.Mathlib.Omega.{arith}
 use lib.Dec.{eqb, leb, ltb}
 use lib.ListN.{length}
 use lib.Ieee.{Float}
 use Rattle.limits.specs.Limits.{width, pointLimit, totalLimit}
-use Rattle.cut.specs.declared.Separation.{Separation}
-use Rattle.cut.specs.declared.Separation.the-variants.{NoCut, Drawn}
-use Rattle.cut.specs.Draw.{separation}
-use Rattle.cut.proofs.Turns.{drawn-below}
 use Rattle.cuttree.specs.Setting.{Cut, below}
 use Rattle.cuttree.specs.Tree.{Tree, leaf, branch, lo, hi, OfTree, parted, above, height, walk, found, leaves, insert, addCopy, forget, orLifted}
 use Rattle.cuttree.specs.Run.{World, Call, put, add, delete, query, call, fresh, Answer, withPoint, enter, leave, isLeaf, totalOf, write}
@@ -22,28 +18,21 @@ use Rattle.boundingbox.specs.Ends.{channel}
 use Rattle.boundingbox.specs.Padding.{Padded}
 use Rattle.cuttree.proofs.Tests.{by-cond, nonsense}
 use Rattle.cuttree.proofs.Keeps.{sound-call, inv-fresh}
-use Rattle.wholetree.specs.Number.{Number}
 use Rattle.wholetree.specs.Reading.{Reading, reading}
-use Rattle.wholetree.specs.Whole.{whole, ends, cutIn, allCoordinates}
+use Rattle.wholetree.specs.Whole.{whole, allCoordinates}
 use Rattle.wholetree.proofs.Readings.{padded-beyond, reading-row}
 use Rattle.wholetree.proofs.Laws.{whole-laws}
+use Rattle.treestore.proofs.Channels.{draw-channel}
 use Rattle.randomcuttree.specs.State.{InRow, Reachable}
 
 module _ (d : ℕ) where
-  pub draw-channel : (lo hi : ℕ → Number) (p : Reading) (w : ℕ) → whole d .draw lo hi p w .channel < width
-  draw-channel lo hi p w = go (separation width (ends lo) (ends hi) (p .row) (w % 2 ^ 64)) refl
-    where
-      go : (s : Separation) → separation width (ends lo) (ends hi) (p .row) (w % 2 ^ 64) ≡ s → cutIn s .channel < width
-      go NoCut e = omega arith
-      go (Drawn k b) e = drawn-below width (ends lo) (ends hi) (p .row) (w % 2 ^ 64) k b e
-
   above-in : (b : ℕ) (k : Cut (whole d)) (i : ℕ) (p : Reading) (t : Tree (whole d)) → k .channel < width → InRow d t → InRow d (above (whole d) b k i p t)
   above-in b k i p t h w = by-cond (InRow d) (below (whole d) k p) _ _ (λ _. (h, tt, w)) (λ _. (h, w, tt))
 
   insert-in : (b i : ℕ) (p : Reading) (w : ℕ → ℕ) (t : Tree (whole d)) → InRow d t → InRow d (insert (whole d) b i p w t)
-  insert-in b i p w (leaf j q n) h = above-in b _ i p (leaf j q n) (draw-channel (lo (whole d) (leaf j q n)) (hi (whole d) (leaf j q n)) p (w 0)) tt
+  insert-in b i p w (leaf j q n) h = above-in b _ i p (leaf j q n) (draw-channel d (lo (whole d) (leaf j q n)) (hi (whole d) (leaf j q n)) p (w 0)) tt
   insert-in b i p w (branch a k g l r) h = by-cond (InRow d) (parted (whole d) (branch a k g l r) p (w (height (whole d) (branch a k g l r) p))) _ _
-      (λ _. above-in b _ i p (branch a k g l r) (draw-channel (lo (whole d) (branch a k g l r)) (hi (whole d) (branch a k g l r)) p _) h)
+      (λ _. above-in b _ i p (branch a k g l r) (draw-channel d (lo (whole d) (branch a k g l r)) (hi (whole d) (branch a k g l r)) p _) h)
       (λ _. by-cond (InRow d) (below (whole d) k p) _ _ (λ _. (h .0, insert-in b i p w l (h .1), h .2)) (λ _. (h .0, h .1, insert-in b i p w r (h .2))))
 
   copy-in : (p : Reading) (t : Tree (whole d)) → InRow d t → InRow d (addCopy (whole d) p t)
@@ -101,10 +90,10 @@ module _ (d : ℕ) where
     leave-tabled W none p = refl
     leave-tabled W (some t) p = by-cond (Same W) (not (found (whole d) t p)) _ _ (λ _. refl) (λ _. refl)
 
-    pub add-table : (W : World (whole d)) (i : ℕ) (ws : List ℕ) → call (whole d) c W (add i ws) .1 .table ≡ W .table
+    add-table : (W : World (whole d)) (i : ℕ) (ws : List ℕ) → call (whole d) c W (add i ws) .1 .table ≡ W .table
     add-table W i ws = by-cond (Same W) (leb pointLimit i) _ _ (λ _. refl) (λ _. point-tabled W (W .table i) _ (λ p. by-cond (Same W) (eqb (totalOf (whole d) (W .tree)) totalLimit) _ _ (λ _. refl) (λ _. enter-tabled W (W .tree) i p ws)))
 
-    pub delete-table : (W : World (whole d)) (i : ℕ) → call (whole d) c W (delete i) .1 .table ≡ W .table
+    delete-table : (W : World (whole d)) (i : ℕ) → call (whole d) c W (delete i) .1 .table ≡ W .table
     delete-table W i = by-cond (Same W) (leb pointLimit i) _ _ (λ _. refl) (λ _. point-tabled W (W .table i) _ (λ p. leave-tabled W (W .tree) p))
 
     abbrev Narrow : (ℕ → Option Reading) → Type 0
@@ -126,8 +115,8 @@ module _ (d : ℕ) where
     narrow-call W (query q) h = h
 
     -- every call leaves a world that calls leave
-    pub reachable-call : (k : ℕ) (W : World (whole d)) (x : Call (whole d)) → Reachable d c k W → Reachable d c k (call (whole d) c W x .1)
-    reachable-call k W x R = record { sound = sound-call (whole d) c (whole-laws d) W x (R .sound); in-row = call-in W x (R .in-row); narrow = narrow-call W x (R .narrow) }
+    pub reachable-call : (W : World (whole d)) (x : Call (whole d)) → Reachable d c W → Reachable d c (call (whole d) c W x .1)
+    reachable-call W x R = record { sound = sound-call (whole d) c (whole-laws d) W x (R .sound); in-row = call-in W x (R .in-row); narrow = narrow-call W x (R .narrow) }
 
-    pub reachable-fresh : (k : ℕ) → 2 ≤ c → Reachable d c k (fresh (whole d) c)
-    reachable-fresh k h = record { sound = inv-fresh (whole d) c h .sound; in-row = tt; narrow = λ i p e. nonsense (cc) }
+    pub reachable-fresh : 2 ≤ c → Reachable d c (fresh (whole d) c)
+    reachable-fresh h = record { sound = inv-fresh (whole d) c h .sound; in-row = tt; narrow = λ i p e. nonsense (cc) }

@@ -13,50 +13,54 @@ use Rattle.limits.specs.Limits.{capacityLimit, branchLimit, pointLimit}
 use Rattle.boundingbox.specs.Sides.{nought}
 use Rattle.boundingbox.specs.declared.BoundingBox.{BoundingBox}
 use Rattle.cuttree.specs.Setting.{Cut}
-use Rattle.cuttree.specs.Tree.{Tree, branch, OfTree}
+use Rattle.cuttree.specs.Tree.{Tree, branch}
 use Rattle.cuttree.specs.Sound.{Sound}
 use Rattle.cuttree.specs.Run.{World, lookIn, copiesFound, branchFound, boxFound}
 use Rattle.cuttree.proofs.Tests.{by-test}
+use Rattle.cuttree.proofs.Nodes.{In, here, left, right}
 use Rattle.wholetree.specs.Reading.{Reading}
 use Rattle.wholetree.specs.Whole.{whole, tab}
-use Rattle.layout.specs.Slots.{uses, slot, rowOf, cutOf, lowOf, highOf}
-use Rattle.layout.specs.Layout.{noRow, Table, slotIn, countIn, boxIn}
+use Rattle.layout.specs.Slots.{uses, slot, rowOf, cutOf}
+use Rattle.layout.specs.Layout.{noRow, slotIn, countIn}
 use Rattle.layout.specs.Stands.{Once}
 use Rattle.layout.proofs.Tabs.{entry-of}
 use Rattle.layout.proofs.Slots.{Branch, branch-of, slot-in}
 use Rattle.boxstore.specs.Boxed.{Boxed, SomeBoxed}
 use Rattle.boxstore.specs.Grown.{BoxOf}
+use Rattle.boxstore.proofs.Parts.{left-boxed, right-boxed}
+use Rattle.boxstore.proofs.Standing.{once-in}
+use Rattle.treestore.specs.Arrays.{Lent}
 use Rattle.randomcuttree.specs.declared.RCFTree.{RCFTree}
 use Rattle.randomcuttree.specs.declared.BranchRow.{BranchRow}
 use Rattle.randomcuttree.specs.declared.CopiesAnswer.{CopiesAnswer}
 use Rattle.randomcuttree.specs.declared.BranchAnswer.{BranchAnswer}
 use Rattle.randomcuttree.specs.declared.BoxAnswer.{BoxAnswer}
-use Rattle.randomcuttree.specs.State.{InRow, Lent, State}
+use Rattle.randomcuttree.specs.State.{cachedBy, State}
 use Rattle.randomcuttree.specs.Queries.{copiesSay, branchSays, boxSays, noBox, CopiesTold, BranchTold, BoxTold, BoxRead, SomeBoxRead}
 use Rattle.randomcuttree.proofs.Lookups.{once, no-leaf, a-leaf, branch-below, branch-found, with-mass, without-mass, no-branch}
-use Rattle.boxstore.proofs.Standing.{once-in}
-use Rattle.randomcuttree.proofs.Boxings.{boxed-in, boxed}
+use Rattle.randomcuttree.proofs.Parts.{capacity-is, cached-is, nodes-are, cuts-are, copies-are}
+use Rattle.randomcuttree.proofs.Given.{sound, boxed}
 
 -- ---- copies
 module _ (tree : RCFTree) (copies : List ℕ) (x : ℕ) where
   pub no-copies : (tree .capacity ≤ x → x - tree .capacity < pointLimit → getD copies (x - tree .capacity) 0 ≡ 0) → CopiesTold tree copies x (CopiesAnswer.NoLeaf 16)
-  no-copies h d c k W a points marks S e = go (W .tree) (S .reachable .sound) (sym e ∙ S .copies-are)
+  no-copies h d c s W a points marks S e = go (W .tree) (S .reachable .sound) (sym e ∙ copies-are S)
     where
-      go : (o : Option (Tree (whole d))) → Sound (whole d) c (record { table = W .table; tree = o; free = W .free }) → copies ≡ tab pointLimit (countIn d c k o) → CopiesAnswer.NoLeaf 16 ≡ copiesSay d (copiesFound (whole d) (lookIn (whole d) c o x))
+      go : (o : Option (Tree (whole d))) → Sound (whole d) c (record { table = W .table; tree = o; free = W .free }) → copies ≡ tab pointLimit (countIn d c (cachedBy s c) o) → CopiesAnswer.NoLeaf 16 ≡ copiesSay d (copiesFound (whole d) (lookIn (whole d) c o x))
       go none H E = refl
       go (some t) H E =
-          let m = rw (S .capacity-is) at h in
-          rw (no-leaf d c (W .table) t (W .free) H x (λ p q. sym (entry-of pointLimit (countIn d c k (some t)) copies E 0 (x - c) q) ∙ m p q)) refl
+          let m = rw (capacity-is S) at h in
+          rw (no-leaf d c (W .table) t (W .free) H x (λ p q. sym (entry-of pointLimit (countIn d c (cachedBy s c) (some t)) copies E 0 (x - c) q) ∙ m p q)) refl
 
   pub copies-told : tree .capacity ≤ x → x - tree .capacity < pointLimit → (getD copies (x - tree .capacity) 0 ≡ 0 → ⊥) → (n : ℕ) → n ≡ getD copies (x - tree .capacity) 0 → CopiesTold tree copies x (CopiesAnswer.Copies n)
-  copies-told p q r n z d c k W a points marks S e = go (W .tree) (S .reachable .sound)
-      (z ∙ ap (λ (m : ℕ). getD copies (x - m) 0) (S .capacity-is) ∙ entry-of pointLimit (countIn d c k (W .tree)) copies (sym e ∙ S .copies-are) 0 (x - c) (omega (arith, S .capacity-is)))
+  copies-told p q r n z d c s W a points marks S e = go (W .tree) (S .reachable .sound)
+      (z ∙ ap (λ (m : ℕ). getD copies (x - m) 0) (capacity-is S) ∙ entry-of pointLimit (countIn d c (cachedBy s c) (W .tree)) copies (sym e ∙ copies-are S) 0 (x - c) (omega (arith, capacity-is S)))
     where
-      go : (o : Option (Tree (whole d))) → Sound (whole d) c (record { table = W .table; tree = o; free = W .free }) → n ≡ countIn d c k o (x - c) → CopiesAnswer.Copies n ≡ copiesSay d (copiesFound (whole d) (lookIn (whole d) c o x))
+      go : (o : Option (Tree (whole d))) → Sound (whole d) c (record { table = W .table; tree = o; free = W .free }) → n ≡ countIn d c (cachedBy s c) o (x - c) → CopiesAnswer.Copies n ≡ copiesSay d (copiesFound (whole d) (lookIn (whole d) c o x))
       go none H y = absurd (r (sym z ∙ y))
       go (some t) H y =
           let w : n ≡ 0 → ⊥ = λ v. r (sym z ∙ v) in
-          rw (a-leaf d c (W .table) t (W .free) H x (omega (arith, S .capacity-is)) (omega arith)) (ap (λ (m : ℕ). CopiesAnswer.Copies m) y)
+          rw (a-leaf d c (W .table) t (W .free) H x (omega (arith, capacity-is S)) (omega arith)) (ap (λ (m : ℕ). CopiesAnswer.Copies m) y)
 
 -- ---- branches
 module _ (nodes : List (List ℕ)) (x : ℕ) where
@@ -84,9 +88,9 @@ module _ (nodes : List (List ℕ)) (x : ℕ) where
 
 module _ (tree : RCFTree) (nodes : List (List ℕ)) (cuts : List Float) (x : ℕ) where
   pub no-row : (x < branchLimit → massRead nodes x ≡ 0) → BranchTold tree nodes cuts x (BranchAnswer.NoBranch 16)
-  no-row h d c k W a points marks S e e′ = go (W .tree) (S .reachable .sound) (sym e ∙ S .nodes-are)
+  no-row h d c s W a points marks S e e′ = go (W .tree) (S .reachable .sound) (sym e ∙ nodes-are S)
     where
-      go : (o : Option (Tree (whole d))) → Sound (whole d) c (record { table = W .table; tree = o; free = W .free }) → nodes ≡ tab branchLimit (slotIn d c k (rowOf d c) noRow o) → BranchAnswer.NoBranch 16 ≡ branchSays d (branchFound (whole d) c (lookIn (whole d) c o x))
+      go : (o : Option (Tree (whole d))) → Sound (whole d) c (record { table = W .table; tree = o; free = W .free }) → nodes ≡ tab branchLimit (slotIn d c (cachedBy s c) (rowOf d c) noRow o) → BranchAnswer.NoBranch 16 ≡ branchSays d (branchFound (whole d) c (lookIn (whole d) c o x))
       go none H E = refl
       go (some t) H E = rw (no-branch d c (W .table) t (W .free) H x (unused nodes x d c (W .table) t (W .free) H (S .limits .3) E h) .0) refl
 
@@ -94,11 +98,11 @@ module _ (tree : RCFTree) (nodes : List (List ℕ)) (cuts : List Float) (x : ℕ
   rowRead = let r = getD nodes x [] in record { cut = record { dimension = getD r 3 0; value = getD cuts x nan }; left = getD r 0 0; right = getD r 1 0; mass = getD r 2 0 }
 
   pub row-told : x < branchLimit → (massRead nodes x ≡ 0 → ⊥) → (r : BranchRow) → r ≡ rowRead → BranchTold tree nodes cuts x (BranchAnswer.Branch r)
-  row-told l h r z d c k W a points marks S e e′ = go (W .tree) (S .reachable .sound) (sym e ∙ S .nodes-are) (sym e′ ∙ S .cuts-are)
+  row-told l h r z d c s W a points marks S e e′ = go (W .tree) (S .reachable .sound) (sym e ∙ nodes-are S) (sym e′ ∙ cuts-are S)
     where
-      go : (o : Option (Tree (whole d))) → Sound (whole d) c (record { table = W .table; tree = o; free = W .free }) → nodes ≡ tab branchLimit (slotIn d c k (rowOf d c) noRow o) → cuts ≡ tab branchLimit (slotIn d c k (cutOf d c) nought o)
+      go : (o : Option (Tree (whole d))) → Sound (whole d) c (record { table = W .table; tree = o; free = W .free }) → nodes ≡ tab branchLimit (slotIn d c (cachedBy s c) (rowOf d c) noRow o) → cuts ≡ tab branchLimit (slotIn d c (cachedBy s c) (cutOf d c) nought o)
           → BranchAnswer.Branch r ≡ branchSays d (branchFound (whole d) c (lookIn (whole d) c o x))
-      go none H E F = absurd (h (none-there nodes x d c k E l))
+      go none H E F = absurd (h (none-there nodes x d c (cachedBy s c) E l))
       go (some t) H E F = by (used nodes x d c (W .table) t (W .free) H (S .limits .3) E l h)
         where
           by : Branch d c t x → BranchAnswer.Branch r ≡ branchSays d (branchFound (whole d) c (lookIn (whole d) c (some t) x))
@@ -109,11 +113,17 @@ module _ (tree : RCFTree) (nodes : List (List ℕ)) (cuts : List Float) (x : ℕ
               rw (branch-found d c (W .table) t (W .free) H x B, z, row, value) refl
 
 -- ---- boxes
+-- boxes that stand below a tree stand below each of its nodes
+boxed-in : (d c k : ℕ) (nodes : List (List ℕ)) (points lows highs : List (List Float)) {v t : Tree (whole d)} → In (whole d) v t → Boxed d c k nodes points lows highs t → Boxed d c k nodes points lows highs v
+boxed-in d c k nodes points lows highs here B = B
+boxed-in d c k nodes points lows highs (left i) B = boxed-in d c k nodes points lows highs i (left-boxed d c k nodes points lows highs B)
+boxed-in d c k nodes points lows highs (right i) B = boxed-in d c k nodes points lows highs i (right-boxed d c k nodes points lows highs B)
+
 module _ (tree : RCFTree) (nodes : List (List ℕ)) (points lows highs : List (List Float)) (x : ℕ) where
   pub box-refused : (x < branchLimit → massRead nodes x ≡ 0) → BoxTold tree nodes points lows highs x (noBox 16)
-  box-refused h d c k W a marks S e = go (W .tree) (S .reachable .sound) (sym (e .nodes-are) ∙ S .nodes-are)
+  box-refused h d c s W a marks S e = go (W .tree) (S .reachable .sound) (sym (e .nodes-are) ∙ nodes-are S)
     where
-      go : (o : Option (Tree (whole d))) → Sound (whole d) c (record { table = W .table; tree = o; free = W .free }) → nodes ≡ tab branchLimit (slotIn d c k (rowOf d c) noRow o) → noBox 16 ≡ boxSays d (boxFound (whole d) (lookIn (whole d) c o x))
+      go : (o : Option (Tree (whole d))) → Sound (whole d) c (record { table = W .table; tree = o; free = W .free }) → nodes ≡ tab branchLimit (slotIn d c (cachedBy s c) (rowOf d c) noRow o) → noBox 16 ≡ boxSays d (boxFound (whole d) (lookIn (whole d) c o x))
       go none H E = refl
       go (some t) H E = rw (no-branch d c (W .table) t (W .free) H x (unused nodes x d c (W .table) t (W .free) H (S .limits .3) E h) .1) refl
 
@@ -125,32 +135,35 @@ module _ (tree : RCFTree) (nodes : List (List ℕ)) (points lows highs : List (L
       pub singly : Once d c (branch x (node .0) (node .1) (node .2) (node .3))
       pub boxes : Boxed d c k nodes points lows highs (branch x (node .0) (node .1) (node .2) (node .3))
 
-    box-at : (d c k : ℕ) (W : World (whole d)) (a : Lent) (marks : List ℕ) → State d c k W tree a points marks → BoxRead a nodes lows highs → BoxAt d c k (W .tree)
-    box-at d c k W a marks S e = go (W .tree) (S .reachable .sound) (S .reachable .in-row) (sym (e .nodes-are) ∙ S .nodes-are) (sym (e .lows-are) ∙ S .lows-are) (sym (e .highs-are) ∙ S .highs-are)
+    box-at : (d c : ℕ) (s : Float) (W : World (whole d)) (a : Lent) (marks : List ℕ) → State d c s W tree a points marks → BoxRead a nodes lows highs → BoxAt d c (cachedBy s c) (W .tree)
+    box-at d c s W a marks S e = go (W .tree) refl
       where
-        go : (o : Option (Tree (whole d))) → Sound (whole d) c (record { table = W .table; tree = o; free = W .free }) → OfTree (whole d) (InRow d) o → nodes ≡ tab branchLimit (slotIn d c k (rowOf d c) noRow o)
-            → lows ≡ tab branchLimit (boxIn d c k (lowOf d c) o) → highs ≡ tab branchLimit (boxIn d c k (highOf d c) o) → BoxAt d c k o
-        go none H I E L G = absurd (h (none-there nodes x d c k E l))
-        go (some t) H I E L G =
-            let B = used nodes x d c (W .table) t (W .free) H (S .limits .3) E l h in
-            let b = boxed d c (W .table) t (W .free) H k nodes points lows highs (S .limits .3) I E (ap (λ (y : Table). y .points) (S .table-is)) L G in
+        rows : nodes ≡ tab branchLimit (slotIn d c (cachedBy s c) (rowOf d c) noRow (W .tree))
+        rows = sym (e .nodes-are) ∙ nodes-are S
+
+        go : (o : Option (Tree (whole d))) → W .tree ≡ o → BoxAt d c (cachedBy s c) o
+        go none T = absurd (h (none-there nodes x d c (cachedBy s c) (rw T at rows) l))
+        go (some t) T =
+            let H = sound (S .reachable) T in
+            let B = used nodes x d c (W .table) t (W .free) H (S .limits .3) (rw T at rows) l h in
+            let b : Boxed d c (cachedBy s c) nodes points lows highs t = rw (e .nodes-are, e .lows-are, e .highs-are) at (boxed S T) in
             record {
               node = (B .cut, B .lag, B .low, B .high);
               found = branch-found d c (W .table) t (W .free) H x B;
               singly = once-in d c (B .inside) (once d c (W .table) t (W .free) H);
-              boxes = boxed-in d c k nodes points lows highs (B .inside) b;
+              boxes = boxed-in d c (cachedBy s c) nodes points lows highs (B .inside) b;
             }
 
     pub some-boxed : SomeBoxRead tree nodes points lows highs → (tree .capacity ≤ capacityLimit) × SomeBoxed (tree .capacity) (tree .cached) x nodes points lows highs
     some-boxed w =
         let S = w .state .state in
-        let B = box-at (w .state .channels) (w .state .capacity) (w .state .cached) (w .state .world) (w .lent) (w .marks) S (w .read) in
-        rw (S .capacity-is, S .cached-is) (S .limits .3, record { channels = w .state .channels; tree = branch x (B .node .0) (B .node .1) (B .node .2) (B .node .3); at-node = refl; once = B .singly; boxed = B .boxes })
+        let B = box-at (w .state .channels) (w .state .capacity) (w .state .share) (w .state .world) (w .lent) (w .marks) S (w .read) in
+        rw (capacity-is S, cached-is S) (S .limits .3, record { channels = w .state .channels; tree = branch x (B .node .0) (B .node .1) (B .node .2) (B .node .3); at-node = refl; once = B .singly; boxed = B .boxes })
 
     pub box-told : (b : BoundingBox) → BoxOf (tree .capacity) (tree .cached) x nodes points lows highs b → BoxTold tree nodes points lows highs x (record { refusal = 0; «bounding_box» = b })
-    box-told b F d c k W a marks S e =
-        let B = box-at d c k W a marks S e in
-        let w = (rw (S .capacity-is, S .cached-is) at F) d (branch x (B .node .0) (B .node .1) (B .node .2) (B .node .3)) refl (B .boxes) in
+    box-told b F d c s W a marks S e =
+        let B = box-at d c s W a marks S e in
+        let w = (rw (capacity-is S, cached-is S) at F) d (branch x (B .node .0) (B .node .1) (B .node .2) (B .node .3)) refl (B .boxes) in
         rw (B .found) (answered _ _ (w .0) (w .1))
       where
         answered : (p q : List Float) → b .«min_values» ≡ p → b .«max_values» ≡ q → _≡_ {A = BoxAnswer} (record { refusal = 0; «bounding_box» = b }) (record { refusal = 0; «bounding_box» = record { «min_values» = p; «max_values» = q } })

@@ -5,12 +5,13 @@ use Prim.Native.Nat.{ℕ}
 use lib.Ieee.{Float}
 use Rattle.cuttree.specs.Run.{World, add, delete, call, Answer, refused, written, added, deleted, copiesAre, branchIs, boxIs, numberOf}
 use Rattle.wholetree.specs.Whole.{whole}
+use Rattle.treestore.specs.Arrays.{Lent}
 use Rattle.randomcuttree.specs.declared.RCFTree.{RCFTree}
 use Rattle.randomcuttree.specs.declared.AddAnswer.{AddAnswer}
 use Rattle.randomcuttree.specs.declared.AddAnswer.the-variants.{Added, NotAdded}
 use Rattle.randomcuttree.specs.declared.DeleteAnswer.{DeleteAnswer}
 use Rattle.randomcuttree.specs.declared.DeleteAnswer.the-variants.{Deleted, NotDeleted}
-use Rattle.randomcuttree.specs.State.{Lent, State, headerOf}
+use Rattle.randomcuttree.specs.State.{State, headerOf}
 
 -- 'the leaf's point index; for add also the words taken', with the header after the call; or the refusal's number. An add has no other answer.
 abbrev pub addSays : (d : ℕ) → RCFTree → Answer (whole d) → AddAnswer
@@ -32,15 +33,15 @@ deleteSays d x (branchIs r) = NotDeleted 0
 deleteSays d x (boxIs b) = NotDeleted 0
 
 -- What a call gives and leaves: `says` of its answer, and header and arrays of the world after it. The table is not written.
-pub record Called {R : Type 0} (d c k : ℕ) (says : RCFTree → Answer (whole d) → R) (x : Answer (whole d) × World (whole d)) (r : R) (after : Lent) (points : List (List Float)) (marks : List ℕ) : Type 0 where
-  pub answer : r ≡ says (headerOf d c k (x .1)) (x .0)
-  pub state : State d c k (x .1) (headerOf d c k (x .1)) after points marks
+pub record Called {R : Type 0} (d c : ℕ) (s : Float) (says : RCFTree → Answer (whole d) → R) (x : Answer (whole d) × World (whole d)) (r : R) (after : Lent) (points : List (List Float)) (marks : List ℕ) : Type 0 where
+  pub answer : r ≡ says (headerOf d c s (x .1)) (x .0)
+  pub state : State d c s (x .1) (headerOf d c s (x .1)) after points marks
 
 -- An add and a delete, whichever world's the lent state is. A refused one leaves the world as it is, so each array and the header.
 abbrev pub AddDone : RCFTree → Lent → List (List Float) → List ℕ → ℕ → List ℕ → AddAnswer → Lent → Type 0
-AddDone tree before points marks i words r after = (d c k : ℕ) (W : World (whole d)) → State d c k W tree before points marks
-    → Called d c k (addSays d) (call (whole d) c W (add i words)) r after points marks
+AddDone tree before points marks i words r after = (d c : ℕ) (s : Float) (W : World (whole d)) → State d c s W tree before points marks
+    → Called d c s (addSays d) (call (whole d) c W (add i words)) r after points marks
 
 abbrev pub DeleteDone : RCFTree → Lent → List (List Float) → List ℕ → ℕ → DeleteAnswer → Lent → Type 0
-DeleteDone tree before points marks i r after = (d c k : ℕ) (W : World (whole d)) → State d c k W tree before points marks
-    → Called d c k (deleteSays d) (call (whole d) c W (delete i)) r after points marks
+DeleteDone tree before points marks i r after = (d c : ℕ) (s : Float) (W : World (whole d)) → State d c s W tree before points marks
+    → Called d c s (deleteSays d) (call (whole d) c W (delete i)) r after points marks

@@ -3,22 +3,23 @@ use mathlib.Core.Path.{_≡_}
 use mathlib.Core.Bool.{Bool, cond, _&&_}
 use mathlib.Core.Option.{none}
 use mathlib.Core.List.{List}
-use Prim.Native.Nat.{ℕ, _-_, min}
+use Prim.Native.Nat.{ℕ, _-_}
 use lib.Dec.{leb}
-use lib.ListN.{length, replicate}
+use lib.ListN.{replicate}
 use lib.Ieee.{Float}
 use Rattle.limits.specs.Limits.{width, capacityLimit, branchLimit, pointLimit}
-use Rattle.readings.specs.Share.{isShare, cachedPart}
+use Rattle.readings.specs.Share.{isShare}
 use Rattle.boundingbox.specs.Sides.{nought}
 use Rattle.intervalstoremanager.specs.Stack as Stack
 use Rattle.intervalstoremanager.specs.Rows as Rows
 use Rattle.cuttree.specs.Run.{fresh}
 use Rattle.wholetree.specs.Whole.{whole}
 use Rattle.layout.specs.Layout.{noRow, noEnds, tableOf}
+use Rattle.treestore.specs.Arrays.{Lent, managerOf}
 use Rattle.randomcuttree.specs.declared.RCFTree.{RCFTree}
 use Rattle.randomcuttree.specs.declared.Made.{Made}
 use Rattle.randomcuttree.specs.declared.Made.the-variants as Variants
-use Rattle.randomcuttree.specs.State.{Lent, State}
+use Rattle.randomcuttree.specs.State.{cachedBy, State}
 
 -- '1 to 8 channels'; 'Capacity c is 2 to 256'
 abbrev pub channelsTaken : ℕ → Bool
@@ -27,19 +28,16 @@ channelsTaken d = leb 1 d && leb d width
 abbrev pub capacityTaken : ℕ → Bool
 capacityTaken c = leb 2 c && leb c capacityLimit
 
--- 'Branches below the whole part of share × c are cached': there are c − 1 branches at most
-abbrev pub cachedBy : Float → ℕ → ℕ
-cachedBy s c = min (cachedPart s c) (c - 1)
-
 -- the header of an empty tree, all its branch numbers free
-abbrev pub emptyTree : ℕ → ℕ → ℕ → RCFTree
-emptyTree d c k = record {
+abbrev pub emptyTree : ℕ → ℕ → Float → RCFTree
+emptyTree d c s = record {
   dimensions = d;
   capacity = c;
-  cached = k;
+  «cache_fraction» = s;
+  cached = cachedBy s c;
   root = c - 1;
   total = 0;
-  manager = record { capacity = c - 1; «last_in_use» = length (Stack.fresh (c - 1)) };
+  manager = managerOf (c - 1) (Stack.fresh (c - 1));
 }
 
 -- 'make: 1 channels; 2 capacity; 3 cached share: outside its range or NaN', in this order; else the header
@@ -47,7 +45,7 @@ unfoldable pub madeBy : ℕ → ℕ → Float → Made
 madeBy d c s =
     cond (channelsTaken d)
     (cond (capacityTaken c)
-    (cond (isShare s) (Variants.Tree (emptyTree d c (cachedBy s c))) (Variants.NotMade 3))
+    (cond (isShare s) (Variants.Tree (emptyTree d c s)) (Variants.NotMade 3))
     (Variants.NotMade 2))
     (Variants.NotMade 1)
 
@@ -72,4 +70,4 @@ pub record MakeDone (d c : ℕ) (s : Float) (before after : Lent) (r : Made) : T
   pub answer : r ≡ madeBy d c s
   pub arrays : after ≡ lentBy d c s before
   pub state : (tree : RCFTree) → r ≡ Variants.Tree tree → (points : List (List Float)) (marks : List ℕ)
-      → record { points = points; written = marks } ≡ tableOf (λ i. none) → State d c (cachedBy s c) (fresh (whole d) c) tree after points marks
+      → record { points = points; written = marks } ≡ tableOf (λ i. none) → State d c s (fresh (whole d) c) tree after points marks

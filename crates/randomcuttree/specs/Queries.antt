@@ -6,6 +6,7 @@ use lib.Ieee.{Float}
 use Rattle.cuttree.specs.Run.{World, Row, Answer, refused, written, added, deleted, copiesAre, branchIs, boxIs, numberOf, copiesOf, branchOf, boxOf, ask}
 use Rattle.wholetree.specs.Whole.{whole, ends}
 use Rattle.layout.specs.Layout.{noEnds}
+use Rattle.treestore.specs.Arrays.{Lent}
 use Rattle.randomcuttree.specs.declared.RCFTree.{RCFTree}
 use Rattle.randomcuttree.specs.declared.BranchRow.{BranchRow}
 use Rattle.randomcuttree.specs.declared.CopiesAnswer.{CopiesAnswer}
@@ -13,7 +14,7 @@ use Rattle.randomcuttree.specs.declared.CopiesAnswer.the-variants.{Copie
 use Rattle.randomcuttree.specs.declared.BranchAnswer.{BranchAnswer}
 use Rattle.randomcuttree.specs.declared.BranchAnswer.the-variants.{Branch, NoBranch}
 use Rattle.randomcuttree.specs.declared.BoxAnswer.{BoxAnswer}
-use Rattle.randomcuttree.specs.State.{Lent, State, SomeState}
+use Rattle.randomcuttree.specs.State.{State, SomeState}
 
 -- 'copies of a leaf', or the refusal's number. A copies query has no other answer.
 abbrev pub copiesSay : (d : ℕ) → Answer (whole d) → CopiesAnswer
@@ -56,12 +57,12 @@ boxSays d (branchIs r) = noBox 0
 -- What a query gives, of the arrays that it reads: the answer of each world whose header and arrays these are.
 abbrev pub CopiesTold : RCFTree → List ℕ → ℕ → CopiesAnswer → Type 0
 CopiesTold tree copies x r =
-    (d c k : ℕ) (W : World (whole d)) (a : Lent) (points : List (List Float)) (marks : List ℕ) → State d c k W tree a points marks
+    (d c : ℕ) (s : Float) (W : World (whole d)) (a : Lent) (points : List (List Float)) (marks : List ℕ) → State d c s W tree a points marks
     → a .copies ≡ copies → r ≡ copiesSay d (ask (whole d) c W (copiesOf x))
 
 abbrev pub BranchTold : RCFTree → List (List ℕ) → List Float → ℕ → BranchAnswer → Type 0
 BranchTold tree nodes cuts x r =
-    (d c k : ℕ) (W : World (whole d)) (a : Lent) (points : List (List Float)) (marks : List ℕ) → State d c k W tree a points marks
+    (d c : ℕ) (s : Float) (W : World (whole d)) (a : Lent) (points : List (List Float)) (marks : List ℕ) → State d c s W tree a points marks
     → a .nodes ≡ nodes → a .cuts ≡ cuts → r ≡ branchSays d (ask (whole d) c W (branchOf x))
 
 -- the arrays that a box is read from
@@ -72,7 +73,7 @@ pub record BoxRead (a : Lent) (nodes : List (List ℕ)) (lows highs : List (List
 
 abbrev pub BoxTold : RCFTree → List (List ℕ) → List (List Float) → List (List Float) → List (List Float) → ℕ → BoxAnswer → Type 0
 BoxTold tree nodes points lows highs x r =
-    (d c k : ℕ) (W : World (whole d)) (a : Lent) (marks : List ℕ) → State d c k W tree a points marks
+    (d c : ℕ) (s : Float) (W : World (whole d)) (a : Lent) (marks : List ℕ) → State d c s W tree a points marks
     → BoxRead a nodes lows highs → r ≡ boxSays d (ask (whole d) c W (boxOf x))
 
 -- What a box query asks of its caller: that the header and these arrays are part of a state that a making and its calls leave.

@@ -1,91 +1,69 @@
 -- A tree's header and the lent arrays, as those of a world: every byte is named. Definitions.
 use mathlib.Core.Path.{_≡_}
+use mathlib.Core.Bool.{true}
 use mathlib.Core.Option.{some}
 use mathlib.Core.List.{List}
-use Prim.Native.Nat.{ℕ, _-_, _≤_, _<_}
-use lib.ListN.{length}
+use Prim.Native.Nat.{ℕ, _-_, _≤_, _<_, min}
 use lib.Ieee.{Float}
-use Rattle.limits.specs.Limits.{width, capacityLimit, branchLimit, pointLimit}
-use Rattle.boundingbox.specs.Sides.{nought}
+use Rattle.limits.specs.Limits.{width, capacityLimit}
+use Rattle.readings.specs.Share.{isShare, cachedPart}
 use Rattle.boundingbox.specs.Padding.{Padded}
 use Rattle.intervalstoremanager.specs.declared.IntervalStoreManager.{IntervalStoreManager}
-use Rattle.intervalstoremanager.specs.Rows as Rows
 use Rattle.cuttree.specs.Tree.{Tree, leaf, branch, OfTree}
 use Rattle.cuttree.specs.Run.{World, totalOf}
 use Rattle.cuttree.specs.Sound.{Sound}
 use Rattle.wholetree.specs.Reading.{Reading}
-use Rattle.wholetree.specs.Whole.{whole, tab}
-use Rattle.layout.specs.Slots.{rowOf, cutOf, lowOf, highOf}
-use Rattle.layout.specs.Layout.{noRow, rootOf, slotIn, countIn, boxIn, tableOf}
+use Rattle.wholetree.specs.Whole.{whole}
+use Rattle.layout.specs.Layout.{rootOf, tableOf}
+use Rattle.treestore.specs.Arrays.{Lent, managerOf, arraysOf}
 use Rattle.randomcuttree.specs.declared.RCFTree.{RCFTree}
+
+-- 'Branches below the whole part of share × c are cached': there are c − 1 branches at most
+abbrev pub cachedBy : Float → ℕ → ℕ
+cachedBy s c = min (cachedPart s c) (c - 1)
 
 -- every branch is cut on one of the eight channels of a row
 abbrev pub InRow : (d : ℕ) → Tree (whole d) → Type 0
 InRow d (leaf i q n) = Unit {0}
 InRow d (branch b k g l r) = (k .channel < width) × InRow d l × InRow d r
 
--- the lent arrays
-pub record Lent : Type 0 where
-  pub nodes : List (List ℕ)
-  pub cuts : List Float
-  pub copies : List ℕ
-  pub free : List (List ℕ)
-  pub lows : List (List Float)
-  pub highs : List (List Float)
+-- a world that a making and its calls leave
+pub record Reachable (d c : ℕ) (W : World (whole d)) : Type 0 where
+  pub sound : Sound (whole d) c W
+  pub in-row : OfTree (whole d) (InRow d) (W .tree)
+  -- a reading has +0.0 in the channels beyond the tree's
+  pub narrow : (i : ℕ) (p : Reading) → W .table i ≡ some p → Padded (p .row) d width
 
-abbrev pub lent : List (List ℕ) → List Float → List ℕ → List (List ℕ) → List (List Float) → List (List Float) → Lent
-lent n x m f l h = record { nodes = n; cuts = x; copies = m; free = f; lows = l; highs = h }
-
--- the manager of `size` numbers with that stack of free ones
-abbrev pub managerOf : ℕ → List (ℕ × ℕ) → IntervalStoreManager
-managerOf size u = record { capacity = size; «last_in_use» = length u }
-
--- d channels, capacity c, k cached branches
-module _ (d c k : ℕ) where
-  -- a world that a making and its calls leave
-  pub record Reachable (W : World (whole d)) : Type 0 where
-    pub sound : Sound (whole d) c W
-    pub in-row : OfTree (whole d) (InRow d) (W .tree)
-    -- a reading has +0.0 in the channels beyond the tree's
-    pub narrow : (i : ℕ) (p : Reading) → W .table i ≡ some p → Padded (p .row) d width
-
+-- d channels, capacity c, cached share s
+module _ (d c : ℕ) (s : Float) where
   -- the header of a world's tree
   abbrev pub headerOf : World (whole d) → RCFTree
   headerOf W = record {
     dimensions = d;
     capacity = c;
-    cached = k;
-    root = rootOf d c k (W .tree);
+    «cache_fraction» = s;
+    cached = cachedBy s c;
+    root = rootOf d c (cachedBy s c) (W .tree);
     total = totalOf (whole d) (W .tree);
     manager = managerOf (c - 1) (W .free);
   }
 
-  -- the header is the world's, and so is each array, slot by slot
+  -- header, arrays and table are the world's, slot by slot
   pub record State (W : World (whole d)) (tree : RCFTree) (a : Lent) (points : List (List Float)) (marks : List ℕ) : Type 0 where
-    pub dimensions-are : tree .dimensions ≡ d
-    pub capacity-is : tree .capacity ≡ c
-    pub cached-is : tree .cached ≡ k
-    pub root-is : tree .root ≡ rootOf d c k (W .tree)
-    pub total-is : tree .total ≡ totalOf (whole d) (W .tree)
-    pub manager-is : tree .manager ≡ record { capacity = c - 1; «last_in_use» = length (W .free) }
-    pub nodes-are : a .nodes ≡ tab branchLimit (slotIn d c k (rowOf d c) noRow (W .tree))
-    pub cuts-are : a .cuts ≡ tab branchLimit (slotIn d c k (cutOf d c) nought (W .tree))
-    pub copies-are : a .copies ≡ tab pointLimit (countIn d c k (W .tree))
-    pub free-are : a .free ≡ Rows.layout (W .free)
-    pub lows-are : a .lows ≡ tab branchLimit (boxIn d c k (lowOf d c) (W .tree))
-    pub highs-are : a .highs ≡ tab branchLimit (boxIn d c k (highOf d c) (W .tree))
+    pub header-is : tree ≡ headerOf W
+    pub arrays-are : a ≡ arraysOf d c (cachedBy s c) (W .tree) (W .free)
     pub table-is : record { points = points; written = marks } ≡ tableOf (W .table)
-    pub reachable : Reachable W
-    pub limits : (1 ≤ d) × (d ≤ width) × (2 ≤ c) × (c ≤ capacityLimit) × (k ≤ c - 1)
+    pub reachable : Reachable d c W
+    pub limits : (1 ≤ d) × (d ≤ width) × (2 ≤ c) × (c ≤ capacityLimit) × (isShare s ≡ true)
 
 -- What a state function asks of its caller: that the lent state is one that a making and its calls leave.
 pub record SomeState (tree : RCFTree) (a : Lent) (points : List (List Float)) (marks : List ℕ) : Type 0 where
   pub channels : ℕ
   pub capacity : ℕ
-  pub cached : ℕ
+  pub share : Float
   pub world : World (whole channels)
-  pub state : State channels capacity cached world tree a points marks
+  pub state : State channels capacity share world tree a points marks
 
 -- the header with another root, total and manager
 abbrev pub headed : RCFTree → ℕ → ℕ → IntervalStoreManager → RCFTree
-headed x root total manager = record { dimensions = x .dimensions; capacity = x .capacity; cached = x .cached; root = root; total = total; manager = manager }
+headed x root total manager = record { dimensions = x .dimensions; capacity = x .capacity; «cache_fraction» = x .«cache_fraction»; cached = x .cached; root = root; total = total; manager = manager }

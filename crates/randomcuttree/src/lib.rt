@@ -1,9 +1,8 @@
 // A random cut tree on readings fed in (randomcuttree.rs): making, adding, deleting and the queries. Its arrays are lent; the header goes in and comes back by value.
 use boundingbox::BoundingBox;
+use casts::wide16;
 use cut::Cut;
-use intervalstoremanager::Got;
 use intervalstoremanager::IntervalStoreManager;
-use intervalstoremanager::Released;
 use limits::BRANCHES;
 use limits::CAPACITY;
 use limits::CHANNELS;
@@ -18,27 +17,25 @@ use limits::Points;
 use limits::Row;
 ghost use mathlib.Core.Path.{_≡_};
 ghost use mathlib.Core.Bool.{_&&_};
-ghost use mathlib.Core.List.{List, []};
-ghost use Prim.Native.Nat.{ℕ, _≤_, _<_, min};
+ghost use mathlib.Core.List.{[]};
+ghost use Prim.Native.Nat.{_<_};
 ghost use lib.Dec.{leb};
 ghost use lib.ListN.{getD, replicate};
 ghost use Rattle.limits.specs.Limits.{branchLimit, pointLimit};
-ghost use Rattle.readings.specs.Share.{cachedPart};
 ghost use Rattle.boundingbox.specs.Sides.{nought};
-ghost use Rattle.intervalstoremanager.specs.Rows as Rows;
-ghost use Rattle.intervalstoremanager.specs.Stack.{afterRelease, holds, Proper, Once};
 ghost use Rattle.layout.specs.Layout.{noRow, noEnds};
-ghost use Rattle.randomcuttree.specs.State.{managerOf, lent, headed, SomeState};
+ghost use Rattle.treestore.specs.Arrays.{lent};
+ghost use Rattle.randomcuttree.specs.State.{headed, SomeState};
 ghost use Rattle.randomcuttree.specs.Answers.{AddDone, DeleteDone};
-ghost use Rattle.randomcuttree.specs.Edits.{SomeHeld, Forgets};
-ghost use Rattle.randomcuttree.specs.Enters.{SomeEntering, Enters};
 ghost use Rattle.randomcuttree.specs.Making.{MakeDone};
 ghost use Rattle.randomcuttree.specs.Queries.{CopiesTold, BranchTold, BoxTold, SomeBoxRead, noBox};
 
 // The header of a tree. The arrays beside it hold the branches' rows and cuts, the leaves' copies, the free branch numbers and the cached boxes.
+// `cached` is how many branches `cache_fraction` has cached.
 pub struct RCFTree {
     pub dimensions: usize,
     pub capacity: u16,
+    pub cache_fraction: f64,
     pub cached: usize,
     pub root: u16,
     pub total: usize,
@@ -89,27 +86,10 @@ pub struct BoxAnswer {
     pub bounding_box: BoundingBox,
 }
 
-fn wide(x: u16) -> usize
-    ensures { λ r. ⌜ r ≡ x ⌝ }
-{
-    x as usize
-}
-
 fn within(x: usize, low: usize, high: usize) -> bool
     ensures { λ r. ⌜ r ≡ (leb low x && leb x high) ⌝ }
 {
     (low <= x) & (x <= high)
-}
-
-// How many branches are cached: the share's part of the capacity, or all where there are fewer.
-fn cached_of(share: f64, capacity: u16, branches: usize) -> usize
-    ensures { λ r. ⌜ r ≡ min (cachedPart share capacity) branches ⌝ }
-{
-    let part = readings::cached_part(share, capacity);
-    if part < branches {
-        return part;
-    }
-    branches
 }
 
 // Clears what a tree keeps of its branches and leaves.
@@ -138,7 +118,7 @@ fn mass_at(nodes: &Nodes, node: usize) -> usize
     requires { ⌜ node < branchLimit ⌝ }
     ensures { λ r. ⌜ r ≡ getD (getD (now (nodes .entry)) node []) 2 0 ⌝ }
 {
-    wide(nodes[node][2])
+    wide16(nodes[node][2])
 }
 
 // Document 01's 16, with no box.
@@ -154,18 +134,6 @@ fn no_box() -> BoxAnswer
     }
 }
 
-// A branch number put back. A stack of a tree's branch numbers, each free once at most, always has a row for it.
-fn put_back(manager: IntervalStoreManager, free: &mut Free, b: u16) -> IntervalStoreManager
-    ensures { λ r. ⌜ ((u : List (ℕ × ℕ)) → manager ≡ managerOf (manager .capacity) u → now (free .entry) ≡ Rows.layout u → manager .capacity ≤ branchLimit → Proper (manager .capacity) u → Once u → b < manager .capacity → holds u b ≡ 0
-        → (r ≡ managerOf (manager .capacity) (afterRelease u b)) × (now (free .exit) ≡ Rows.layout (afterRelease u b))) ⌝ }
-{
-    let released = manager.release(free, b);
-    match released {
-        Released::Done(next) => next,
-        Released::Full => manager,
-    }
-}
-
 // The header with another root, total and manager.
 fn headed_by(tree: RCFTree, root: u16, total: usize, manager: IntervalStoreManager) -> RCFTree
     ensures { λ r. ⌜ r ≡ headed tree root total manager ⌝ }
@@ -173,152 +141,11 @@ fn headed_by(tree: RCFTree, root: u16, total: usize, manager: IntervalStoreManag
     RCFTree {
         dimensions: tree.dimensions,
         capacity: tree.capacity,
+        cache_fraction: tree.cache_fraction,
         cached: tree.cached,
         root,
         total,
         manager,
-    }
-}
-
-// The last copy of a leaf below a branch: the sibling takes the branch's place, the branch's number is free again, and the boxes above are repaired.
-fn remove_last(
-    tree: RCFTree,
-    nodes: &mut Nodes,
-    cuts: &mut Cuts,
-    copies: &mut Copies,
-    free: &mut Free,
-    lows: &mut [Row; BRANCHES],
-    highs: &mut [Row; BRANCHES],
-    points: &Points,
-    path: &Path,
-    n: usize,
-    leaf: usize,
-    point: &Row,
-) -> RCFTree
-    requires held { ⌜ SomeHeld tree (lent (now nodes) (now cuts) (now copies) (now free) (now lows) (now highs)) (now points) (now path) n leaf (now point) ⌝ }
-    requires last { ⌜ getD (now copies) leaf 0 ≤ 1 ⌝ }
-    requires below { ⌜ 2 ≤ n ⌝ }
-    ensures { λ r. ⌜ Forgets tree (lent (now (nodes .entry)) (now (cuts .entry)) (now (copies .entry)) (now (free .entry)) (now (lows .entry)) (now (highs .entry))) (now (points .entry)) (now (path .entry)) n leaf (now (point .entry)) r (lent (now (nodes .exit)) (now (cuts .exit)) (now (copies .exit)) (now (free .exit)) (now (lows .exit)) (now (highs .exit))) ⌝ }
-{
-    let root = nodestore::lifted_root(tree.root, path, n);
-    let b = nodestore::remove_leaf(nodes, cuts, copies, path, n, leaf);
-    let manager = put_back(tree.manager, free, b);
-    boxstore::clear_box(lows, highs, wide(b), tree.cached);
-    boxstore::repair_ancestors(
-        lows,
-        highs,
-        nodes,
-        points,
-        path,
-        n - 2,
-        point,
-        tree.dimensions,
-        wide(tree.capacity),
-        tree.cached,
-    );
-    headed_by(tree, root, tree.total - 1, manager)
-}
-
-// One copy less of the leaf that the path ends in.
-fn remove_copy(
-    tree: RCFTree,
-    nodes: &mut Nodes,
-    cuts: &mut Cuts,
-    copies: &mut Copies,
-    free: &mut Free,
-    lows: &mut [Row; BRANCHES],
-    highs: &mut [Row; BRANCHES],
-    points: &Points,
-    path: &Path,
-    n: usize,
-    leaf: usize,
-    point: &Row,
-) -> RCFTree
-    requires held { ⌜ SomeHeld tree (lent (now nodes) (now cuts) (now copies) (now free) (now lows) (now highs)) (now points) (now path) n leaf (now point) ⌝ }
-    ensures { λ r. ⌜ Forgets tree (lent (now (nodes .entry)) (now (cuts .entry)) (now (copies .entry)) (now (free .entry)) (now (lows .entry)) (now (highs .entry))) (now (points .entry)) (now (path .entry)) n leaf (now (point .entry)) r (lent (now (nodes .exit)) (now (cuts .exit)) (now (copies .exit)) (now (free .exit)) (now (lows .exit)) (now (highs .exit))) ⌝ }
-{
-    if 1 < copies[leaf] {
-        nodestore::drop_copy(nodes, copies, path, n, leaf);
-        return headed_by(tree, tree.root, tree.total - 1, tree.manager);
-    }
-    if n < 2 {
-        nodestore::remove_root(copies, leaf);
-        return headed_by(tree, tree.capacity - 1, tree.total - 1, tree.manager);
-    }
-    remove_last(
-        tree,
-        nodes,
-        cuts,
-        copies,
-        free,
-        lows,
-        highs,
-        points,
-        path,
-        n,
-        leaf,
-        point,
-    )
-}
-
-// A reading that no leaf has: the highest cut that parts, a free number for the new branch, its row and its box, and the boxes above it grown.
-fn insert_leaf(
-    tree: RCFTree,
-    nodes: &mut Nodes,
-    cuts: &mut Cuts,
-    copies: &mut Copies,
-    free: &mut Free,
-    lows: &mut [Row; BRANCHES],
-    highs: &mut [Row; BRANCHES],
-    points: &Points,
-    path: &Path,
-    n: usize,
-    leaf: usize,
-    index: usize,
-    words: &[u64],
-    point: &Row,
-) -> RCFTree
-    requires { ⌜ SomeEntering tree (lent (now nodes) (now cuts) (now copies) (now free) (now lows) (now highs)) (now points) (now path) n leaf index (now words) (now point) ⌝ }
-    ensures { λ r. ⌜ Enters tree (lent (now (nodes .entry)) (now (cuts .entry)) (now (copies .entry)) (now (free .entry)) (now (lows .entry)) (now (highs .entry))) (now (points .entry)) (now (path .entry)) n leaf index (now (words .entry)) (now (point .entry)) r (lent (now (nodes .exit)) (now (cuts .exit)) (now (copies .exit)) (now (free .exit)) (now (lows .exit)) (now (highs .exit))) ⌝ }
-{
-    let highest = drawing::highest_cut(
-        nodes,
-        points,
-        lows,
-        highs,
-        path,
-        n,
-        leaf,
-        words,
-        point,
-        wide(tree.capacity),
-        tree.cached,
-    );
-    let above = n - 1 - highest.height;
-    let got = tree.manager.get(free);
-    match got {
-        Got::Index(b, manager) => {
-            let dimension = highest.cut.dimension;
-            let left = point[dimension] <= highest.cut.value;
-            nodestore::place_branch(
-                nodes,
-                cuts,
-                copies,
-                path,
-                above,
-                b,
-                index,
-                highest.cut,
-                left,
-                tree.capacity,
-            );
-            let below = highest.bounding_box;
-            boxstore::copy_box_above(lows, highs, wide(b), below, point, tree.cached);
-            boxstore::grow_ancestors(lows, highs, path, above, point, tree.cached);
-            let root = nodestore::placed_root(tree.root, above, b);
-            headed_by(tree, root, tree.total + 1, manager)
-        }
-        Got::Empty => tree,
     }
 }
 
@@ -346,8 +173,8 @@ impl RCFTree {
         highs: &mut [Row; BRANCHES],
     ) -> Made
         ensures { λ r. ⌜ MakeDone dimensions capacity «cache_fraction»
-            (record { nodes = now (nodes .entry); cuts = now (cuts .entry); copies = now (copies .entry); free = now (free .entry); lows = now (lows .entry); highs = now (highs .entry) })
-            (record { nodes = now (nodes .exit); cuts = now (cuts .exit); copies = now (copies .exit); free = now (free .exit); lows = now (lows .exit); highs = now (highs .exit) }) r ⌝ }
+            (lent (now (nodes .entry)) (now (cuts .entry)) (now (copies .entry)) (now (free .entry)) (now (lows .entry)) (now (highs .entry)))
+            (lent (now (nodes .exit)) (now (cuts .exit)) (now (copies .exit)) (now (free .exit)) (now (lows .exit)) (now (highs .exit))) r ⌝ }
     {
         if !within(dimensions, 1, Self::CHANNELS) {
             return Made::NotMade(1);
@@ -360,11 +187,13 @@ impl RCFTree {
         }
         clear(nodes, cuts, copies, lows, highs);
         let c = capacity as u16;
-        let cached = cached_of(cache_fraction, c, capacity - 1);
+        let part = readings::cached_part(cache_fraction, c);
+        let cached = casts::at_most(part, capacity - 1);
         let manager = IntervalStoreManager::new(c - 1, free);
         Made::Tree(RCFTree {
             dimensions,
             capacity: c,
+            cache_fraction,
             cached,
             root: c - 1,
             total: 0,
@@ -377,7 +206,7 @@ impl RCFTree {
     pub fn copies_of(self, copies: &Copies, id: usize) -> CopiesAnswer
         ensures { λ r. ⌜ CopiesTold self (now (copies .entry)) id r ⌝ }
     {
-        let capacity = wide(self.capacity);
+        let capacity = wide16(self.capacity);
         if id < capacity {
             return CopiesAnswer::NoLeaf(16);
         }
@@ -389,7 +218,7 @@ impl RCFTree {
         if n == 0 {
             return CopiesAnswer::NoLeaf(16);
         }
-        CopiesAnswer::Copies(wide(n))
+        CopiesAnswer::Copies(wide16(n))
     }
 
     // The row of a branch by its number.
@@ -405,13 +234,13 @@ impl RCFTree {
             return BranchAnswer::NoBranch(16);
         }
         let cut = Cut {
-            dimension: wide(nodes[id][3]),
+            dimension: wide16(nodes[id][3]),
             value: cuts[id],
         };
         BranchAnswer::Branch(BranchRow {
             cut,
-            left: wide(nodes[id][0]),
-            right: wide(nodes[id][1]),
+            left: wide16(nodes[id][0]),
+            right: wide16(nodes[id][1]),
             mass,
         })
     }
@@ -441,7 +270,7 @@ impl RCFTree {
             points,
             lows,
             highs,
-            wide(self.capacity),
+            wide16(self.capacity),
             self.cached,
         );
         BoxAnswer {
@@ -481,25 +310,25 @@ impl RCFTree {
         if self.total == 0 {
             nodestore::add_root(copies, index);
             let root = index as u16 + self.capacity;
-            return AddAnswer::Added(headed_by(self, root, 1, self.manager), index, 0);
+            let tree = headed_by(self, root, 1, self.manager);
+            return AddAnswer::Added(tree, index, 0);
         }
         let mut path = [[0u16; 2]; CAPACITY];
-        let n = walk::set_path(
-            nodes,
-            cuts,
-            &points[index],
+        let found = treestore::find(
             self.root,
             self.capacity,
+            nodes,
+            cuts,
+            points,
+            index,
             &mut path,
         );
-        let leaf = walk::leaf_at(&path, n, self.capacity);
-        if walk::same_point(&points[leaf], &points[index]) {
+        let n = found.nodes;
+        let leaf = found.leaf;
+        if found.held {
             nodestore::add_copy(nodes, copies, &path, n, leaf);
-            return AddAnswer::Added(
-                headed_by(self, self.root, self.total + 1, self.manager),
-                leaf,
-                0,
-            );
+            let tree = headed_by(self, self.root, self.total + 1, self.manager);
+            return AddAnswer::Added(tree, leaf, 0);
         }
         if self.manager.is_empty() {
             return AddAnswer::NotAdded(10);
@@ -507,8 +336,11 @@ impl RCFTree {
         if words.len() < n {
             return AddAnswer::NotAdded(11);
         }
-        let tree = insert_leaf(
-            self,
+        let edited = treestore::insert_leaf(
+            self.root,
+            self.manager,
+            self.capacity,
+            self.cached,
             nodes,
             cuts,
             copies,
@@ -523,6 +355,7 @@ impl RCFTree {
             words,
             &points[index],
         );
+        let tree = headed_by(self, edited.root, self.total + 1, edited.manager);
         AddAnswer::Added(tree, index, n)
     }
 
@@ -553,20 +386,26 @@ impl RCFTree {
             return DeleteAnswer::NotDeleted(12);
         }
         let mut path = [[0u16; 2]; CAPACITY];
-        let n = walk::set_path(
-            nodes,
-            cuts,
-            &points[index],
+        let found = treestore::find(
             self.root,
             self.capacity,
+            nodes,
+            cuts,
+            points,
+            index,
             &mut path,
         );
-        let leaf = walk::leaf_at(&path, n, self.capacity);
-        if !walk::same_point(&points[leaf], &points[index]) {
+        let n = found.nodes;
+        let leaf = found.leaf;
+        if !found.held {
             return DeleteAnswer::NotDeleted(13);
         }
-        let tree = remove_copy(
-            self,
+        let edited = treestore::remove_copy(
+            self.root,
+            self.manager,
+            self.dimensions,
+            self.capacity,
+            self.cached,
             nodes,
             cuts,
             copies,
@@ -579,6 +418,7 @@ impl RCFTree {
             leaf,
             &points[index],
         );
+        let tree = headed_by(self, edited.root, self.total - 1, edited.manager);
         DeleteAnswer::Deleted(tree, leaf)
     }
 }

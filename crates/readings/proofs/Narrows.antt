@@ -1,7 +1,7 @@
 -- An f64 narrowed: by its value, and by its sign. Assumes nothing.
 use mathlib.Core.Path.{_≡_, refl, sym, ap, _∙_}
 use Prim.Native.Nat.{ℕ, zero, suc, _+_, _*_, _^_, _<_}
-use mathlib.Core.Bool.{Bool, true, false, not, cond}
+use mathlib.Core.Bool.{Bool, true, false, cond, Bool·not-not}
 use lib.Dec.{ltb}
 use lib.Ieee.{Float, nan, inf, fin, Format, binary32, prec, low, emax, up, down, odd, units, round, neg}
 use lib.Ieee.Fits.{down-pos, round-is}

@@ -5,14 +5,14 @@ use borrow.Author.Needs.{needs}
 use Rattle.randomcuttree.proofs.RCFTree.copies_of.Statement.{statement}
 use Rattle.randomcuttree.proofs.RCFTree.copies_of.Tie as tie
 
-wide-requires : tie.Need-wide-requires
-wide-requires c κs = search needs
+wide16-requires : tie.Need-wide16-requires
+wide16-requires c κs = search needs
 
 returns : tie.Need-returns
-returns c = no-copies _ _ _ (λ p q. absurd (omega (arith, c .before .wide .ensures)))
+returns c = no-copies _ _ _ (λ p q. absurd (omega (arith, c .before .wide16 .ensures .0)))
 
 returns-2 : tie.Need-returns-2
-returns-2 c = no-copies _ _ _ (λ p q. absurd (omega (arith, c .before .before .wide .ensures)))
+returns-2 c = no-copies _ _ _ (λ p q. absurd (omega (arith, c .before .before .wide16 .ensures .0)))
 
 mul-n : tie.Need-mul-n
 mul-n c = search needs
@@ -21,23 +21,23 @@ element-copy-out-n : tie.Need-element-copy-out-n
 element-copy-out-n c = search needs
 
 returns-3 : tie.Need-returns-3
-returns-3 c = no-copies _ _ _ (λ p q. rw (c .before .before .before .before .wide .ensures) at (c .if3 .taken))
+returns-3 c = no-copies _ _ _ (λ p q. rw (c .before .before .before .before .wide16 .ensures .0) at (c .if3 .taken))
 
-wide-requires-2 : tie.Need-wide-requires-2
-wide-requires-2 c κs = search needs
+wide16-requires-2 : tie.Need-wide16-requires-2
+wide16-requires-2 c κs = search needs
 
 returns-4 : tie.Need-returns-4
-returns-4 c = let e = c .before .before .before .before .before .wide .ensures in copies-told _ _ _ (omega arith) (omega arith) (rw e at (c .before .if3 .left)) _ (rw e at (c .wide2 .ensures))
+returns-4 c = let e = c .before .before .before .before .before .wide16 .ensures .0 in copies-told _ _ _ (omega arith) (omega arith) (rw e at (c .before .if3 .left)) _ (rw e at (c .wide162 .ensures .0))
 
 pub copies-of-spec : {M : Type 1} → statement M
 copies-of-spec =
     tie.close
     (tie.spec
-    wide-requires
+    wide16-requires
     returns
     returns-2
     mul-n
     element-copy-out-n
     returns-3
-    wide-requires-2
+    wide16-requires-2
     returns-4)

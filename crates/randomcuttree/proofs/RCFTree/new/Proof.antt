@@ -32,27 +32,29 @@ clear-requires c κs = search needs
 cast-c : tie.Need-cast-c
 cast-c c = let w = in-bounds 2 capacityLimit (c .before .before .before .before .before .before .before .before .before .before .before .before .args .capacity) (sym (c .before .before .before .before .before .before .before .before .before .within2 .ensures) ∙ not-false _ (c .before .before .before .before .before .before .before .before .if2 .left)) in omega arith
 
-sub-cached-of : tie.Need-sub-cached-of
-sub-cached-of c = let w = in-bounds 2 capacityLimit (c .before .before .before .before .before .before .before .before .before .before .before .before .args .capacity) (sym (c .before .before .before .before .before .before .before .before .before .within2 .ensures) ∙ not-false _ (c .before .before .before .before .before .before .before .before .if2 .left)) in omega arith
+cached-part-requires : tie.Need-cached-part-requires
+cached-part-requires c κs = search needs
 
-cached-of-requires : tie.Need-cached-of-requires
-cached-of-requires c κs = search needs
+sub-at-most : tie.Need-sub-at-most
+sub-at-most c = let w = in-bounds 2 capacityLimit (c .before .before .before .before .before .before .before .before .before .before .before .before .before .args .capacity) (sym (c .before .before .before .before .before .before .before .before .before .before .within2 .ensures) ∙ not-false _ (c .before .before .before .before .before .before .before .before .before .if2 .left)) in omega arith
+
+at-most-requires : tie.Need-at-most-requires
+at-most-requires c κs = search needs
 
 sub-new : tie.Need-sub-new
-sub-new c = let w = in-bounds 2 capacityLimit (c .before .before .before .before .before .before .before .before .before .before .before .before .before .args .capacity) (sym (c .before .before .before .before .before .before .before .before .before .before .within2 .ensures) ∙ not-false _ (c .before .before .before .before .before .before .before .before .before .if2 .left)) in omega arith
+sub-new c = let w = in-bounds 2 capacityLimit (c .before .before .before .before .before .before .before .before .before .before .before .before .before .before .args .capacity) (sym (c .before .before .before .before .before .before .before .before .before .before .before .within2 .ensures) ∙ not-false _ (c .before .before .before .before .before .before .before .before .before .before .if2 .left)) in omega arith
 
 new-requires : tie.Need-new-requires
 new-requires c κs = search needs
 
-sub-t22 : tie.Need-sub-t22
-sub-t22 c = let w = in-bounds 2 capacityLimit (c .before .before .before .before .before .before .before .before .before .before .before .before .before .before .before .args .capacity) (sym (c .before .before .before .before .before .before .before .before .before .before .before .before .within2 .ensures) ∙ not-false _ (c .before .before .before .before .before .before .before .before .before .before .before .if2 .left)) in omega arith
+sub-t23 : tie.Need-sub-t23
+sub-t23 c = let w = in-bounds 2 capacityLimit (c .before .before .before .before .before .before .before .before .before .before .before .before .before .before .before .before .args .capacity) (sym (c .before .before .before .before .before .before .before .before .before .before .before .before .before .within2 .ensures) ∙ not-false _ (c .before .before .before .before .before .before .before .before .before .before .before .before .if2 .left)) in omega arith
 
 returns-4 : tie.Need-returns-4
 returns-4 c =
-    made _ _ _ _ (sym (c .before .before .before .before .before .before .before .before .before .before .before .before .before .before .within .ensures) ∙ not-false _ (c .before .before .before .before .before .before .before .before .before .before .before .before .before .if1 .left)) (sym (c .before .before .before .before .before .before .before .before .before .before .before .before .within2 .ensures) ∙ not-false _ (c .before .before .before .before .before .before .before .before .before .before .before .if2 .left))
-    (sym (c .before .before .before .before .before .before .before .before .before .before .is-share .ensures) ∙ not-false _ (c .before .before .before .before .before .before .before .before .before .if3 .left)) _ _
-    (rw (c .before .before .cached-of .ensures, c .new .ensures .0) refl)
-    (let e = c .before .before .before .clear .ensures in rw (e .0, e .1 .0, e .1 .1 .0, c .new .ensures .1, e .1 .1 .1 .0, e .1 .1 .1 .1) refl)
+    made _ _ _ _ (sym (c .before .before .before .before .before .before .before .before .before .before .before .before .before .before .before .within .ensures) ∙ not-false _ (c .before .before .before .before .before .before .before .before .before .before .before .before .before .before .if1 .left)) (sym (c .before .before .before .before .before .before .before .before .before .before .before .before .before .within2 .ensures) ∙ not-false _ (c .before .before .before .before .before .before .before .before .before .before .before .before .if2 .left)) (sym (c .before .before .before .before .before .before .before .before .before .before .before .is-share .ensures) ∙ not-false _ (c .before .before .before .before .before .before .before .before .before .before .if3 .left)) _ _
+    (rw (c .before .before .at-most .ensures, c .before .before .before .cached-part .ensures, c .new .ensures .0) refl)
+    (let e = c .before .before .before .before .clear .ensures in rw (e .0, e .1 .0, e .1 .1 .0, c .new .ensures .1, e .1 .1 .1 .0, e .1 .1 .1 .1) refl)
 
 pub new-spec : {M : Type 1} → statement M
 new-spec =
@@ -66,9 +68,10 @@ new-spec =
     returns-3
     clear-requires
     cast-c
-    sub-cached-of
-    cached-of-requires
+    cached-part-requires
+    sub-at-most
+    at-most-requires
     sub-new
     new-requires
-    sub-t22
+    sub-t23
     returns-4)

@@ -1,8 +1,8 @@
 -- `put_back` meets its contract: the stack always has a row left. Assumes nothing.
-use Rattle.randomcuttree.proofs.Manager.{put-back-done, put-back-full}
+use Rattle.treestore.proofs.Manager.{put-back-done, put-back-full}
 use borrow.Author.Needs.{needs}
-use Rattle.randomcuttree.proofs.put_back.Statement.{statement}
-use Rattle.randomcuttree.proofs.put_back.Tie as tie
+use Rattle.treestore.proofs.put_back.Statement.{statement}
+use Rattle.treestore.proofs.put_back.Tie as tie
 
 release-requires : tie.Need-release-requires
 release-requires c κs = search needs

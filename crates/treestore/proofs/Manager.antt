@@ -15,7 +15,7 @@ use Rattle.intervalstoremanager.specs.Stack.{next, afterGet, afterRelease, hold
 use Rattle.intervalstoremanager.proofs.Sizes.{few-intervals, never-full}
 use Rattle.intervalstoremanager.proofs.Layouts.{get-on-stack}
 use Rattle.cuttree.proofs.Tests.{nonsense}
-use Rattle.randomcuttree.specs.State.{managerOf}
+use Rattle.treestore.specs.Arrays.{managerOf}
 
 -- a stack that is not empty hands out its next number
 got-some : (m : IntervalStoreManager) (u : List (ℕ × ℕ)) → 0 < length u → gotOn m u ≡ Index (next u) (inUse m (length (afterGet u)))

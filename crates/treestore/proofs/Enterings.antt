@@ -1,0 +1,191 @@
+-- A reading that no leaf has entering a tree: what each function that it calls is told, and the tree that they leave. Assumes nothing.
+use mathlib.Core.Path.{_≡_, refl, sym, ap, _∙_, subst}
+use mathlib.Core.Bool.{Bool}
+use mathlib.Core.Option.{some}
+use mathlib.Core.List.{List, []}
+use Prim.Native.Nat.{ℕ, suc, _-_, _+_, _≤_, _<_}
+use native.Mathlib.Omega.{arith}
+use lib.ListN.{getD, take}
+use lib.Ieee.{Float, le}
+use Rattle.limits.specs.Limits.{width, capacityLimit, branchLimit, pointLimit}
+use Rattle.boundingbox.specs.Ends.{channel, joined, least, greatest}
+use Rattle.intervalstoremanager.specs.declared.IntervalStoreManager.{IntervalStoreManager}
+use Rattle.intervalstoremanager.specs.declared.Got.{Got}
+use Rattle.intervalstoremanager.specs.declared.Got.the-variants.{Index, Empty}
+use Rattle.intervalstoremanager.specs.Rows.{layout, gotOf, rowsGot}
+use Rattle.intervalstoremanager.specs.Stack.{next, afterGet, Proper}
+use Rattle.cuttree.specs.Setting.{Cut, below}
+use Rattle.cuttree.specs.Tree.{Tree, id, height, insert, above}
+use Rattle.cuttree.specs.Walk.{sub, kept, graft}
+use Rattle.cuttree.proofs.Leaves.{all-ending}
+use Rattle.cuttree.proofs.Loop.{kept-height, insert-loop}
+use Rattle.wholetree.specs.Reading.{Reading, coordinate}
+use Rattle.wholetree.specs.Whole.{whole}
+use Rattle.wholetree.proofs.Readings.{coordinate-is}
+use Rattle.wholetree.proofs.Laws.{whole-laws}
+use Rattle.layout.specs.Slots.{lowOf, highOf}
+use Rattle.layout.proofs.Ranges.{range-ending}
+use Rattle.nodestore.specs.Stored.{Arrays, Graft, SomeGraft}
+use Rattle.boxstore.specs.Edited.{Walked, Grafted, GrownAbove, lowsOf, highsOf}
+use Rattle.boxstore.specs.Written.{written}
+use Rattle.boxstore.proofs.Ends.{least-end, most-end, least-ends, most-ends}
+use Rattle.boxstore.proofs.Grafts.{box-above}
+use Rattle.cut.specs.declared.Cut.{Cut as FloatCut}
+use Rattle.drawing.specs.declared.Highest.{Highest}
+use Rattle.drawing.specs.Drawing.{Drawing, SomeDrawing, Kept, noCut, wordAt}
+use Rattle.treestore.specs.Arrays.{Lent, lent, managerOf, Leaves}
+use Rattle.treestore.specs.Edits.{Walking}
+use Rattle.treestore.specs.Enters.{Entering}
+use Rattle.treestore.proofs.Channels.{kept-channel}
+use Rattle.treestore.proofs.Leaves.{leaves}
+use Rattle.treestore.proofs.Manager.{get-done, get-empty}
+use Rattle.treestore.proofs.Removes.{free-are, lows-are, highs-are}
+
+module _ {d c k : ℕ} {t : Tree (whole d)} {u : List (ℕ × ℕ)} {p : Reading} {root : ℕ} {manager : IntervalStoreManager} {a : Lent} {points : List (List Float)} {path : List (List ℕ)} {n leaf index : ℕ} {words : List ℕ} {point : List Float}
+    (E : Entering d c k t u p root manager a points path n leaf index words point) where
+  abbrev W : Walking d c k t u p root manager a points path n leaf point
+  W = E .walking
+
+  pub cached-few : k ≤ branchLimit
+  cached-few = omega (arith, W .cached-few, W .small)
+
+  pub above-few : (h : ℕ) → n - 1 - h ≤ capacityLimit
+  above-few h = omega (arith, W .walked .most)
+
+  size-is : manager .capacity ≡ c - 1
+  size-is = ap (λ (x : IntervalStoreManager). x .capacity) (W .manager-is)
+
+  manager-of : manager ≡ managerOf (manager .capacity) u
+  manager-of = subst (λ x. manager ≡ managerOf x u) (sym size-is) (W .manager-is)
+
+  proper : Proper (manager .capacity) u
+  proper = subst (λ x. Proper x u) (sym size-is) (W .proper)
+
+  size-few : manager .capacity ≤ branchLimit
+  size-few = omega (arith, size-is, W .small)
+
+  rows-are : a .free ≡ layout u
+  rows-are = free-are W
+
+  -- there is a free number
+  pub not-empty : {A : Type 0} (got : Got) → got ≡ gotOf manager (a .free) → got ≡ Empty → A
+  not-empty = get-empty manager (a .free) u manager-of rows-are size-few proper (W .free-once) (E .some-free)
+
+  -- w is the capacity, widened
+  module _ (w : ℕ) (Q : w ≡ c) where
+    drawing : Drawing d w t p k (a .nodes) points (a .lows) (a .highs) path n leaf words point
+    drawing = subst (λ x. Drawing d x t p k (a .nodes) points (a .lows) (a .highs) path n leaf words point) (sym Q) (record {
+      boxed = W .boxed;
+      once = W .once;
+      count = W .walked .count;
+      most = W .walked .most;
+      is-trail = W .walked .is-trail;
+      enough = E .enough;
+      row = W .row;
+      leaf-small = subst (λ x. x < pointLimit) (sym (W .index-is)) (range-ending d c p t (W .boxed .in-range));
+      leaf-row = ap (λ x. getD points x []) (W .index-is) ∙ all-ending (whole d) (λ i q n. getD points i [] ≡ q .row) p t (W .boxed .leaves);
+    })
+
+    pub some-drawing : (w ≤ capacityLimit) × SomeDrawing w k (a .nodes) points (a .lows) (a .highs) path n leaf words point
+    some-drawing = (omega (arith, W .small), record { channels = d; tree = t; reading = p; drawing = drawing })
+
+    -- the highest cut
+    module _ (r : Highest) (H : (d : ℕ) (t : Tree (whole d)) (p : Reading) → Drawing d w t p k (a .nodes) points (a .lows) (a .highs) path n leaf words point → Kept d w t p words n r) where
+      K : Kept d c t p words n r
+      K = subst (λ x. Kept d x t p words n r) Q (H d t p drawing)
+
+      abbrev cut : Cut (whole d)
+      cut = kept (whole d) t p (wordAt words) (noCut d) n .1
+
+      pub height-low : r .height ≤ n - 1
+      height-low =
+          let z : n ≡ suc (height (whole d) t p) = W .walked .count in
+          let y : kept (whole d) t p (wordAt words) (noCut d) n .0 ≤ height (whole d) t p = subst (λ x. kept (whole d) t p (wordAt words) (noCut d) x .0 ≤ height (whole d) t p) (sym z) (kept-height (whole d) (whole-laws d) p t (wordAt words) (noCut d) (height (whole d) t p) (E .absent)) in
+          omega (arith, K .height-is)
+
+      place : (n - 1 - r .height) + r .height ≡ height (whole d) t p
+      place = omega (arith, height-low, W .walked .count)
+
+      channel-low : cut .channel < width
+      channel-low = kept-channel d t p (wordAt words) n
+
+      pub dimension-low : r .cut .dimension < width
+      dimension-low = subst (λ x. x < width) (sym (K .channel-is)) channel-low
+
+      left-is : le (channel point (r .cut .dimension)) (r .cut .value) ≡ below (whole d) cut p
+      left-is =
+          let y : channel point (r .cut .dimension) ≡ coordinate p (cut .channel) .value = ap (λ x. channel x (r .cut .dimension)) (W .row) ∙ ap (channel (p .row)) (K .channel-is) ∙ sym (coordinate-is p (cut .channel) channel-low) in
+          ap (λ x. le x (r .cut .value)) y ∙ ap (le (coordinate p (cut .channel) .value)) (K .value-is)
+
+      -- the number that is handed out
+      module _ (b : ℕ) (left-over : IntervalStoreManager) (got : Got) (free′ : List (List ℕ)) (G : got ≡ gotOf manager (a .free)) (F : free′ ≡ rowsGot manager (a .free)) (I : got ≡ Index b left-over) where
+        taken : (b ≡ next u) × (left-over ≡ managerOf (c - 1) (afterGet u)) × (free′ ≡ layout (afterGet u))
+        taken = subst (λ x. (b ≡ next u) × (left-over ≡ managerOf x (afterGet u)) × (free′ ≡ layout (afterGet u))) size-is
+            (get-done manager (a .free) u manager-of rows-are size-few proper (W .free-once) (E .some-free) b left-over got free′ G F I)
+
+        module _ (left : Bool) (B : left ≡ le (channel point (r .cut .dimension)) (r .cut .value)) where
+          grafting : Graft d c (a .nodes) (a .cuts) (a .copies) path (n - 1 - r .height) b index (r .cut) left n t p (r .height) cut
+          grafting = subst (λ x. Graft d c (a .nodes) (a .cuts) (a .copies) path (n - 1 - r .height) x index (r .cut) left n t p (r .height) cut) (sym (taken .0)) (record {
+            stored = W .stored;
+            walked = W .walked;
+            room = E .room;
+            place = place;
+            fresh = E .number-fresh;
+            small = omega (arith, E .number-below, W .small);
+            new = E .index-fresh;
+            index-small = E .index-small;
+            channel-small = channel-low;
+            channel-is = K .channel-is;
+            value-is = K .value-is;
+            left-is = B ∙ left-is;
+          })
+
+          pub some-graft : SomeGraft c (a .nodes) (a .cuts) (a .copies) path (n - 1 - r .height) b index (r .cut) left
+          some-graft = record { channels = d; rows = n; tree = t; reading = p; high = r .height; drawn = cut; graft = grafting }
+
+          abbrev after : Tree (whole d)
+          after = graft (whole d) b index p (r .height, cut) t
+
+          after-is : after ≡ insert (whole d) (next u) index p (wordAt words) t
+          after-is =
+              ap (λ x. graft (whole d) x index p (r .height, cut) t) (taken .0)
+              ∙ ap (λ x. graft (whole d) (next u) index p (x, cut) t) (K .height-is)
+              ∙ ap (λ x. graft (whole d) (next u) index p (kept (whole d) t p (wordAt words) (noCut d) x) t) (W .walked .count)
+              ∙ sym (insert-loop (whole d) (whole-laws d) (next u) index p (wordAt words) (noCut d) t (E .absent))
+
+          -- the new branch's box, and those above it. j is the number, widened
+          module _ (j : ℕ) (J : j ≡ b) (lows highs lows′ highs′ : List (List Float))
+              (L : lows ≡ written k j (joined least (r .«bounding_box» .«min_values») point) (a .lows)) (U : highs ≡ written k j (joined greatest (r .«bounding_box» .«max_values») point) (a .highs))
+              (A : GrownAbove k (n - 1 - r .height) path point lows highs lows′ highs′) where
+            abbrev node : Tree (whole d)
+            node = sub (whole d) t (r .height) p
+
+            low-is : joined least (r .«bounding_box» .«min_values») point ≡ lowOf d c (above (whole d) b cut index p node)
+            low-is = ap (λ x. joined least x point) (K .low) ∙ ap (joined least (lowOf d c node)) (W .row) ∙ box-above d c (least-end d) b index cut p node least (least-ends d)
+
+            high-is : joined greatest (r .«bounding_box» .«max_values») point ≡ highOf d c (above (whole d) b cut index p node)
+            high-is = ap (λ x. joined greatest x point) (K .high) ∙ ap (joined greatest (highOf d c node)) (W .row) ∙ box-above d c (most-end d) b index cut p node greatest (most-ends d)
+
+            walked : Walked d c path point t p
+            walked = record { once = W .once; rows = ap (λ x. take x path) (sym (W .walked .count)) ∙ W .walked .is-trail; row = W .row }
+
+            grafted : Grafted d c k (n - 1 - r .height) lows highs t p b index (r .height) cut
+            grafted = record {
+              above-it = place;
+              fresh = grafting .fresh;
+              low = L ∙ rw (J, low-is, lows-are W) refl;
+              high = U ∙ rw (J, high-is, highs-are W) refl;
+            }
+
+            boxes : (lows′ ≡ lowsOf d c k after) × (highs′ ≡ highsOf d c k after)
+            boxes = A d c t p b index (r .height) cut walked grafted
+
+            -- the rows, the cuts and the copies, and the root
+            module _ (nodes′ : List (List ℕ)) (cuts′ : List Float) (copies′ : List ℕ) (root′ : ℕ)
+                (P : (e m : ℕ) (t : Tree (whole e)) (p : Reading) (h : ℕ) (x : Cut (whole e)) → Graft e c (a .nodes) (a .cuts) (a .copies) path (n - 1 - r .height) b index (r .cut) left m t p h x → Arrays e c nodes′ cuts′ copies′ (some (graft (whole e) b index p (h, x) t)))
+                (R : (e c : ℕ) (nodes : List (List ℕ)) (cuts : List Float) (copies : List ℕ) (path : List (List ℕ)) (i : ℕ) (cut : FloatCut) (left : Bool) (m : ℕ) (t : Tree (whole e)) (p : Reading) (h : ℕ) (x : Cut (whole e))
+                → Graft e c nodes cuts copies path (n - 1 - r .height) b i cut left m t p h x → root ≡ id (whole e) c t → root′ ≡ id (whole e) c (graft (whole e) b i p (h, x) t)) where
+              pub entered : Leaves d c k (some (insert (whole d) (next u) index p (wordAt words) t)) (afterGet u) (record { root = root′; manager = left-over }) (lent nodes′ cuts′ copies′ free′ lows′ highs′)
+              entered = subst (λ o. Leaves d c k (some o) (afterGet u) (record { root = root′; manager = left-over }) (lent nodes′ cuts′ copies′ free′ lows′ highs′)) after-is
+                  (leaves d c k (some after) (afterGet u) root′ left-over _
+                  (R d c (a .nodes) (a .cuts) (a .copies) path index (r .cut) left n t p (r .height) cut grafting (W .root-is)) (taken .1) (P d n t p (r .height) cut grafting) (taken .2) (boxes .0) (boxes .1))

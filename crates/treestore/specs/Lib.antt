@@ -1,0 +1,4 @@
+pub mod Arrays
+pub mod Finds
+pub mod Edits
+pub mod Enters

@@ -1,0 +1,241 @@
+// A whole tree in its lent arrays: looking for a reading, and the edits that put a new value in or take a copy out, which change rows, cuts, copies, free numbers and
+// boxes together. The header is the caller's: an edit answers what it changes of it.
+use intervalstoremanager::Got;
+use intervalstoremanager::IntervalStoreManager;
+use intervalstoremanager::Released;
+use limits::BRANCHES;
+use limits::Copies;
+use limits::Cuts;
+use limits::Free;
+use limits::Nodes;
+use limits::Path;
+use limits::Points;
+use limits::Row;
+ghost use mathlib.Core.Path.{_≡_};
+ghost use mathlib.Core.List.{List};
+ghost use Prim.Native.Nat.{ℕ, _≤_, _<_};
+ghost use lib.ListN.{getD};
+ghost use Rattle.limits.specs.Limits.{branchLimit};
+ghost use Rattle.intervalstoremanager.specs.Rows as Rows;
+ghost use Rattle.intervalstoremanager.specs.Stack.{afterRelease, holds, Proper, Once};
+ghost use Rattle.treestore.specs.Arrays.{lent, managerOf};
+ghost use Rattle.treestore.specs.Finds.{SomeSought, Finds};
+ghost use Rattle.treestore.specs.Edits.{SomeHeld, Forgets};
+ghost use Rattle.treestore.specs.Enters.{SomeEntering, Enters};
+
+// What an edit changes of a tree's header.
+pub struct Edited {
+    pub root: u16,
+    pub manager: IntervalStoreManager,
+}
+
+// A reading's walk: its nodes, the point index of the leaf that it ends in, and whether that leaf has the reading's value.
+pub struct Found {
+    pub nodes: usize,
+    pub leaf: usize,
+    pub held: bool,
+}
+
+// Looks for the reading of an index, in a tree that holds something: its walk is written to the path.
+// Rules out a leaf of another value taken for the reading's own.
+pub fn find(
+    root: u16,
+    capacity: u16,
+    nodes: &Nodes,
+    cuts: &Cuts,
+    points: &Points,
+    index: usize,
+    path: &mut Path,
+) -> Found
+    requires { ⌜ SomeSought capacity root (now nodes) (now cuts) (now points) index ⌝ }
+    ensures { λ r. ⌜ Finds capacity root (now (nodes .entry)) (now (cuts .entry)) (now (points .entry)) index (now (path .entry)) r (now (path .exit)) ⌝ }
+{
+    let n = walk::set_path(nodes, cuts, &points[index], root, capacity, path);
+    let leaf = walk::leaf_at(path, n, capacity);
+    let held = walk::same_point(&points[leaf], &points[index]);
+    Found {
+        nodes: n,
+        leaf,
+        held,
+    }
+}
+
+// A branch number put back. A stack of a tree's branch numbers, each free once at most, always has a row for it.
+fn put_back(manager: IntervalStoreManager, free: &mut Free, b: u16) -> IntervalStoreManager
+    ensures { λ r. ⌜ ((u : List (ℕ × ℕ)) → manager ≡ managerOf (manager .capacity) u → now (free .entry) ≡ Rows.layout u → manager .capacity ≤ branchLimit → Proper (manager .capacity) u → Once u → b < manager .capacity → holds u b ≡ 0
+        → (r ≡ managerOf (manager .capacity) (afterRelease u b)) × (now (free .exit) ≡ Rows.layout (afterRelease u b))) ⌝ }
+{
+    let released = manager.release(free, b);
+    match released {
+        Released::Done(next) => next,
+        Released::Full => manager,
+    }
+}
+
+// The last copy of a leaf below a branch: the sibling takes the branch's place, the branch's number is free again, and the boxes above are repaired.
+fn remove_last(
+    root: u16,
+    manager: IntervalStoreManager,
+    dimensions: usize,
+    capacity: u16,
+    cached: usize,
+    nodes: &mut Nodes,
+    cuts: &mut Cuts,
+    copies: &mut Copies,
+    free: &mut Free,
+    lows: &mut [Row; BRANCHES],
+    highs: &mut [Row; BRANCHES],
+    points: &Points,
+    path: &Path,
+    n: usize,
+    leaf: usize,
+    point: &Row,
+) -> Edited
+    requires held { ⌜ SomeHeld dimensions capacity cached root manager (lent (now nodes) (now cuts) (now copies) (now free) (now lows) (now highs)) (now points) (now path) n leaf (now point) ⌝ }
+    requires last { ⌜ getD (now copies) leaf 0 ≤ 1 ⌝ }
+    requires below { ⌜ 2 ≤ n ⌝ }
+    ensures { λ r. ⌜ Forgets dimensions capacity cached root manager (lent (now (nodes .entry)) (now (cuts .entry)) (now (copies .entry)) (now (free .entry)) (now (lows .entry)) (now (highs .entry))) (now (points .entry)) (now (path .entry)) n leaf (now (point .entry)) r (lent (now (nodes .exit)) (now (cuts .exit)) (now (copies .exit)) (now (free .exit)) (now (lows .exit)) (now (highs .exit))) ⌝ }
+{
+    let sibling = nodestore::lifted_root(root, path, n);
+    let b = nodestore::remove_leaf(nodes, cuts, copies, path, n, leaf);
+    let left = put_back(manager, free, b);
+    boxstore::clear_box(lows, highs, casts::wide16(b), cached);
+    boxstore::repair_ancestors(
+        lows,
+        highs,
+        nodes,
+        points,
+        path,
+        n - 2,
+        point,
+        dimensions,
+        casts::wide16(capacity),
+        cached,
+    );
+    Edited {
+        root: sibling,
+        manager: left,
+    }
+}
+
+// One copy less of the leaf that the path ends in.
+// Rules out a branch's number that is lost when its leaf goes.
+pub fn remove_copy(
+    root: u16,
+    manager: IntervalStoreManager,
+    dimensions: usize,
+    capacity: u16,
+    cached: usize,
+    nodes: &mut Nodes,
+    cuts: &mut Cuts,
+    copies: &mut Copies,
+    free: &mut Free,
+    lows: &mut [Row; BRANCHES],
+    highs: &mut [Row; BRANCHES],
+    points: &Points,
+    path: &Path,
+    n: usize,
+    leaf: usize,
+    point: &Row,
+) -> Edited
+    requires held { ⌜ SomeHeld dimensions capacity cached root manager (lent (now nodes) (now cuts) (now copies) (now free) (now lows) (now highs)) (now points) (now path) n leaf (now point) ⌝ }
+    ensures { λ r. ⌜ Forgets dimensions capacity cached root manager (lent (now (nodes .entry)) (now (cuts .entry)) (now (copies .entry)) (now (free .entry)) (now (lows .entry)) (now (highs .entry))) (now (points .entry)) (now (path .entry)) n leaf (now (point .entry)) r (lent (now (nodes .exit)) (now (cuts .exit)) (now (copies .exit)) (now (free .exit)) (now (lows .exit)) (now (highs .exit))) ⌝ }
+{
+    if 1 < copies[leaf] {
+        nodestore::drop_copy(nodes, copies, path, n, leaf);
+        return Edited { root, manager };
+    }
+    if n < 2 {
+        nodestore::remove_root(copies, leaf);
+        return Edited {
+            root: capacity - 1,
+            manager,
+        };
+    }
+    remove_last(
+        root,
+        manager,
+        dimensions,
+        capacity,
+        cached,
+        nodes,
+        cuts,
+        copies,
+        free,
+        lows,
+        highs,
+        points,
+        path,
+        n,
+        leaf,
+        point,
+    )
+}
+
+// A reading that no leaf has: the highest cut that parts, a free number for the new branch, its row and its box, and the boxes above it grown.
+// Rules out a cut of the tree's own choosing.
+pub fn insert_leaf(
+    root: u16,
+    manager: IntervalStoreManager,
+    capacity: u16,
+    cached: usize,
+    nodes: &mut Nodes,
+    cuts: &mut Cuts,
+    copies: &mut Copies,
+    free: &mut Free,
+    lows: &mut [Row; BRANCHES],
+    highs: &mut [Row; BRANCHES],
+    points: &Points,
+    path: &Path,
+    n: usize,
+    leaf: usize,
+    index: usize,
+    words: &[u64],
+    point: &Row,
+) -> Edited
+    requires { ⌜ SomeEntering capacity cached root manager (lent (now nodes) (now cuts) (now copies) (now free) (now lows) (now highs)) (now points) (now path) n leaf index (now words) (now point) ⌝ }
+    ensures { λ r. ⌜ Enters capacity cached root manager (lent (now (nodes .entry)) (now (cuts .entry)) (now (copies .entry)) (now (free .entry)) (now (lows .entry)) (now (highs .entry))) (now (points .entry)) (now (path .entry)) n leaf index (now (words .entry)) (now (point .entry)) r (lent (now (nodes .exit)) (now (cuts .exit)) (now (copies .exit)) (now (free .exit)) (now (lows .exit)) (now (highs .exit))) ⌝ }
+{
+    let highest = drawing::highest_cut(
+        nodes,
+        points,
+        lows,
+        highs,
+        path,
+        n,
+        leaf,
+        words,
+        point,
+        casts::wide16(capacity),
+        cached,
+    );
+    let above = n - 1 - highest.height;
+    let got = manager.get(free);
+    match got {
+        Got::Index(b, rest) => {
+            let dimension = highest.cut.dimension;
+            let left = point[dimension] <= highest.cut.value;
+            nodestore::place_branch(
+                nodes,
+                cuts,
+                copies,
+                path,
+                above,
+                b,
+                index,
+                highest.cut,
+                left,
+                capacity,
+            );
+            let below = highest.bounding_box;
+            boxstore::copy_box_above(lows, highs, casts::wide16(b), below, point, cached);
+            boxstore::grow_ancestors(lows, highs, path, above, point, cached);
+            let top = nodestore::placed_root(root, above, b);
+            Edited {
+                root: top,
+                manager: rest,
+            }
+        }
+        Got::Empty => Edited { root, manager },
+    }
+}
