@@ -64,13 +64,13 @@ filled zero xs = []
 filled (suc n) [] = 0 ∷ filled n []
 filled (suc n) (x ∷ xs) = x ∷ filled n xs
 
--- a tree of d channels, capacity c and k cached branches
-module _ (d c k : ℕ) where
+-- a tree of d channels, capacity c and the cached share s
+module _ (d c : ℕ) (s : Float) where
   -- what a call's answer, and the world after it, say
   abbrev pub said : Call (whole d) → Answer (whole d) × World (whole d) → List ℕ
   said (put i x) r = putNumbers (putSays d (r .0))
-  said (add i ws) r = addNumbers (addSays d (headerOf d c k (r .1)) (r .0))
-  said (delete i) r = deleteNumbers (deleteSays d (headerOf d c k (r .1)) (r .0))
+  said (add i ws) r = addNumbers (addSays d (headerOf d c s (r .1)) (r .0))
+  said (delete i) r = deleteNumbers (deleteSays d (headerOf d c s (r .1)) (r .0))
   said (query (copiesOf x)) r = copiesNumbers (copiesSay d (r .0))
   said (query (branchOf x)) r = branchNumbers (branchSays d (r .0))
   said (query (boxOf x)) r = boxNumbers d (boxSays d (r .0))

@@ -20,20 +20,20 @@ use Rattle.wholetree.specs.Whole.{whole}
 use Rattle.randomcuttree.specs.declared.RCFTree.{RCFTree}
 use Rattle.randomcuttree.specs.declared.AddAnswer.{AddAnswer}
 use Rattle.randomcuttree.specs.declared.DeleteAnswer.{DeleteAnswer}
-use Rattle.randomcuttree.specs.State.{Lent, State, headerOf}
+use Rattle.treestore.specs.Arrays.{Lent}
+use Rattle.randomcuttree.specs.State.{State, headerOf}
 use Rattle.randomcuttree.specs.Answers.{addSays, deleteSays, AddDone, DeleteDone}
-use Rattle.randomcuttree.proofs.Calls.{header-is}
 use Rattle.answers.specs.Said.{filled, addNumbers, deleteNumbers, replyWidth}
 use Rattle.calls.specs.Done.{Does, headerAdded, headerDeleted}
 
-module _ (d c k : ℕ) (W : World (whole d)) where
+module _ (d c : ℕ) (s : Float) (W : World (whole d)) where
   by-point : (P : Answer (whole d) × World (whole d) → Type 0) (o : Option Reading) (g : Reading → Answer (whole d) × World (whole d)) → P (refused neverWritten, W) → ((p : Reading) → P (g p)) → P (withPoint (whole d) W o g)
   by-point P none g h f = h
   by-point P (some p) g h f = f p
 
   -- the header that an add gives back is that of the world after it: a refused one leaves the world
   abbrev Added : Answer (whole d) × World (whole d) → Type 0
-  Added x = headerAdded (headerOf d c k W) (addSays d (headerOf d c k (x .1)) (x .0)) ≡ headerOf d c k (x .1)
+  Added x = headerAdded (headerOf d c s W) (addSays d (headerOf d c s (x .1)) (x .0)) ≡ headerOf d c s (x .1)
 
   enter-header : (o : Option (Tree (whole d))) (i : ℕ) (p : Reading) (ws : List ℕ) → Added (enter (whole d) c W o i p ws)
   enter-header none i p ws = refl
@@ -44,7 +44,7 @@ module _ (d c k : ℕ) (W : World (whole d)) where
 
   -- and so for a delete
   abbrev Deleted : Answer (whole d) × World (whole d) → Type 0
-  Deleted x = headerDeleted (headerOf d c k W) (deleteSays d (headerOf d c k (x .1)) (x .0)) ≡ headerOf d c k (x .1)
+  Deleted x = headerDeleted (headerOf d c s W) (deleteSays d (headerOf d c s (x .1)) (x .0)) ≡ headerOf d c s (x .1)
 
   leave-header : (o : Option (Tree (whole d))) (p : Reading) → Deleted (leave (whole d) W o p)
   leave-header none p = refl
@@ -64,21 +64,21 @@ module _ (d c k : ℕ) (W : World (whole d)) where
 pub add-does : (tree : RCFTree) (a : Lent) (points : List (List Float)) (marks : List ℕ) (i : ℕ) (first : List ℕ) (r : AddAnswer) (b : Lent) (next : RCFTree) (reply : List ℕ)
     → AddDone tree a points marks i first r b → next ≡ headerAdded tree r → reply ≡ filled replyWidth (addNumbers r)
     → (ws : List ℕ) → first ≡ take capacityLimit ws → Does (λ d. add i ws) tree a points marks next b points marks reply
-add-does tree a points marks i first r b next reply D f g ws s d c k W S =
-    let C = D d c k W S in
-    let new : next ≡ headerOf d c k (call (whole d) c W (add i first) .1) = f ∙ ap (λ t. headerAdded t r) (header-is d c k W tree a points marks S) ∙ ap (headerAdded (headerOf d c k W)) (C .answer) ∙ add-header d c k W i first in
-    let same : call (whole d) c W (add i first) ≡ call (whole d) c W (add i ws) = ap (λ (y : List ℕ). call (whole d) c W (add i y)) s ∙ add-alike d c k W (S .limits .3) i ws in
+add-does tree a points marks i first r b next reply D f g ws e d c s W S =
+    let C = D d c s W S in
+    let new : next ≡ headerOf d c s (call (whole d) c W (add i first) .1) = f ∙ ap (λ t. headerAdded t r) (S .header-is) ∙ ap (headerAdded (headerOf d c s W)) (C .answer) ∙ add-header d c s W i first in
+    let same : call (whole d) c W (add i first) ≡ call (whole d) c W (add i ws) = ap (λ (y : List ℕ). call (whole d) c W (add i y)) e ∙ add-alike d c s W (S .limits .3) i ws in
     record {
-      reply-is = g ∙ ap (λ y. filled replyWidth (addNumbers y)) (C .answer ∙ ap (λ (y : Answer (whole d) × World (whole d)). addSays d (headerOf d c k (y .1)) (y .0)) same);
-      state = subst (λ (y : Answer (whole d) × World (whole d)). State d c k (y .1) next b points marks) same (subst (λ t. State d c k (call (whole d) c W (add i first) .1) t b points marks) (sym new) (C .state));
+      reply-is = g ∙ ap (λ y. filled replyWidth (addNumbers y)) (C .answer ∙ ap (λ (y : Answer (whole d) × World (whole d)). addSays d (headerOf d c s (y .1)) (y .0)) same);
+      state = subst (λ (y : Answer (whole d) × World (whole d)). State d c s (y .1) next b points marks) same (subst (λ t. State d c s (call (whole d) c W (add i first) .1) t b points marks) (sym new) (C .state));
     }
 
 pub delete-does : (tree : RCFTree) (a : Lent) (points : List (List Float)) (marks : List ℕ) (i : ℕ) (r : DeleteAnswer) (b : Lent) (next : RCFTree) (reply : List ℕ)
     → DeleteDone tree a points marks i r b → next ≡ headerDeleted tree r → reply ≡ filled replyWidth (deleteNumbers r) → Does (λ d. delete i) tree a points marks next b points marks reply
-delete-does tree a points marks i r b next reply D f g d c k W S =
-    let C = D d c k W S in
-    let new : next ≡ headerOf d c k (call (whole d) c W (delete i) .1) = f ∙ ap (λ t. headerDeleted t r) (header-is d c k W tree a points marks S) ∙ ap (headerDeleted (headerOf d c k W)) (C .answer) ∙ delete-header d c k W i in
+delete-does tree a points marks i r b next reply D f g d c s W S =
+    let C = D d c s W S in
+    let new : next ≡ headerOf d c s (call (whole d) c W (delete i) .1) = f ∙ ap (λ t. headerDeleted t r) (S .header-is) ∙ ap (headerDeleted (headerOf d c s W)) (C .answer) ∙ delete-header d c s W i in
     record {
       reply-is = g ∙ ap (λ y. filled replyWidth (deleteNumbers y)) (C .answer);
-      state = subst (λ t. State d c k (call (whole d) c W (delete i) .1) t b points marks) (sym new) (C .state);
+      state = subst (λ t. State d c s (call (whole d) c W (delete i) .1) t b points marks) (sym new) (C .state);
     }

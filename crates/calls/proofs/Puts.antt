@@ -17,7 +17,9 @@ use Rattle.pointstore.specs.declared.PutAnswer.{PutAnswer}
 use Rattle.pointstore.specs.Puts.{putSays, Puts, Tabled}
 use Rattle.pointstore.proofs.Puts.{puts-are-calls}
 use Rattle.randomcuttree.specs.declared.RCFTree.{RCFTree}
-use Rattle.randomcuttree.specs.State.{Lent, State}
+use Rattle.randomcuttree.proofs.Parts.{dimensions-are}
+use Rattle.treestore.specs.Arrays.{Lent}
+use Rattle.randomcuttree.specs.State.{State}
 use Rattle.randomcuttree.proofs.Standing.{puts-keep}
 use Rattle.answers.specs.Said.{filled, putNumbers, replyWidth}
 use Rattle.calls.specs.Done.{Does}
@@ -36,11 +38,11 @@ module _ (d c : ℕ) (W : World (whole d)) (i : ℕ) where
 pub put-does : (tree : RCFTree) (copies : List ℕ) (points points′ : List (List Float)) (marks marks′ : List ℕ) (i : ℕ) (first : List Float) (r : PutAnswer) (reply : List ℕ)
     → Puts (tree .dimensions) copies i first points marks points′ marks′ r → reply ≡ filled replyWidth (putNumbers r)
     → (a : Lent) (xs : List Float) → a .copies ≡ copies → first ≡ take (width + 1) xs → Does (λ d. put i xs) tree a points marks tree a points′ marks′ reply
-put-does tree copies points points′ marks marks′ i first r reply D f a xs g s d c k W S =
-    let K = puts-keep d c k W tree a points marks S in
-    let P = puts-are-calls d c W i first points marks copies points′ marks′ r (subst (λ (y : List ℕ). Tabled d c W points marks y) g (K .0)) (subst (λ (y : ℕ). Puts y copies i first points marks points′ marks′ r) (S .dimensions-are) D) in
-    let same : call (whole d) c W (put i first) ≡ call (whole d) c W (put i xs) = ap (λ (y : List Float). call (whole d) c W (put i y)) s ∙ put-alike d c W i (S .limits .1) xs in
+put-does tree copies points points′ marks marks′ i first r reply D f a xs g e d c s W S =
+    let K = puts-keep d c s W tree a points marks S in
+    let P = puts-are-calls d c W i first points marks copies points′ marks′ r (subst (λ (y : List ℕ). Tabled d c W points marks y) g (K .0)) (subst (λ (y : ℕ). Puts y copies i first points marks points′ marks′ r) (dimensions-are S) D) in
+    let same : call (whole d) c W (put i first) ≡ call (whole d) c W (put i xs) = ap (λ (y : List Float). call (whole d) c W (put i y)) e ∙ put-alike d c W i (S .limits .1) xs in
     record {
       reply-is = f ∙ ap (λ y. filled replyWidth (putNumbers y)) (P .answer ∙ ap (λ (y : Answer (whole d) × World (whole d)). putSays d (y .0)) same);
-      state = subst (λ (y : Answer (whole d) × World (whole d)). State d c k (y .1) tree a points′ marks′) same (K .1 i first points′ marks′ r P);
+      state = subst (λ (y : Answer (whole d) × World (whole d)). State d c s (y .1) tree a points′ marks′) same (K .1 i first points′ marks′ r P);
     }

@@ -9,10 +9,11 @@ use Rattle.limits.specs.Limits.{width}
 use Rattle.cuttree.specs.Run.{Query, query, copiesOf, branchOf, boxOf}
 use Rattle.cuttree.proofs.Tests.{cond-true, cond-false}
 use Rattle.randomcuttree.specs.declared.RCFTree.{RCFTree}
+use Rattle.randomcuttree.proofs.Parts.{dimensions-are}
 use Rattle.randomcuttree.specs.declared.CopiesAnswer.{CopiesAnswer}
 use Rattle.randomcuttree.specs.declared.BranchAnswer.{BranchAnswer}
 use Rattle.randomcuttree.specs.declared.BoxAnswer.{BoxAnswer}
-use Rattle.randomcuttree.specs.State.{Lent}
+use Rattle.treestore.specs.Arrays.{Lent}
 use Rattle.randomcuttree.specs.Queries.{CopiesTold, BranchTold, BoxTold, BoxRead}
 use Rattle.answers.specs.Said.{filled, copiesNumbers, branchNumbers, boxNumbers, replyWidth}
 use Rattle.calls.specs.Done.{Does, Done, queryOf}
@@ -20,25 +21,25 @@ use Rattle.calls.specs.Done.{Does, Done, queryOf}
 module _ (tree : RCFTree) (k x : ℕ) (reply : List ℕ) where
   -- of the query that the kind k asks
   asked : (a : Lent) (points : List (List Float)) (marks : List ℕ) (q : Query) → queryOf k x ≡ q → Does (λ d. query q) tree a points marks tree a points marks reply → Does (λ d. query (queryOf k x)) tree a points marks tree a points marks reply
-  asked a points marks q e D d c j W S = subst (λ (z : Query). Done d c j W (query z) tree a points marks reply) (sym e) (D d c j W S)
+  asked a points marks q e D d c s W S = subst (λ (z : Query). Done d c s W (query z) tree a points marks reply) (sym e) (D d c s W S)
 
   pub copies-does : k ≡ 8 → (copies : List ℕ) (r : CopiesAnswer) → CopiesTold tree copies x r → reply ≡ filled replyWidth (copiesNumbers r)
       → (a : Lent) (points : List (List Float)) (marks : List ℕ) → a .copies ≡ copies → Does (λ d. query (queryOf k x)) tree a points marks tree a points marks reply
-  copies-does e copies r T f a points marks g = asked a points marks (copiesOf x) (cond-true _ _ _ (eq-eqb k 8 e)) (λ d c j W S. record {
-    reply-is = f ∙ ap (λ y. filled replyWidth (copiesNumbers y)) (T d c j W a points marks S g);
+  copies-does e copies r T f a points marks g = asked a points marks (copiesOf x) (cond-true _ _ _ (eq-eqb k 8 e)) (λ d c s W S. record {
+    reply-is = f ∙ ap (λ y. filled replyWidth (copiesNumbers y)) (T d c s W a points marks S g);
     state = S;
   })
 
   pub branch-does : (k ≡ 8 → ⊥) → k ≡ 9 → (nodes : List (List ℕ)) (cuts : List Float) (r : BranchAnswer) → BranchTold tree nodes cuts x r → reply ≡ filled replyWidth (branchNumbers r)
       → (a : Lent) (points : List (List Float)) (marks : List ℕ) → a .nodes ≡ nodes → a .cuts ≡ cuts → Does (λ d. query (queryOf k x)) tree a points marks tree a points marks reply
-  branch-does n e nodes cuts r T f a points marks g h = asked a points marks (branchOf x) (cond-false _ _ _ (ne-eqb k 8 n) ∙ cond-true _ _ _ (eq-eqb k 9 e)) (λ d c j W S. record {
-    reply-is = f ∙ ap (λ y. filled replyWidth (branchNumbers y)) (T d c j W a points marks S g h);
+  branch-does n e nodes cuts r T f a points marks g h = asked a points marks (branchOf x) (cond-false _ _ _ (ne-eqb k 8 n) ∙ cond-true _ _ _ (eq-eqb k 9 e)) (λ d c s W S. record {
+    reply-is = f ∙ ap (λ y. filled replyWidth (branchNumbers y)) (T d c s W a points marks S g h);
     state = S;
   })
 
   pub box-does : (k ≡ 8 → ⊥) → (k ≡ 9 → ⊥) → (nodes : List (List ℕ)) (points lows highs : List (List Float)) (r : BoxAnswer) → BoxTold tree nodes points lows highs x r → reply ≡ filled replyWidth (boxNumbers (min (tree .dimensions) width) r)
       → (a : Lent) (marks : List ℕ) → BoxRead a nodes lows highs → Does (λ d. query (queryOf k x)) tree a points marks tree a points marks reply
-  box-does n m nodes points lows highs r T f a marks g = asked a points marks (boxOf x) (cond-false _ _ _ (ne-eqb k 8 n) ∙ cond-false _ _ _ (ne-eqb k 9 m)) (λ d c j W S. record {
-    reply-is = f ∙ ap (λ y. filled replyWidth (boxNumbers y r)) (ap (λ (n : ℕ). min n width) (S .dimensions-are) ∙ min-eq-left (S .limits .1)) ∙ ap (λ y. filled replyWidth (boxNumbers d y)) (T d c j W a marks S g);
+  box-does n m nodes points lows highs r T f a marks g = asked a points marks (boxOf x) (cond-false _ _ _ (ne-eqb k 8 n) ∙ cond-false _ _ _ (ne-eqb k 9 m)) (λ d c s W S. record {
+    reply-is = f ∙ ap (λ y. filled replyWidth (boxNumbers y r)) (ap (λ (n : ℕ). min n width) (dimensions-are S) ∙ min-eq-left (S .limits .1)) ∙ ap (λ y. filled replyWidth (boxNumbers d y)) (T d c s W a marks S g);
     state = S;
   })

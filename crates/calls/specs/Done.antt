@@ -8,7 +8,8 @@ use lib.Dec.{eqb}
 use Rattle.cuttree.specs.Run.{World, Call, call, Query, copiesOf, branchOf, boxOf}
 use Rattle.wholetree.specs.Whole.{whole}
 use Rattle.randomcuttree.specs.declared.RCFTree.{RCFTree}
-use Rattle.randomcuttree.specs.State.{Lent, State}
+use Rattle.treestore.specs.Arrays.{Lent}
+use Rattle.randomcuttree.specs.State.{State}
 use Rattle.randomcuttree.specs.declared.AddAnswer.{AddAnswer}
 use Rattle.randomcuttree.specs.declared.AddAnswer.the-variants.{Added, NotAdded}
 use Rattle.randomcuttree.specs.declared.DeleteAnswer.{DeleteAnswer}
@@ -16,14 +17,14 @@ use Rattle.randomcuttree.specs.declared.DeleteAnswer.the-variants.{Deleted, Not
 use Rattle.answers.specs.Said.{filled, said, replyWidth}
 
 -- the numbers of the answer, with 0 after them, and a state of the world after the call
-pub record Done (d c k : ℕ) (W : World (whole d)) (x : Call (whole d)) (tree : RCFTree) (a : Lent) (points : List (List Float)) (marks reply : List ℕ) : Type 0 where
-  pub reply-is : reply ≡ filled replyWidth (said d c k x (call (whole d) c W x))
-  pub state : State d c k (call (whole d) c W x .1) tree a points marks
+pub record Done (d c : ℕ) (s : Float) (W : World (whole d)) (x : Call (whole d)) (tree : RCFTree) (a : Lent) (points : List (List Float)) (marks reply : List ℕ) : Type 0 where
+  pub reply-is : reply ≡ filled replyWidth (said d c s x (call (whole d) c W x))
+  pub state : State d c s (call (whole d) c W x .1) tree a points marks
 
 -- A call, whichever world's the lent state is: header, arrays and table before it, then after it.
 abbrev pub Does : ((d : ℕ) → Call (whole d)) → RCFTree → Lent → List (List Float) → List ℕ → RCFTree → Lent → List (List Float) → List ℕ → List ℕ → Type 0
 Does x tree a points marks tree′ a′ points′ marks′ reply =
-    (d c k : ℕ) (W : World (whole d)) → State d c k W tree a points marks → Done d c k W (x d) tree′ a′ points′ marks′ reply
+    (d c : ℕ) (s : Float) (W : World (whole d)) → State d c s W tree a points marks → Done d c s W (x d) tree′ a′ points′ marks′ reply
 
 -- the header after an answer: a refused call's is the one before
 abbrev pub headerAdded : RCFTree → AddAnswer → RCFTree

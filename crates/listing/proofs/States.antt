@@ -1,6 +1,7 @@
 -- The tree of a state stands in its arrays, to be printed from them; and how long its lines are. Laws.
 use mathlib.Core.Path.{_≡_, refl, sym, ap, _∙_}
 use mathlib.Core.Option.{Option, none, some}
+use mathlib.Core.Bool.{true}
 use mathlib.Core.List.{List, []}
 use Prim.Native.Nat.{ℕ, suc, _+_, _-_, _*_, _≤_, _<_}
 use native.Mathlib.Omega.{arith}
@@ -9,6 +10,7 @@ use lib.ListN.{length, getD, length-append}
 use lib.Ieee.{Float, nan, binary32, toBits}
 use borrow.Author.Tests.{eqb-true, eqb-false}
 use Rattle.limits.specs.Limits.{width, capacityLimit, branchLimit, pointLimit}
+use Rattle.readings.specs.Share.{isShare}
 use Rattle.boundingbox.specs.Sides.{nought}
 use Rattle.lines.specs.Lines.{namesLine, Wrote}
 use Rattle.lines.proofs.Lengths.{branch-few, leaf-few}
@@ -30,10 +32,11 @@ use Rattle.layout.specs.Stands.{Once, InRange}
 use Rattle.layout.proofs.Tabs.{entry-of}
 use Rattle.layout.proofs.Slots.{tab-laid}
 use Rattle.randomcuttree.specs.declared.RCFTree.{RCFTree}
-use Rattle.randomcuttree.specs.State.{InRow, Lent, State, headerOf}
-use Rattle.randomcuttree.specs.Standing.{arraysOf}
-use Rattle.randomcuttree.proofs.Lookups.{once}
-use Rattle.randomcuttree.proofs.Boxings.{boxed}
+use Rattle.randomcuttree.specs.State.{cachedBy, State, headerOf}
+use Rattle.treestore.specs.Arrays.{Lent, arraysOf}
+use Rattle.randomcuttree.proofs.Parts.{capacity-is, root-is}
+use Rattle.randomcuttree.proofs.Given.{sound, in-range, once, stored}
+use Rattle.randomcuttree.proofs.Calls.{no-tree, a-tree}
 use Rattle.randomcuttree.proofs.Standing.{states-stand}
 use Rattle.listing.specs.Listing.{linesOf, Listed, SomeListed, PrintsNode}
 use Rattle.listing.specs.Printed.{printedTree, SomeRead, PrintsTree}
@@ -73,12 +76,9 @@ module _ (d c : ℕ) (f : ℕ → Option Reading) (t : Tree (whole d)) (u : List
       let e : branches d t + length u ≤ c - 1 = intervals-few (whole d) c (whole-laws d) f t u H in
       omega arith
 
-  -- it has copies
-  some-total : 0 < total (whole d) t
-  some-total = omega (arith, leaves-branches (whole d) t, leaves-total (whole d) t (H .filled))
 
 -- A STATE'S TREE
-module _ (d c k : ℕ) (W : World (whole d)) (tree : RCFTree) (a : Lent) (points : List (List Float)) (marks : List ℕ) (S : State d c k W tree a points marks) where
+module _ (d c : ℕ) (s : Float) (W : World (whole d)) (tree : RCFTree) (a : Lent) (points : List (List Float)) (marks : List ℕ) (S : State d c s W tree a points marks) where
   -- the tree that is there where there are copies
   pub record There : Type 0 where
     pub found : Tree (whole d)
@@ -89,43 +89,32 @@ module _ (d c k : ℕ) (W : World (whole d)) (tree : RCFTree) (a : Lent) (points
     pub few : length (linesOf d c found) ≤ 12769
 
   pub there : (tree .total ≡ 0 → ⊥) → There
-  there h = go (W .tree) refl (S .reachable .sound) (S .reachable .in-row) (S .nodes-are) (S .cuts-are) (S .copies-are) (S .lows-are) (S .highs-are)
-    where
-      go : (o : Option (Tree (whole d))) → W .tree ≡ o → Sound (whole d) c (record { table = W .table; tree = o; free = W .free }) → OfTree (whole d) (InRow d) o
-          → a .nodes ≡ tab branchLimit (slotIn d c k (rowOf d c) noRow o) → a .cuts ≡ tab branchLimit (slotIn d c k (cutOf d c) nought o) → a .copies ≡ tab pointLimit (countIn d c k o)
-          → a .lows ≡ tab branchLimit (boxIn d c k (lowOf d c) o) → a .highs ≡ tab branchLimit (boxIn d c k (highOf d c) o) → There
-      go none e H I N X C L G = absurd (h (S .total-is ∙ ap (totalOf (whole d)) e))
-      go (some t) e H I N X C L G =
-          let m = S .limits .3 in
-          let R = boxed d c (W .table) t (W .free) H k (a .nodes) points (a .lows) (a .highs) m I N (ap (λ (y : Table). y .points) (S .table-is)) L G .in-range in
-          let O = once d c (W .table) t (W .free) H in
-          record {
-            found = t;
-            is = e;
-            at-root = sym (S .root-is ∙ ap (rootOf d c k) e);
-            singly = O;
-            listed = record {
-              rows = tab-laid d c (rowOf d c) noRow [] (a .nodes) t m N O R;
-              values = tab-laid d c (cutOf d c) nought nan (a .cuts) t m X O R;
-              leaves = copies-stand d c (W .table) t (W .free) H (a .copies) C;
-              in-range = R;
-            };
-            few = tree-few d c (W .table) t (W .free) H m R;
-          }
-
-  pub nothing : tree .total ≡ 0 → W .tree ≡ none
-  nothing h = go (W .tree) refl (S .reachable .sound)
-    where
-      go : (o : Option (Tree (whole d))) → W .tree ≡ o → Sound (whole d) c (record { table = W .table; tree = o; free = W .free }) → o ≡ none
-      go none e H = refl
-      go (some t) e H =
-          let z : total (whole d) t ≡ 0 = sym (S .total-is ∙ ap (totalOf (whole d)) e) ∙ h in
-          absurd (omega (arith, some-total d c (W .table) t (W .free) H))
+  there h =
+      let T = a-tree S h in
+      let t = T .0 in
+      let m = S .limits .3 in
+      let H = sound (S .reachable) (T .1) in
+      let R = in-range (S .reachable) (T .1) in
+      let O = once (S .reachable) (T .1) in
+      let A = stored S (T .1) .arrays in
+      record {
+        found = t;
+        is = T .1;
+        at-root = sym (root-is S ∙ ap (rootOf d c (cachedBy s c)) (T .1));
+        singly = O;
+        listed = record {
+          rows = tab-laid d c (rowOf d c) noRow [] (a .nodes) t m (A .rows) O R;
+          values = tab-laid d c (cutOf d c) nought nan (a .cuts) t m (A .values) O R;
+          leaves = copies-stand d c (W .table) t (W .free) H (a .copies) (A .counts);
+          in-range = R;
+        };
+        few = tree-few d c (W .table) t (W .free) H m R;
+      }
 
   -- 255 branches of 31 bytes, 256 leaves of 19, and 33 bytes of names
   pub printed-few : length (printedTree d c (W .tree)) ≤ 12802
   printed-few = by-test (eqb (tree .total) 0)
-      (λ e. rw (nothing (eqb-true (tree .total) 0 e)) (omega arith))
+      (λ e. rw (no-tree S (eqb-true (tree .total) 0 e)) (omega arith))
       (λ e. let w = there (eqb-false (tree .total) 0 e) in rw (w .is, length-append) (omega (arith, w .few)))
 
 -- WHAT `print_tree` IS TOLD AND GIVES
@@ -134,29 +123,29 @@ module _ (tree : RCFTree) (nodes : List (List ℕ)) (cuts : List Float) (copies 
       → (tree .capacity ≤ capacityLimit) × SomeListed (tree .capacity) (tree .root) p nodes cuts copies
   some-listed {at} {p} h m w y =
       let S = w .state .state in
-      let v = there (w .state .channels) (w .state .capacity) (w .state .cached) (w .state .world) tree (w .lent) (w .points) (w .marks) S h in
+      let v = there (w .state .channels) (w .state .capacity) (w .state .share) (w .state .world) tree (w .lent) (w .points) (w .marks) S h in
       let room : p + length (linesOf (w .state .channels) (w .state .capacity) (v .found)) < 100000000000 = omega (arith, y .next, v .few) in
-      rw (S .capacity-is, ← w .read .nodes-are, ← w .read .cuts-are, ← w .read .copies-are)
+      rw (capacity-is S, ← w .read .nodes-are, ← w .read .cuts-are, ← w .read .copies-are)
       (S .limits .3, record { channels = w .state .channels; tree = v .found; at-node = v .at-root; once = v .singly; listed = v .listed; room = room })
 
   pub none-printed : {at place : ℕ} {before after : List ℕ} → tree .total ≡ 0 → Wrote before at namesLine place after → PrintsTree tree nodes cuts copies at before place after
-  none-printed h y d c k W a points marks S e = rw (nothing d c k W tree a points marks S h) y
+  none-printed h y d c s W a points marks S e = rw (no-tree S h) y
 
   pub some-printed : {at p place : ℕ} {before between after : List ℕ} → (tree .total ≡ 0 → ⊥) → Wrote before at namesLine p between
       → PrintsNode (tree .capacity) (tree .root) nodes cuts copies p between place after → PrintsTree tree nodes cuts copies at before place after
-  some-printed h y F d c k W a points marks S e =
-      let v = there d c k W tree a points marks S h in
-      rw (v .is) (then y ((rw (S .capacity-is, ← e .nodes-are, ← e .cuts-are, ← e .copies-are) at F) d (v .found) (v .at-root) (v .listed)))
+  some-printed h y F d c s W a points marks S e =
+      let v = there d c s W tree a points marks S h in
+      rw (v .is) (then y ((rw (capacity-is S, ← e .nodes-are, ← e .cuts-are, ← e .copies-are) at F) d (v .found) (v .at-root) (v .listed)))
 
 -- What printing asks is met: after any list of calls from a fresh tree and an unwritten table.
-pub reads-stand : (d c k : ℕ) → 1 ≤ d → d ≤ width → 2 ≤ c → c ≤ capacityLimit → k ≤ c - 1 → (cs : List (Call (whole d)))
-    → let W = worldAfter (whole d) c (fresh (whole d) c) cs in let a = arraysOf d c k W in SomeRead (headerOf d c k W) (a .nodes) (a .cuts) (a .copies)
-reads-stand d c k l m n o p cs =
+pub reads-stand : (d c : ℕ) (s : Float) → 1 ≤ d → d ≤ width → 2 ≤ c → c ≤ capacityLimit → isShare s ≡ true → (cs : List (Call (whole d)))
+    → let W = worldAfter (whole d) c (fresh (whole d) c) cs in let a = arraysOf d c (cachedBy s c) (W .tree) (W .free) in SomeRead (headerOf d c s W) (a .nodes) (a .cuts) (a .copies)
+reads-stand d c s l m n o p cs =
     let W = worldAfter (whole d) c (fresh (whole d) c) cs in
     record {
-      lent = arraysOf d c k W;
+      lent = arraysOf d c (cachedBy s c) (W .tree) (W .free);
       points = tableOf (W .table) .points;
       marks = tableOf (W .table) .written;
       read = record { nodes-are = refl; cuts-are = refl; copies-are = refl };
-      state = record { channels = d; capacity = c; cached = k; world = W; state = states-stand d c k l m n o p cs };
+      state = record { channels = d; capacity = c; share = s; world = W; state = states-stand d c s l m n o p cs };
     }

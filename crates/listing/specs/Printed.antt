@@ -9,7 +9,8 @@ use Rattle.cuttree.specs.Tree.{Tree}
 use Rattle.cuttree.specs.Run.{World}
 use Rattle.wholetree.specs.Whole.{whole}
 use Rattle.randomcuttree.specs.declared.RCFTree.{RCFTree}
-use Rattle.randomcuttree.specs.State.{Lent, State, SomeState}
+use Rattle.treestore.specs.Arrays.{Lent}
+use Rattle.randomcuttree.specs.State.{State, SomeState}
 use Rattle.listing.specs.Listing.{linesOf}
 
 -- 'a line of names, then lines of values', and 'An empty tree prints the names line alone.'
@@ -34,5 +35,5 @@ pub record SomeRead (tree : RCFTree) (nodes : List (List ℕ)) (cuts : List Floa
 -- The printed tree of each world whose header and arrays these are is written from `at` on.
 abbrev pub PrintsTree : (tree : RCFTree) (nodes : List (List ℕ)) (cuts : List Float) (copies : List ℕ) (at : ℕ) (before : List ℕ) (place : ℕ) (after : List ℕ) → Type 0
 PrintsTree tree nodes cuts copies at before place after =
-    (d c k : ℕ) (W : World (whole d)) (a : Lent) (points : List (List Float)) (marks : List ℕ) → State d c k W tree a points marks
+    (d c : ℕ) (s : Float) (W : World (whole d)) (a : Lent) (points : List (List Float)) (marks : List ℕ) → State d c s W tree a points marks
     → Reads a nodes cuts copies → Wrote before at (printedTree d c (W .tree)) place after

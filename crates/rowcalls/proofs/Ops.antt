@@ -6,7 +6,7 @@ use Prim.Native.Nat.{ℕ}
 use lib.Ieee.{Float}
 use Rattle.cuttree.proofs.Tests.{nonsense}
 use Rattle.randomcuttree.specs.declared.RCFTree.{RCFTree}
-use Rattle.randomcuttree.specs.State.{Lent}
+use Rattle.treestore.specs.Arrays.{Lent}
 use Rattle.calls.specs.Done.{Does}
 use Rattle.rowcalls.specs.Ops.{callOf}
 use Rattle.text.specs.Pieces.{pieces}

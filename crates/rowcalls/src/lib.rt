@@ -21,7 +21,8 @@ ghost use Rattle.limits.specs.Limits.{width, capacityLimit};
 ghost use Rattle.text.specs.Pieces.{pieces};
 ghost use Rattle.text.specs.Fields.{wordsFrom, coordinatesFrom};
 ghost use Rattle.form.specs.Rows.{Op, rowOf};
-ghost use Rattle.randomcuttree.specs.State.{lent, SomeState};
+ghost use Rattle.treestore.specs.Arrays.{lent};
+ghost use Rattle.randomcuttree.specs.State.{SomeState};
 ghost use Rattle.calls.specs.Done.{Does};
 ghost use Rattle.rowcalls.specs.Ops.{callOf, SomeOp};
 

@@ -16,8 +16,8 @@ use Rattle.layout.proofs.Tabs.{constant}
 use Rattle.randomcuttree.specs.declared.RCFTree.{RCFTree}
 use Rattle.randomcuttree.specs.declared.Made.{Made}
 use Rattle.randomcuttree.specs.declared.Made.the-variants.{Tree, NotMade}
-use Rattle.randomcuttree.specs.State.{Lent}
-use Rattle.randomcuttree.specs.Making.{cachedBy, madeBy, MakeDone}
+use Rattle.treestore.specs.Arrays.{Lent}
+use Rattle.randomcuttree.specs.Making.{madeBy, MakeDone}
 use Rattle.answers.specs.Said.{saidFrom}
 use Rattle.runlayout.specs.Layout.{channels, capacity, share}
 use Rattle.runlayout.specs.Check.{widths}
@@ -35,10 +35,10 @@ unwritten points marks e f =
 
 module _ (run lent : List ℕ) (before after : Lent) (made : Made) (M : MakeDone (channels run) (capacity run) (share run) before after made) (b : Bool) (q : Checks run b lent) where
   abbrev told : List ℕ
-  told = saidFrom (channels run) (capacity run) (cachedBy (share run) (capacity run)) (fresh (whole (channels run)) (capacity run)) (q .calls)
+  told = saidFrom (channels run) (capacity run) (share run) (fresh (whole (channels run)) (capacity run)) (q .calls)
 
   told-length : length told ≡ widths (channels run) (q .calls)
-  told-length = length-all (channels run) (capacity run) (cachedBy (share run) (capacity run)) (fresh (whole (channels run)) (capacity run)) (q .calls)
+  told-length = length-all (channels run) (capacity run) (share run) (fresh (whole (channels run)) (capacity run)) (q .calls)
 
   -- the making's answer is the one that the run's is defined by
   by-making : (m : Made) → made ≡ m → given (answered run m (q .calls)) lent ≡ given (answered run (madeBy (channels run) (capacity run) (share run)) (q .calls)) lent
@@ -54,7 +54,7 @@ module _ (run lent : List ℕ) (before after : Lent) (made : Made) (M : MakeDone
         given-short (0 ∷ told) lent (omega (arith, z, told-length)) ∙ by-making (Tree tree) h
 
     pub begun : (points : List (List Float)) (marks : List ℕ) → record { points = points; written = marks } ≡ tableOf (λ i. none) → b ≡ true
-        → Started (channels run) (capacity run) (cachedBy (share run) (capacity run)) (fresh (whole (channels run)) (capacity run)) (q .calls) run tree after points marks lent
+        → Started (channels run) (capacity run) (share run) (fresh (whole (channels run)) (capacity run)) (q .calls) run tree after points marks lent
     begun points marks t e = record {
       state = M .state tree h points marks t;
       rest = q .rest;

@@ -11,7 +11,7 @@ use Rattle.little.proofs.Stored.{sets-append}
 use Rattle.cuttree.specs.Run.{World, Call}
 use Rattle.wholetree.specs.Whole.{whole}
 use Rattle.randomcuttree.specs.declared.RCFTree.{RCFTree}
-use Rattle.randomcuttree.specs.State.{Lent}
+use Rattle.treestore.specs.Arrays.{Lent}
 use Rattle.answers.specs.Said.{saidFrom}
 use Rattle.runlayout.specs.Check.{widths}
 use Rattle.run.specs.Outcome.{given}
@@ -19,16 +19,16 @@ use Rattle.run.specs.Running.{Running, Started}
 use Rattle.run.proofs.Widths.{length-all}
 use Rattle.run.proofs.Given.{given-whole}
 
-module _ (d c k : ℕ) (W : World (whole d)) (cs : List (Call (whole d))) (run : List ℕ) (tree : RCFTree) (a : Lent) (points : List (List Float)) (marks lent e : List ℕ)
-    (S : Started d c k W cs run tree a points marks lent) (first : e ≡ sets lent 0 (bytes32 0)) where
+module _ (d c : ℕ) (s : Float) (W : World (whole d)) (cs : List (Call (whole d))) (run : List ℕ) (tree : RCFTree) (a : Lent) (points : List (List Float)) (marks lent e : List ℕ)
+    (S : Started d c s W cs run tree a points marks lent) (first : e ≡ sets lent 0 (bytes32 0)) where
   length-first : length e ≡ length lent
   length-first = ap length first ∙ length-sets lent 0 (bytes32 0)
 
-  pub start : Running run 5 1 tree a points marks e (sets e 4 (bytesOf (saidFrom d c k W cs))) (1 + widths d cs)
+  pub start : Running run 5 1 tree a points marks e (sets e 4 (bytesOf (saidFrom d c s W cs))) (1 + widths d cs)
   start = record {
     channels = d;
     capacity = c;
-    cached = k;
+    share = s;
     world = W;
     calls = cs;
     state = S .state;
@@ -38,8 +38,8 @@ module _ (d c k : ℕ) (W : World (whole d)) (cs : List (Call (whole d))) (run :
     finish = refl;
   }
 
-  pub gives : (r : ℕ) (last : List ℕ) → (r ≡ 1 + widths d cs) × (last ≡ sets e 4 (bytesOf (saidFrom d c k W cs))) → (4 * r, last) ≡ given (0 ∷ saidFrom d c k W cs) lent
+  pub gives : (r : ℕ) (last : List ℕ) → (r ≡ 1 + widths d cs) × (last ≡ sets e 4 (bytesOf (saidFrom d c s W cs))) → (4 * r, last) ≡ given (0 ∷ saidFrom d c s W cs) lent
   gives r last h =
-      let n : length (saidFrom d c k W cs) ≡ widths d cs = length-all d c k W cs in
-      given-whole (0 ∷ saidFrom d c k W cs) lent last (4 * r) (omega (arith, h .0, n)) (omega (arith, S .room, n))
-      (h .1 ∙ ap (λ (l : List ℕ). sets l 4 (bytesOf (saidFrom d c k W cs))) first ∙ sym (sets-append lent 0 (bytes32 0) (bytesOf (saidFrom d c k W cs))))
+      let n : length (saidFrom d c s W cs) ≡ widths d cs = length-all d c s W cs in
+      given-whole (0 ∷ saidFrom d c s W cs) lent last (4 * r) (omega (arith, h .0, n)) (omega (arith, S .room, n))
+      (h .1 ∙ ap (λ (l : List ℕ). sets l 4 (bytesOf (saidFrom d c s W cs))) first ∙ sym (sets-append lent 0 (bytes32 0) (bytesOf (saidFrom d c s W cs))))

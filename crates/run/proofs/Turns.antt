@@ -14,7 +14,9 @@ use Rattle.little.proofs.Stored.{sets-append, length-bytes, bytes-append}
 use Rattle.cuttree.specs.Run.{World, Call, put, add, delete, query, copiesOf, branchOf, boxOf, call}
 use Rattle.wholetree.specs.Whole.{whole}
 use Rattle.randomcuttree.specs.declared.RCFTree.{RCFTree}
-use Rattle.randomcuttree.specs.State.{Lent, SomeState}
+use Rattle.randomcuttree.proofs.Parts.{dimensions-are}
+use Rattle.treestore.specs.Arrays.{Lent}
+use Rattle.randomcuttree.specs.State.{SomeState}
 use Rattle.answers.specs.Said.{filled, said, saidFrom, replyWidth}
 use Rattle.calls.specs.Done.{Done, Does}
 use Rattle.runlayout.specs.Layout.{size, number, widthAt, standsAt, callAt, restFrom}
@@ -56,7 +58,7 @@ module _ (run : List ℕ) (p out : ℕ) (tree : RCFTree) (a : Lent) (points : Li
   pub last : p ≡ size run → (out ≡ count) × (answers ≡ final)
   last e =
       let z : R .calls ≡ [] = ended (restFrom run (R .channels) p) refl (ap (λ (n : ℕ). restFrom run (R .channels) n) e ∙ rest-end run (R .channels)) in
-      (omega (arith, R .numbers, ap (widths (R .channels)) z), ap (λ (cs : List (Call (whole (R .channels)))). sets answers (4 * out) (bytesOf (saidFrom (R .channels) (R .capacity) (R .cached) (R .world) cs))) (sym z) ∙ R .finish)
+      (omega (arith, R .numbers, ap (widths (R .channels)) z), ap (λ (cs : List (Call (whole (R .channels)))). sets answers (4 * out) (bytesOf (saidFrom (R .channels) (R .capacity) (R .share) (R .world) cs))) (sym z) ∙ R .finish)
 
   module _ (h : p < size run) where
     begun : Begun run (R .channels) p (R .calls)
@@ -67,7 +69,7 @@ module _ (run : List ℕ) (p out : ℕ) (tree : RCFTree) (a : Lent) (points : Li
     stands = begun .stands
 
     pub some-state : SomeState tree a points marks
-    some-state = record { channels = R .channels; capacity = R .capacity; cached = R .cached; world = R .world; state = R .state }
+    some-state = record { channels = R .channels; capacity = R .capacity; share = R .share; world = R .world; state = R .state }
 
     abbrev here : Call (whole (R .channels))
     here = callAt run (R .channels) p
@@ -76,21 +78,21 @@ module _ (run : List ℕ) (p out : ℕ) (tree : RCFTree) (a : Lent) (points : Li
     after = call (whole (R .channels)) (R .capacity) (R .world) here .1
 
     abbrev told : List ℕ
-    told = said (R .channels) (R .capacity) (R .cached) here (call (whole (R .channels)) (R .capacity) (R .world) here)
+    told = said (R .channels) (R .capacity) (R .share) here (call (whole (R .channels)) (R .capacity) (R .world) here)
 
     module _ (tree′ : RCFTree) (a′ : Lent) (points′ : List (List Float)) (marks′ reply : List ℕ) (does : Does (λ d. callAt run d p) tree a points marks tree′ a′ points′ marks′ reply) where
-      done : Done (R .channels) (R .capacity) (R .cached) (R .world) here tree′ a′ points′ marks′ reply
-      done = does (R .channels) (R .capacity) (R .cached) (R .world) (R .state)
+      done : Done (R .channels) (R .capacity) (R .share) (R .world) here tree′ a′ points′ marks′ reply
+      done = does (R .channels) (R .capacity) (R .share) (R .world) (R .state)
 
       pub few-channels : tree′ .dimensions ≤ width
-      few-channels = omega (arith, done .state .dimensions-are, done .state .limits .1)
+      few-channels = omega (arith, dimensions-are (done .state), done .state .limits .1)
 
       pub reply-length : replyWidth ≡ length reply
       reply-length = sym (ap length (done .reply-is) ∙ length-filled replyWidth told)
 
       module _ (w : ℕ) (e : w ≡ widthOfKind (tree′ .dimensions) (number run p)) where
         width-is : w ≡ widthOf (R .channels) here
-        width-is = e ∙ ap (λ (d : ℕ). widthOfKind d (number run p)) (done .state .dimensions-are) ∙ sym (width-kind run (R .channels) p (is-call run p stands))
+        width-is = e ∙ ap (λ (d : ℕ). widthOfKind d (number run p)) (dimensions-are (done .state)) ∙ sym (width-kind run (R .channels) p (is-call run p stands))
 
         rest-width : w + widths (R .channels) (begun .rest) ≡ widths (R .channels) (R .calls)
         rest-width = omega (arith, width-is, ap (widths (R .channels)) (begun .is))
@@ -100,7 +102,7 @@ module _ (run : List ℕ) (p out : ℕ) (tree : RCFTree) (a : Lent) (points : Li
         fits = (omega (arith, width-is, width-most (R .channels) here (done .state .limits .1)), omega (arith, rest-width, R .numbers, R .room))
 
         told-width : length told ≡ w
-        told-width = length-said (R .channels) (R .capacity) (R .cached) here _ ∙ sym width-is
+        told-width = length-said (R .channels) (R .capacity) (R .share) here _ ∙ sym width-is
 
         first-told : take w reply ≡ told
         first-told =
@@ -114,12 +116,12 @@ module _ (run : List ℕ) (p out : ℕ) (tree : RCFTree) (a : Lent) (points : Li
         pub turn : (answers′ : List ℕ) (next : ℕ) → answers′ ≡ sets answers (4 * out) (bytesOf (take w reply)) → next ≡ p + widthAt run p → Running run next (out + w) tree′ a′ points′ marks′ answers′ final count
         turn answers′ next f g =
             let z : answers′ ≡ sets answers (4 * out) (bytesOf told) = f ∙ ap (λ (l : List ℕ). sets answers (4 * out) (bytesOf l)) first-told in
-            let others = saidFrom (R .channels) (R .capacity) (R .cached) after (begun .rest) in
+            let others = saidFrom (R .channels) (R .capacity) (R .share) after (begun .rest) in
             let place : 4 * (out + w) ≡ 4 * out + length (bytesOf told) = omega (arith, length-bytes told, told-width) in
             record {
               channels = R .channels;
               capacity = R .capacity;
-              cached = R .cached;
+              share = R .share;
               world = after;
               calls = begun .rest;
               state = done .state;
@@ -129,5 +131,5 @@ module _ (run : List ℕ) (p out : ℕ) (tree : RCFTree) (a : Lent) (points : Li
               finish =
                   ap (λ (n : ℕ). sets answers′ n (bytesOf others)) place ∙ ap (λ (l : List ℕ). sets l (4 * out + length (bytesOf told)) (bytesOf others)) z
                   ∙ sym (sets-append answers (4 * out) (bytesOf told) (bytesOf others)) ∙ ap (λ (l : List ℕ). sets answers (4 * out) l) (sym (bytes-append told others))
-                  ∙ ap (λ (cs : List (Call (whole (R .channels)))). sets answers (4 * out) (bytesOf (saidFrom (R .channels) (R .capacity) (R .cached) (R .world) cs))) (sym (begun .is)) ∙ R .finish;
+                  ∙ ap (λ (cs : List (Call (whole (R .channels)))). sets answers (4 * out) (bytesOf (saidFrom (R .channels) (R .capacity) (R .share) (R .world) cs))) (sym (begun .is)) ∙ R .finish;
             }

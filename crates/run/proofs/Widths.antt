@@ -55,18 +55,18 @@ of-box d r =
     let high = r .«bounding_box» .«max_values» in
     omega (arith, length-append (endBits d low) (endBits d high), ends-length d low, ends-length d high)
 
-module _ (d c k : ℕ) where
-  pub length-said : (x : Call (whole d)) (r : Answer (whole d) × World (whole d)) → length (said d c k x r) ≡ widthOf d x
+module _ (d c : ℕ) (s : Float) where
+  pub length-said : (x : Call (whole d)) (r : Answer (whole d) × World (whole d)) → length (said d c s x r) ≡ widthOf d x
   length-said (put i xs) r = of-put (putSays d (r .0))
-  length-said (add i ws) r = of-add (addSays d (headerOf d c k (r .1)) (r .0))
-  length-said (delete i) r = of-delete (deleteSays d (headerOf d c k (r .1)) (r .0))
+  length-said (add i ws) r = of-add (addSays d (headerOf d c s (r .1)) (r .0))
+  length-said (delete i) r = of-delete (deleteSays d (headerOf d c s (r .1)) (r .0))
   length-said (query (copiesOf x)) r = of-copies (copiesSay d (r .0))
   length-said (query (branchOf x)) r = of-branch (branchSays d (r .0))
   length-said (query (boxOf x)) r = of-box d (boxSays d (r .0))
 
-  pub length-all : (W : World (whole d)) (cs : List (Call (whole d))) → length (saidFrom d c k W cs) ≡ widths d cs
+  pub length-all : (W : World (whole d)) (cs : List (Call (whole d))) → length (saidFrom d c s W cs) ≡ widths d cs
   length-all W [] = refl
   length-all W (x ∷ cs) =
-      length-append (said d c k x (call (whole d) c W x)) (saidFrom d c k (call (whole d) c W x .1) cs)
-      ∙ ap (λ (n : ℕ). n + length (saidFrom d c k (call (whole d) c W x .1) cs)) (length-said x (call (whole d) c W x))
+      length-append (said d c s x (call (whole d) c W x)) (saidFrom d c s (call (whole d) c W x .1) cs)
+      ∙ ap (λ (n : ℕ). n + length (saidFrom d c s (call (whole d) c W x .1) cs)) (length-said x (call (whole d) c W x))
       ∙ ap (λ (n : ℕ). widthOf d x + n) (length-all (call (whole d) c W x .1) cs)

@@ -10,7 +10,7 @@ use Rattle.cuttree.specs.Run.{Call, fresh}
 use Rattle.wholetree.specs.Whole.{whole}
 use Rattle.randomcuttree.specs.declared.Made.{Made}
 use Rattle.randomcuttree.specs.declared.Made.the-variants.{Tree, NotMade}
-use Rattle.randomcuttree.specs.Making.{cachedBy, madeBy}
+use Rattle.randomcuttree.specs.Making.{madeBy}
 use Rattle.answers.specs.Said.{saidFrom}
 use Rattle.runlayout.specs.Layout.{channels, capacity, share, calls}
 
@@ -22,7 +22,7 @@ module _ (run : List ℕ) where
   -- 'One answer for the making, then one for each call. If the making is refused, its number is the only answer.'
   abbrev pub answered : Made → List (Call (whole (channels run))) → List ℕ
   answered (NotMade r) cs = r ∷ []
-  answered (Tree t) cs = 0 ∷ saidFrom (channels run) (capacity run) (cachedBy (share run) (capacity run)) (fresh (whole (channels run)) (capacity run)) cs
+  answered (Tree t) cs = 0 ∷ saidFrom (channels run) (capacity run) (share run) (fresh (whole (channels run)) (capacity run)) cs
 
   -- '17: the run's bytes are not in the layout'
   abbrev pub outcomeOf : Option (List (Call (whole (channels run)))) → List ℕ → ℕ × List ℕ

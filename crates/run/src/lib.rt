@@ -20,10 +20,11 @@ ghost use mathlib.Core.List.{List, [], _∷_};
 ghost use Prim.Native.Nat.{ℕ, _+_, _*_, _/_, _<_, _≤_};
 ghost use lib.ListN.{length, take};
 ghost use lib.Seq.{sets};
+ghost use lib.Ieee.{Float};
 ghost use Rattle.little.specs.Little.{bytesOf};
 ghost use Rattle.cuttree.specs.Run.{World, Call};
 ghost use Rattle.wholetree.specs.Whole.{whole};
-ghost use Rattle.randomcuttree.specs.State.{lent};
+ghost use Rattle.treestore.specs.Arrays.{lent};
 ghost use Rattle.randomcuttree.specs.Making.{madeBy};
 ghost use Rattle.answers.specs.Said.{saidFrom};
 ghost use Rattle.runlayout.specs.Layout.{isMaking, channels, capacity, share};
@@ -118,8 +119,8 @@ fn run_tree(
 ) -> usize
     requires making { ⌜ isMaking (now run) ≡ true ⌝ }
     requires ready { ⌜ SomeStarted (now run) tree (lent (now nodes) (now cuts) (now copies) (now free) (now lows) (now highs)) (now points) (now written) (now answers) ⌝ }
-    ensures { λ r. ⌜ ((d c k : ℕ) (W : World (whole d)) (cs : List (Call (whole d))) → Started d c k W cs (now (run .entry)) tree (lent (now (nodes .entry)) (now (cuts .entry)) (now (copies .entry)) (now (free .entry)) (now (lows .entry)) (now (highs .entry))) (now (points .entry)) (now (written .entry)) (now (answers .entry))
-        → (r, now (answers .exit)) ≡ given (0 ∷ saidFrom d c k W cs) (now (answers .entry))) ⌝ }
+    ensures { λ r. ⌜ ((d c : ℕ) (s : Float) (W : World (whole d)) (cs : List (Call (whole d))) → Started d c s W cs (now (run .entry)) tree (lent (now (nodes .entry)) (now (cuts .entry)) (now (copies .entry)) (now (free .entry)) (now (lows .entry)) (now (highs .entry))) (now (points .entry)) (now (written .entry)) (now (answers .entry))
+        → (r, now (answers .exit)) ≡ given (0 ∷ saidFrom d c s W cs) (now (answers .entry))) ⌝ }
 {
     little::put_u32(answers, 0, 0);
     4

@@ -12,7 +12,7 @@ use Rattle.wholetree.specs.Whole.{tab}
 use Rattle.wholetree.proofs.Readings.{tab-length, tab-at}
 use Rattle.layout.proofs.Tabs.{is-tab}
 use Rattle.randomcuttree.specs.declared.RCFTree.{RCFTree}
-use Rattle.randomcuttree.specs.State.{Lent}
+use Rattle.treestore.specs.Arrays.{Lent}
 use Rattle.calls.specs.Done.{Does}
 use Rattle.runlayout.specs.Layout.{number, double, coordinatesAt, wordsAt}
 

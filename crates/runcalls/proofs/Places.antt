@@ -12,7 +12,8 @@ use Rattle.cuttree.specs.Run.{Call, put, add, delete, query, copiesOf, branchOf
 use Rattle.cuttree.proofs.Tests.{clash, by-cond, by-test, cond-true, cond-false}
 use Rattle.wholetree.specs.Whole.{whole}
 use Rattle.randomcuttree.specs.declared.RCFTree.{RCFTree}
-use Rattle.randomcuttree.specs.State.{Lent, SomeState}
+use Rattle.treestore.specs.Arrays.{Lent}
+use Rattle.randomcuttree.specs.State.{SomeState}
 use Rattle.randomcuttree.specs.Queries.{SomeBoxRead}
 use Rattle.calls.specs.Done.{Does, Done, queryOf}
 use Rattle.runlayout.specs.Layout.{size, number, coordinatesAt, wordsAt, callAt, widthAt, standsAt, isCall}
@@ -52,7 +53,7 @@ module _ (bytes : List ℕ) (p : ℕ) where
   -- from what the call of the kind did to what the call at the place did
   module _ (tree : RCFTree) (a : Lent) (points : List (List Float)) (marks : List ℕ) (tree′ : RCFTree) (b : Lent) (points′ : List (List Float)) (marks′ reply : List ℕ) (k : ℕ) (e : k ≡ number bytes p) where
     same : (x y : (d : ℕ) → Call (whole d)) → ((d : ℕ) → x d ≡ y d) → Does y tree a points marks tree′ b points′ marks′ reply → Does x tree a points marks tree′ b points′ marks′ reply
-    same x y f D d c j W S = subst (λ (z : Call (whole d)). Done d c j W z tree′ b points′ marks′ reply) (sym (f d)) (D d c j W S)
+    same x y f D d c s W S = subst (λ (z : Call (whole d)). Done d c s W z tree′ b points′ marks′ reply) (sym (f d)) (D d c s W S)
 
     pub put-there : k ≡ 3 → Does (λ d. put (number bytes (p + 1)) (coordinatesAt bytes p)) tree a points marks tree′ b points′ marks′ reply → Does (λ d. callAt bytes d p) tree a points marks tree′ b points′ marks′ reply
     put-there f = same (λ d. callAt bytes d p) _ (λ d. cond-true _ _ _ (eq-eqb (number bytes p) 3 (sym e ∙ f)))

@@ -21,7 +21,8 @@ ghost use lib.Ieee.{binary32, ofBits};
 ghost use Rattle.limits.specs.Limits.{width, capacityLimit};
 ghost use Rattle.cuttree.specs.Run.{put, add, delete};
 ghost use Rattle.wholetree.specs.Whole.{tab};
-ghost use Rattle.randomcuttree.specs.State.{Lent, lent, SomeState};
+ghost use Rattle.treestore.specs.Arrays.{Lent, lent};
+ghost use Rattle.randomcuttree.specs.State.{SomeState};
 ghost use Rattle.calls.specs.Done.{Does};
 ghost use Rattle.runlayout.specs.Layout.{size, number, double, coordinatesAt, wordsAt, callAt, standsAt};
 

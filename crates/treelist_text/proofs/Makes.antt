@@ -14,8 +14,8 @@ use Rattle.layout.proofs.Tabs.{constant}
 use Rattle.randomcuttree.specs.declared.RCFTree.{RCFTree}
 use Rattle.randomcuttree.specs.declared.Made.{Made}
 use Rattle.randomcuttree.specs.declared.Made.the-variants.{Tree, NotMade}
-use Rattle.randomcuttree.specs.State.{Lent}
-use Rattle.randomcuttree.specs.Making.{cachedBy, madeBy, MakeDone}
+use Rattle.treestore.specs.Arrays.{Lent}
+use Rattle.randomcuttree.specs.Making.{madeBy, MakeDone}
 use Rattle.form.specs.Rows.{Op}
 use Rattle.form.specs.Form.{opRows, rowsFrom}
 use Rattle.lines.specs.Lines.{refusedLine, Wrote}
@@ -35,7 +35,7 @@ module _ {d c : ℕ} {s : Float} {before after : Lent} {made : Made} (M : MakeDo
 
   module _ (tree : RCFTree) (h : made ≡ Tree tree) where
     pub begun : (text : List ℕ) (at : ℕ) (points : List (List Float)) (marks : List ℕ) → points ≡ replicate pointLimit noEnds → marks ≡ replicate pointLimit 0
-        → (os : List Op) → rowsFrom 0 (piecesFrom 10 text at) ≡ opRows os → Standing d c (cachedBy s c) (fresh (whole d) c) os text at 0 tree after points marks
+        → (os : List Op) → rowsFrom 0 (piecesFrom 10 text at) ≡ opRows os → Standing d c s (fresh (whole d) c) os text at 0 tree after points marks
     begun text at points marks e f os r = record { state = M .state tree h points marks (unwritten points marks e f); rest = r }
 
     pub is-made : (os : List Op) {l : List ℕ} {q : ℕ} {o : List ℕ} → Wrote l 0 (outputFrom d c (fresh (whole d) c) 0 os) q o → Wrote l 0 (outputBy d c (madeBy d c s) os) q o

@@ -7,6 +7,7 @@ use native.Mathlib.Omega.{arith}
 use borrow.Author.Tests.{ne-eqb}
 use lib.Dec.{eqb}
 use lib.ListN.{getD}
+use lib.Ieee.{Float}
 use Rattle.cuttree.specs.Run.{World, Refusal, indexAbove, coordinateCount, badCoordinate, indexIsLeaf, neverWritten, full, fewWords, treeEmpty, notHeld, noSuchNode, Answer, refused, written, added, deleted, copiesAre, branchIs, boxIs, numberOf}
 use Rattle.wholetree.specs.Whole.{whole}
 use Rattle.answers.specs.Said.{filled, said, replyWidth}
@@ -33,8 +34,8 @@ pub told-one : {l : List ℕ} {p n : ℕ} (k : ℕ) {q : ℕ} {m : List ℕ} →
 told-one k h w = rw (ne-eqb _ _ h) w
 
 -- ---- the reply begins with the refusal
-module _ (d c k : ℕ) where
-  first-said : (o : Op) (a : Answer (whole d)) (W : World (whole d)) → getD (filled replyWidth (said d c k (callOf d o) (a, W))) 0 0 ≡ refusalOf d a
+module _ (d c : ℕ) (s : Float) where
+  first-said : (o : Op) (a : Answer (whole d)) (W : World (whole d)) → getD (filled replyWidth (said d c s (callOf d o) (a, W))) 0 0 ≡ refusalOf d a
   unfolding filled
   first-said (put i xs) (refused r) W = refl
   first-said (put i xs) written W = refl
@@ -80,6 +81,6 @@ module _ (d c k : ℕ) where
   by-refusal (branchIs r) n = refl
   by-refusal (boxIs b) n = refl
 
-  pub tells : (o : Op) (x : Answer (whole d) × World (whole d)) (reply : List ℕ) → reply ≡ filled replyWidth (said d c k (callOf d o) x) → (n : ℕ)
+  pub tells : (o : Op) (x : Answer (whole d) × World (whole d)) (reply : List ℕ) → reply ≡ filled replyWidth (said d c s (callOf d o) x) → (n : ℕ)
       → cond (eqb (getD reply 0 0) 0) [] (refusedLine (getD reply 0 0) n) ≡ toldRow d (x .0) n
   tells o x reply e n = ap (λ (m : ℕ). cond (eqb m 0) [] (refusedLine m n)) (ap (λ (l : List ℕ). getD l 0 0) e ∙ first-said o (x .0) (x .1)) ∙ by-refusal (x .0) n

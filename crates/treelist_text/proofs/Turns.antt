@@ -12,7 +12,8 @@ use Rattle.text.specs.Pieces.{pieces, PieceEnds}
 use Rattle.cuttree.specs.Run.{World, call}
 use Rattle.wholetree.specs.Whole.{whole}
 use Rattle.randomcuttree.specs.declared.RCFTree.{RCFTree}
-use Rattle.randomcuttree.specs.State.{Lent, SomeState}
+use Rattle.treestore.specs.Arrays.{Lent}
+use Rattle.randomcuttree.specs.State.{SomeState}
 use Rattle.answers.specs.Said.{filled, said, replyWidth}
 use Rattle.calls.specs.Done.{Done, Does}
 use Rattle.form.specs.Rows.{Op, rowOf}
@@ -32,22 +33,22 @@ length-filled (suc n) [] = ap suc (length-filled n [])
 length-filled (suc n) (x ∷ xs) = ap suc (length-filled n xs)
 
 -- n op rows are carried out, and `done` is what is printed of them: with what the rows left print it is all that is to be printed
-pub record Running (d c k : ℕ) (before final text : List ℕ) (at n : ℕ) (tree : RCFTree) (a : Lent) (points : List (List Float)) (marks : List ℕ) (p : ℕ) (out : List ℕ) : Type 0 where
+pub record Running (d c : ℕ) (s : Float) (before final text : List ℕ) (at n : ℕ) (tree : RCFTree) (a : Lent) (points : List (List Float)) (marks : List ℕ) (p : ℕ) (out : List ℕ) : Type 0 where
   pub world : World (whole d)
   pub ops : List Op
-  pub standing : Standing d c k world ops text at n tree a points marks
+  pub standing : Standing d c s world ops text at n tree a points marks
   pub done : List ℕ
   pub wrote : Wrote before 0 done p out
   pub same : done ++ outputFrom d c world n ops ≡ final
 
-pub begin : {d c k : ℕ} {W : World (whole d)} {os : List Op} {before text : List ℕ} {at : ℕ} {tree : RCFTree} {a : Lent} {points : List (List Float)} {marks : List ℕ}
-    → Standing d c k W os text at 0 tree a points marks → Running d c k before (outputFrom d c W 0 os) text at 0 tree a points marks 0 before
+pub begin : {d c : ℕ} {s : Float} {W : World (whole d)} {os : List Op} {before text : List ℕ} {at : ℕ} {tree : RCFTree} {a : Lent} {points : List (List Float)} {marks : List ℕ}
+    → Standing d c s W os text at 0 tree a points marks → Running d c s before (outputFrom d c W 0 os) text at 0 tree a points marks 0 before
 begin {W = W} {os = os} s = record { world = W; ops = os; standing = s; done = []; wrote = record { next = omega arith; left = refl }; same = refl }
 
-module _ {d c k : ℕ} {before final text : List ℕ} {at n : ℕ} {tree : RCFTree} {a : Lent} {points : List (List Float)} {marks : List ℕ} {p : ℕ} {out : List ℕ}
-    (R : Running d c k before final text at n tree a points marks p out) where
+module _ {d c : ℕ} {s : Float} {before final text : List ℕ} {at n : ℕ} {tree : RCFTree} {a : Lent} {points : List (List Float)} {marks : List ℕ} {p : ℕ} {out : List ℕ}
+    (R : Running d c s before final text at n tree a points marks p out) where
   pub some-state : SomeState tree a points marks
-  some-state = record { channels = d; capacity = c; cached = k; world = R .world; state = R .standing .state }
+  some-state = record { channels = d; capacity = c; share = s; world = R .world; state = R .standing .state }
 
   module _ (e : ℕ) (h : at ≤ length text) (x : PieceEnds 10 text at e) where
     -- at the text's end
@@ -66,15 +67,15 @@ module _ {d c k : ℕ} {before final text : List ℕ} {at n : ℕ} {tree : RCFTr
 
       module _ (tree′ : RCFTree) (a′ : Lent) (points′ : List (List Float)) (marks′ reply : List ℕ)
           (does : (o : Op) → rowOf (pieces 32 (take (e - at) (drop at text))) ≡ some o → Does (λ d. callOf d o) tree a points marks tree′ a′ points′ marks′ reply) where
-        done : Done d c k (R .world) (callOf d (next .op)) tree′ a′ points′ marks′ reply
-        done = does (next .op) (next .row) d c k (R .world) (R .standing .state)
+        done : Done d c s (R .world) (callOf d (next .op)) tree′ a′ points′ marks′ reply
+        done = does (next .op) (next .row) d c s (R .world) (R .standing .state)
 
         pub reply-length : length reply ≡ replyWidth
-        reply-length = ap length (done .reply-is) ∙ length-filled replyWidth (said d c k (callOf d (next .op)) (call (whole d) c (R .world) (callOf d (next .op))))
+        reply-length = ap length (done .reply-is) ∙ length-filled replyWidth (said d c s (callOf d (next .op)) (call (whole d) c (R .world) (callOf d (next .op))))
 
         -- the row is told, and the next one stands
         pub turn : {q : ℕ} {o : List ℕ} → Wrote out p (cond (eqb (getD reply 0 0) 0) [] (refusedLine (getD reply 0 0) (n + 1))) q o
-            → Running d c k before final text (e + 1) (n + 1) tree′ a′ points′ marks′ q o
+            → Running d c s before final text (e + 1) (n + 1) tree′ a′ points′ marks′ q o
         turn {q} {o} w =
             let r = call (whole d) c (R .world) (callOf d (next .op)) in
             record {
@@ -82,7 +83,7 @@ module _ {d c k : ℕ} {before final text : List ℕ} {at n : ℕ} {tree : RCFTr
               ops = next .rest;
               standing = record { state = done .state; rest = next .left };
               done = R .done ++ toldRow d (r .0) (n + 1);
-              wrote = then (R .wrote) (rw (tells d c k (next .op) r reply (done .reply-is) (n + 1)) at w);
+              wrote = then (R .wrote) (rw (tells d c s (next .op) r reply (done .reply-is) (n + 1)) at w);
               same =
                   append-assoc (R .done) (toldRow d (r .0) (n + 1)) (outputFrom d c (r .1) (n + 1) (next .rest))
                   ∙ ap (λ (l : List Op). R .done ++ outputFrom d c (R .world) n l) (sym (next .is)) ∙ R .same;

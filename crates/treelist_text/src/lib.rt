@@ -23,10 +23,11 @@ ghost use mathlib.Core.List.{List, []};
 ghost use Prim.Native.Nat.{ℕ, _+_, _<_, _≤_};
 ghost use lib.Dec.{eqb};
 ghost use lib.ListN.{length};
+ghost use lib.Ieee.{Float};
 ghost use Rattle.text.specs.Pieces.{piecesFrom};
 ghost use Rattle.cuttree.specs.Run.{World};
 ghost use Rattle.wholetree.specs.Whole.{whole};
-ghost use Rattle.randomcuttree.specs.State.{lent};
+ghost use Rattle.treestore.specs.Arrays.{lent};
 ghost use Rattle.randomcuttree.specs.Making.{madeBy};
 ghost use Rattle.form.specs.Rows.{Op};
 ghost use Rattle.form.specs.Form.{opRows, rowsFrom};
@@ -71,7 +72,7 @@ fn run_rows(
 ) -> usize
     requires within { ⌜ (start ≤ length (now text)) × (length (now text) ≤ 32768) ⌝ }
     requires ready { ⌜ SomeStanding (now text) start 0 tree (lent (now nodes) (now cuts) (now copies) (now free) (now lows) (now highs)) (now points) (now written) ⌝ }
-    ensures { λ r. ⌜ ((d c k : ℕ) (W : World (whole d)) (os : List Op) → Standing d c k W os (now (text .entry)) start 0 tree (lent (now (nodes .entry)) (now (cuts .entry)) (now (copies .entry)) (now (free .entry)) (now (lows .entry)) (now (highs .entry))) (now (points .entry)) (now (written .entry))
+    ensures { λ r. ⌜ ((d c : ℕ) (s : Float) (W : World (whole d)) (os : List Op) → Standing d c s W os (now (text .entry)) start 0 tree (lent (now (nodes .entry)) (now (cuts .entry)) (now (copies .entry)) (now (free .entry)) (now (lows .entry)) (now (highs .entry))) (now (points .entry)) (now (written .entry))
         → Wrote (now (out .entry)) 0 (outputFrom d c W 0 os) r (now (out .exit))) ⌝ }
 {
     let mut coordinates = [0.0f32; COORDINATES];

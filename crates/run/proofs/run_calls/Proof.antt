@@ -5,7 +5,7 @@ use mathlib.Core.List.{List}
 use Prim.Native.Nat.{ℕ, _+_, _-_, _≤_, _<_}
 use native.Mathlib.Omega.{arith}
 use lib.ListN.{length}
-use Rattle.randomcuttree.specs.State.{lent}
+use Rattle.treestore.specs.Arrays.{lent}
 use Rattle.runlayout.specs.Layout.{size}
 use Rattle.runlayout.proofs.Rest.{making-fits, making-whole, within}
 use Rattle.run.specs.Running.{Running}

@@ -49,7 +49,7 @@ run-tree-requires : tie.Need-run-tree-requires
 run-tree-requires c κs =
     let s = c .before .before .before .before .before .before .before .before .before .before .before .before .before .before .before .before .before .before .before .before .before .before .before .before .before .before .before .before in
     let m = read (s .args .run .now) _ _ _ _ _ _ (c .before .before .before .before .before .before .before .before .before .before .before .before .before .before .before .before .before .before .before .before .before .before .before .number-at .ensures .0) (c .before .before .before .before .before .before .before .before .before .before .before .before .before .before .before .before .before .before .before .before .before .before .number-at2 .ensures .0) (c .before .before .before .before .before .before .before .before .before .before .before .before .before .before .before .before .before .before .before .before .double-of .ensures ∙ ap (λ (x : ℕ). ofBits binary64 x) (c .before .before .before .before .before .before .before .before .before .before .before .before .before .before .before .before .before .before .before .before .before .double-at .ensures)) (c .before .before .before .before .before .before .before .before .before .before .before .before .before .new .ensures) in
-    (s .pre .0, record { channels = _; capacity = _; cached = _; world = _; calls = _; started = begun (s .args .run .now) (s .args .answers .now) _ _ _ m _ (s .pre .1) _ (c .before .before .before .before .before .before .before .before .before .before .before .made2 .given .1) _ _ (unwritten _ _ (c .before .before .before .before .before .before .before .before .before .before .before .before .before .before .before .before .before .before .before .before .before .before .before .before .before .no-points .ensures) (c .before .before .before .before .before .before .before .before .before .before .before .before .before .before .before .before .before .before .before .before .before .before .before .before .no-marks .ensures)) (not-false _ (c .before .before .before .before .before .before .before .before .before .if1 .left)) })
+    (s .pre .0, record { channels = _; capacity = _; share = _; world = _; calls = _; started = begun (s .args .run .now) (s .args .answers .now) _ _ _ m _ (s .pre .1) _ (c .before .before .before .before .before .before .before .before .before .before .before .made2 .given .1) _ _ (unwritten _ _ (c .before .before .before .before .before .before .before .before .before .before .before .before .before .before .before .before .before .before .before .before .before .before .before .before .before .no-points .ensures) (c .before .before .before .before .before .before .before .before .before .before .before .before .before .before .before .before .before .before .before .before .before .before .before .before .no-marks .ensures)) (not-false _ (c .before .before .before .before .before .before .before .before .before .if1 .left)) })
 
 same-length : tie.Need-same-length
 same-length c = search needs

@@ -32,7 +32,7 @@ run-rows-requires c κs =
       record {
         channels = _;
         capacity = _;
-        cached = _;
+        share = _;
         world = _;
         ops = _;
         standing = begun (c .before .before .before .before .before .before .before .before .before .before .before .before .new .ensures) _ (c .before .before .before .before .before .before .before .before .before .before .made2 .given .1) (s .args .text .now) _ _ _ (c .before .before .before .before .before .before .before .before .before .before .before .before .before .before .before .before .before .before .before .before .no-points .ensures) (c .before .before .before .before .before .before .before .before .before .before .before .before .before .before .before .before .before .before .before .no-marks .ensures) _ (s .pre .1 .rest);

@@ -5,9 +5,10 @@ use mathlib.Core.List.{List}
 use Prim.Native.Nat.{ℕ, _-_, _*_, _≤_}
 use native.Mathlib.Omega.{arith}
 use lib.ListN.{length}
+use lib.Ieee.{Float}
 use Rattle.cuttree.specs.Run.{World}
 use Rattle.wholetree.specs.Whole.{whole}
-use Rattle.randomcuttree.specs.State.{lent}
+use Rattle.treestore.specs.Arrays.{lent}
 use Rattle.form.specs.Rows.{Op}
 use Rattle.lines.proofs.Writes.{long}
 use Rattle.treelist_text.specs.Output.{outputFrom}
@@ -19,13 +20,13 @@ use Rattle.treelist_text.proofs.run_rows.Tie as tie
 abbrev Inv-loop : tie.InvT-loop
 Inv-loop nodes₀ cuts₀ copies₀ free₀ lows₀ highs₀ points₀ written₀ text start out₀ coordinates₀ words₀ reply₀ current₀ at₀ row₀ p₀ nodes cuts copies free lows highs points written out coordinates words reply current at row p =
     (at ≤ length text) × (row ≤ at) × (p ≤ 50 * row)
-    × ((d c k : ℕ) (W : World (whole d)) (os : List Op) → Standing d c k W os text start 0 current₀ (lent nodes₀ cuts₀ copies₀ free₀ lows₀ highs₀) points₀ written₀ → Running d c k out₀ (outputFrom d c W 0 os) text at row current (lent nodes cuts copies free lows highs) points written p out)
+    × ((d c : ℕ) (s : Float) (W : World (whole d)) (os : List Op) → Standing d c s W os text start 0 current₀ (lent nodes₀ cuts₀ copies₀ free₀ lows₀ highs₀) points₀ written₀ → Running d c s out₀ (outputFrom d c W 0 os) text at row current (lent nodes cuts copies free lows highs) points written p out)
 
 abbrev μ-loop : tie.MeasureT-loop
 μ-loop nodes₀ cuts₀ copies₀ free₀ lows₀ highs₀ points₀ written₀ text start out₀ coordinates₀ words₀ reply₀ current₀ at₀ row₀ p₀ nodes cuts copies free lows highs points written out coordinates words reply current at row p = length text - at
 
 loop-holds : tie.Need-loop-holds Inv-loop μ-loop
-loop-holds c = let s = c .before .before in (s .pre .0 .0, omega arith, omega arith, λ d c k W os S. begin S)
+loop-holds c = let s = c .before .before in (s .pre .0 .0, omega arith, omega arith, λ d c s W os S. begin S)
 
 piece-end-requires : tie.Need-piece-end-requires Inv-loop μ-loop
 piece-end-requires c κs = c .loop .inv .0
