@@ -10,3 +10,4 @@ pub mod Climbs
 pub mod Forgets
 pub mod Repairs
 pub mod Copies
+pub mod Siblings

@@ -19,7 +19,7 @@ grow-node-box-requires c κs = rw (c .before .side-of2 .ensures) (c .before .bef
 returns : tie.Need-returns
 returns c =
     let a = c .before .before .before .before .args in
-    sides-given (a .capacity) (a .cached) (a .node) (a .nodes .now) (a .points .now) (a .lows .now) (a .highs .now) _ _
+    sides-given (a .capacity) (a .cached) (a .node) (a .nodes .now) (a .points .now) (a .boxes .now) _ _
     (rw (c .before .before .before .side-of .ensures) at (c .before .bounding-box .ensures)) (rw (c .before .before .side-of2 .ensures) at (c .grow-node-box .ensures))
 
 pub reconstruct-box-spec : {M : Type 1} → statement M

@@ -17,12 +17,12 @@ use Rattle.wholetree.specs.Reading.{Reading}
 use Rattle.wholetree.specs.Whole.{whole}
 use Rattle.layout.specs.Slots.{lowOf, highOf}
 use Rattle.layout.specs.Stands.{Once}
 use Rattle.boxstore.specs.Boxed.{Boxed, SomeBoxed}
 use Rattle.boxstore.specs.Grown.{GrownBy}
 use Rattle.boxstore.proofs.Ends.{tab-same, least-end, most-end}
 use Rattle.boxstore.proofs.Parts.{left-boxed, right-boxed}
 
-module _ (d c k : ℕ) (nodes : List (List ℕ)) (points lows highs : List (List Float)) (p : Reading) where
+module _ (d c k : ℕ) (nodes : List (List ℕ)) (points : List (List Float)) (boxes : List (List (List Float))) (p : Reading) where
   -- what holds of both sides holds of the side that p goes to, and of the other
   toward-is : (P : Tree (whole d) → Type 0) (x : Cut (whole d)) (l r : Tree (whole d)) → P l → P r → P (toward (whole d) x p l r) × P (aside (whole d) x p l r)
   toward-is P x l r a b = (by-cond P (below (whole d) x p) l r (λ _. a) (λ _. b), by-cond P (below (whole d) x p) r l (λ _. b) (λ _. a))
@@ -38,13 +38,13 @@ module _ (d c k : ℕ) (nodes : List (List ℕ)) (points lows highs : List (List
       (λ e. let z : m ≡ height (whole d) (toward (whole d) x p l r) p = omega (arith, height-step (whole d) b x g l r p) in subst P (sym (ap (λ y. sibling (whole d) (branch b x g l r) y p) z ∙ sibling-top (whole d) b x g l r p)) (both .1))
       (λ n. subst P (sym (sibling-down (whole d) b x g l r p m n)) (ih n (both .0))))
 
-  pub sibling-boxed : (m : ℕ) (t : Tree (whole d)) → suc m ≤ height (whole d) t p → Boxed d c k nodes points lows highs t → Boxed d c k nodes points lows highs (sibling (whole d) t m p)
-  sibling-boxed = down-to (Boxed d c k nodes points lows highs) (λ b x g l r w. (left-boxed _ _ _ _ _ _ _ w, right-boxed _ _ _ _ _ _ _ w))
+  pub sibling-boxed : (m : ℕ) (t : Tree (whole d)) → suc m ≤ height (whole d) t p → Boxed d c k nodes points boxes t → Boxed d c k nodes points boxes (sibling (whole d) t m p)
+  sibling-boxed = down-to (Boxed d c k nodes points boxes) (λ b x g l r w. (left-boxed _ _ _ _ _ _ w, right-boxed _ _ _ _ _ _ w))
 
   pub sibling-once : (m : ℕ) (t : Tree (whole d)) → suc m ≤ height (whole d) t p → Once d c t → Once d c (sibling (whole d) t m p)
   sibling-once = down-to (Once d c) (λ b x g l r w. ((λ j. omega (arith, w j)), (λ j. omega (arith, w j))))
 
-  pub some-sibling : (m : ℕ) (t : Tree (whole d)) → suc m ≤ height (whole d) t p → Boxed d c k nodes points lows highs t → Once d c t → (node : ℕ) → node ≡ id (whole d) c (sibling (whole d) t m p) → SomeBoxed c k node nodes points lows highs
+  pub some-sibling : (m : ℕ) (t : Tree (whole d)) → suc m ≤ height (whole d) t p → Boxed d c k nodes points boxes t → Once d c t → (node : ℕ) → node ≡ id (whole d) c (sibling (whole d) t m p) → SomeBoxed c k node nodes points boxes
   some-sibling m t h w o node e = record { channels = d; tree = sibling (whole d) t m p; at-node = sym e; once = sibling-once m t h o; boxed = sibling-boxed m t h w }
 
   -- the box of the walk's node of height m
@@ -52,8 +52,8 @@ module _ (d c k : ℕ) (nodes : List (List ℕ)) (points lows highs : List (List
     pub low : b .«min_values» ≡ lowOf d c (sub (whole d) t m p)
     pub high : b .«max_values» ≡ highOf d c (sub (whole d) t m p)
 
-  pub grow-up : (m : ℕ) (t : Tree (whole d)) → suc m ≤ height (whole d) t p → Boxed d c k nodes points lows highs t → (node : ℕ) → node ≡ id (whole d) c (sibling (whole d) t m p)
-      → (b r : BoundingBox) → At t m b → GrownBy c k node nodes points lows highs b r → At t (suc m) r
+  pub grow-up : (m : ℕ) (t : Tree (whole d)) → suc m ≤ height (whole d) t p → Boxed d c k nodes points boxes t → (node : ℕ) → node ≡ id (whole d) c (sibling (whole d) t m p)
+      → (b r : BoundingBox) → At t m b → GrownBy c k node nodes points boxes b r → At t (suc m) r
   grow-up m t h w node e b r a g =
       let x = g d (sibling (whole d) t m p) _ _ (sym e) (sibling-boxed m t h w) (a .low) (a .high) in
       record {
