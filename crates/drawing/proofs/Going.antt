@@ -28,20 +28,20 @@ use Rattle.layout.specs.Stands.{trail}
 use Rattle.layout.proofs.Trails.{path-sibling}
 use Rattle.boxstore.specs.Boxed.{SomeBoxed}
 use Rattle.boxstore.specs.Grown.{GrownBy}
+use Rattle.boxstore.proofs.Siblings.{At, some-sibling, grow-up}
 use Rattle.drawing.specs.declared.Highest.{Highest}
 use Rattle.drawing.specs.Drawing.{Drawing, SomeDrawing, Kept}
-use Rattle.drawing.proofs.Siblings.{At, some-sibling, grow-up}
 use Rattle.drawing.proofs.Keeping.{keeps-nothing, keeps-held, keeps-drawn}
 
-module _ (c k : ℕ) (nodes : List (List ℕ)) (points lows highs : List (List Float)) (path : List (List ℕ)) (len leaf : ℕ) (words : List ℕ) (point : List Float) where
+module _ (c k : ℕ) (nodes : List (List ℕ)) (points : List (List Float)) (boxes : List (List (List Float))) (path : List (List ℕ)) (len leaf : ℕ) (words : List ℕ) (point : List Float) where
   abbrev In : (d : ℕ) → Tree (whole d) → Reading → Type 0
-  In d t p = Drawing d c t p k nodes points lows highs path len leaf words point
+  In d t p = Drawing d c t p k nodes points boxes path len leaf words point
 
   pub record Going (m : ℕ) (b : BoundingBox) (r : Highest) : Type 0 where
     pub within : m < len
-    pub keeps : (d : ℕ) (t : Tree (whole d)) (p : Reading) → In d t p → Kept d c t p words m r × At d c k nodes points lows highs p t m b
+    pub keeps : (d : ℕ) (t : Tree (whole d)) (p : Reading) → In d t p → Kept d c t p words m r × At d c k nodes points boxes p t m b
 
-  pub going-starts : SomeDrawing c k nodes points lows highs path len leaf words point → (b : BoundingBox) → b .«min_values» ≡ joined least (getD points leaf []) (getD points leaf []) → b .«max_values» ≡ joined greatest (getD points leaf []) (getD points leaf [])
+  pub going-starts : SomeDrawing c k nodes points boxes path len leaf words point → (b : BoundingBox) → b .«min_values» ≡ joined least (getD points leaf []) (getD points leaf []) → b .«max_values» ≡ joined greatest (getD points leaf []) (getD points leaf [])
       → (v : Float) → v ≡ zeroNumber .value → Going 0 b (record { height = 0; cut = record { dimension = 0; value = v }; «bounding_box» = b })
   going-starts s b l h v e = record {
     within = omega (arith, s .drawing .count);
@@ -55,7 +55,7 @@ module _ (c k : ℕ) (nodes : List (List ℕ)) (points lows highs : List (List F
   -- at the node of height m
   module _ (m : ℕ) (b : BoundingBox) (r : Highest) (G : Going m b r) where
     -- the box and the point are coordinates, as the draw asks
-    pub going-readings : SomeDrawing c k nodes points lows highs path len leaf words point → Readings (b .«min_values») (b .«max_values») point width
+    pub going-readings : SomeDrawing c k nodes points boxes path len leaf words point → Readings (b .«min_values») (b .«max_values») point width
     going-readings s =
         let D = s .drawing in
         let A = G .keeps (s .channels) (s .tree) (s .reading) D .1 in
@@ -69,10 +69,10 @@ module _ (c k : ℕ) (nodes : List (List ℕ)) (points lows highs : List (List F
         let f : len - 1 - m ≡ suc i = omega arith in
         ap (λ (y : ℕ). getD (getD path y []) 1 0) f ∙ path-sibling d c p path t (subst (λ (n : ℕ). take n path ≡ trail d c t p) (D .count) (D .is-trail)) i m e
 
-    pub some-side : SomeDrawing c k nodes points lows highs path len leaf words point → m + 1 < len → (node : ℕ) → node ≡ getD (getD path (len - 1 - m) []) 1 0 → SomeBoxed c k node nodes points lows highs
+    pub some-side : SomeDrawing c k nodes points boxes path len leaf words point → m + 1 < len → (node : ℕ) → node ≡ getD (getD path (len - 1 - m) []) 1 0 → SomeBoxed c k node nodes points boxes
     some-side s h node e =
         let D = s .drawing in
-        some-sibling (s .channels) c k nodes points lows highs (s .reading) m (s .tree) (omega (arith, D .count)) (D .boxed) (D .once) node (e ∙ sibling-is (s .channels) (s .tree) (s .reading) D h)
+        some-sibling (s .channels) c k nodes points boxes (s .reading) m (s .tree) (omega (arith, D .count)) (D .boxed) (D .once) node (e ∙ sibling-is (s .channels) (s .tree) (s .reading) D h)
 
     -- its draw
     module _ (W : getD words m 0 < 2 ^ 64) (s : Separation) (X : s ≡ separation width (b .«min_values») (b .«max_values») point (getD words m 0)) where
@@ -97,8 +97,8 @@ module _ (c k : ℕ) (nodes : List (List ℕ)) (points lows highs : List (List F
             let last : len ≡ suc m = omega (arith, G .within) in
             rw last (kept-on d t p D)
 
-        pub going-on : m + 1 < len → (node : ℕ) → node ≡ getD (getD path (len - 1 - m) []) 1 0 → (b′ : BoundingBox) → GrownBy c k node nodes points lows highs b b′ → Going (m + 1) b′ y
+        pub going-on : m + 1 < len → (node : ℕ) → node ≡ getD (getD path (len - 1 - m) []) 1 0 → (b′ : BoundingBox) → GrownBy c k node nodes points boxes b b′ → Going (m + 1) b′ y
         going-on h node f b′ g = record {
           within = h;
-          keeps = λ d t p D. rw (add-one m) (kept-on d t p D, grow-up d c k nodes points lows highs p m t (omega (arith, D .count)) (D .boxed) node (f ∙ sibling-is d t p D h) b b′ (G .keeps d t p D .1) g);
+          keeps = λ d t p D. rw (add-one m) (kept-on d t p D, grow-up d c k nodes points boxes p m t (omega (arith, D .count)) (D .boxed) node (f ∙ sibling-is d t p D h) b b′ (G .keeps d t p D .1) g);
         }
