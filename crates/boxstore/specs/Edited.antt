@@ -36,6 +36,19 @@ pub record Grafted (d c k n : ℕ) (boxes : List (List (List Float))) (t : Tree 
   pub fresh : uses d c t b ≡ 0
   pub boxes-are : boxes ≡ written k b (boxEnds d c (above (whole d) b cut i p (sub (whole d) t h p))) (boxesOf d c k t)
 
+-- some tree has a new branch
+pub record SomeGrafted (k n : ℕ) (path : List (List ℕ)) (point : List Float) (boxes : List (List (List Float))) : Type 0 where
+  pub channels : ℕ
+  pub capacity : ℕ
+  pub tree : Tree (whole channels)
+  pub reading : Reading
+  pub number : ℕ
+  pub index : ℕ
+  pub high : ℕ
+  pub drawn : Cut (whole channels)
+  pub walked : Walked channels capacity path point tree reading
+  pub grafted : Grafted channels capacity k n boxes tree reading number index high drawn
+
 -- Then the cached boxes become those of the tree with the new branch in it, whichever tree it is.
 abbrev pub GrownAbove : (k n : ℕ) → List (List ℕ) → List Float → (boxes boxes′ : List (List (List Float))) → Type 0
 GrownAbove k n path point boxes boxes′ = (d c : ℕ) (t : Tree (whole d)) (p : Reading) (b i h : ℕ) (cut : Cut (whole d)) → Walked d c path point t p → Grafted d c k n boxes t p b i h cut

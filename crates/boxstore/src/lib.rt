@@ -18,8 +18,8 @@ ghost use Rattle.layout.specs.Layout.{noBoxEnds};
 ghost use Rattle.boxstore.specs.Boxed.{sideIn, SomeBoxed};
 ghost use Rattle.boundingbox.specs.Contained.{contains};
 ghost use Rattle.boxstore.specs.Written.{lowIn, highIn, boxWith, written};
-ghost use Rattle.boxstore.specs.Grown.{EndsGrownBy, GrownBy, BoxOf, SomeSides, SidesBox, Rebuilt};
-ghost use Rattle.boxstore.specs.Edited.{GrownAbove, SomeForgotten, RepairedAbove};
+ghost use Rattle.boxstore.specs.Grown.{EndsGrownBy, Numbers, GrownBy, BoxOf, SomeSides, SidesBox, Rebuilt};
+ghost use Rattle.boxstore.specs.Edited.{SomeGrafted, GrownAbove, SomeForgotten, RepairedAbove};
 
 // The id of a branch's side: 0 is the left one, 1 the right one.
 fn side_of(nodes: &Nodes, node: usize, side: usize) -> usize
@@ -122,6 +122,7 @@ pub fn grow_node_box(
 ) -> BoundingBox
     requires few { ⌜ capacity ≤ capacityLimit ⌝ }
     requires stands { ⌜ SomeBoxed capacity cached node (now nodes) (now points) (now boxes) ⌝ }
+    requires numbers { ⌜ Numbers b ⌝ }
     ensures { λ r. ⌜ GrownBy capacity cached node (now (nodes .entry)) (now (points .entry)) (now (boxes .entry)) b r ⌝ }
 {
     if capacity <= node {
@@ -275,7 +276,8 @@ pub fn sibling_at(path: &Path, len: usize, m: usize) -> usize
 // The boxes of the first `n` nodes of a path grown by a point, from the lowest up. Ends at a cached box that held the point, as then do all above it.
 // Rules out an end at a branch that is not cached, and a box above left as it was though the point lies outside.
 pub fn grow_ancestors(boxes: &mut Boxes, path: &Path, n: usize, point: &Row, cached: usize)
-    requires { ⌜ (n ≤ capacityLimit) × (cached ≤ branchLimit) ⌝ }
+    requires few { ⌜ (n ≤ capacityLimit) × (cached ≤ branchLimit) ⌝ }
+    requires stands { ⌜ SomeGrafted cached n (now path) (now point) (now boxes) ⌝ }
     ensures { λ _. ⌜ GrownAbove cached n (now (path .entry)) (now (point .entry)) (now (boxes .entry)) (now (boxes .exit)) ⌝ }
 {
     let mut row = n;

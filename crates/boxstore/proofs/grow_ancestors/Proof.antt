@@ -15,7 +15,7 @@ abbrev μ-loop : tie.MeasureT-loop
 μ-loop boxes₀ path n point cached row₀ boxes row = row
 
 loop-holds : tie.Need-loop-holds Inv-loop μ-loop
-loop-holds c = (omega arith, c .pre .0, c .pre .1, climb-start _ _ _ _ _ (c .pre .1))
+loop-holds c = (omega arith, c .pre .0 .0, c .pre .0 .1, climb-start _ _ _ _ _ (c .pre .0 .1))
 
 sub-row : tie.Need-sub-row Inv-loop μ-loop
 sub-row c = search needs

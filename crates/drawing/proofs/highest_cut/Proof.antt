@@ -5,7 +5,7 @@ use mathlib.Core.Logic.{⊎-elim}
 use Prim.Native.Nat.{_-_}
 use lib.Ieee.{ofBits}
 use Rattle.wholetree.specs.Number.{zero}
-use Rattle.drawing.proofs.Going.{Going, going-starts, going-readings, kept-held, kept-last, some-side, going-on}
+use Rattle.drawing.proofs.Going.{Going, going-starts, going-readings, going-numbers, kept-held, kept-last, some-side, going-on}
 use borrow.Author.Needs.{needs}
 use Rattle.drawing.proofs.highest_cut.Statement.{statement}
 use Rattle.drawing.proofs.highest_cut.Tie as tie
@@ -60,7 +60,10 @@ sibling-at-requires : tie.Need-sibling-at-requires Inv-loop μ-loop
 sibling-at-requires c κs = (omega arith, c .before .before .before .before .before .before .before .before .before .before .before .before .pre .1 .drawing .most)
 
 grow-node-box-requires : tie.Need-grow-node-box-requires Inv-loop μ-loop
-grow-node-box-requires c κs = (c .before .before .before .before .before .before .before .before .before .before .before .before .before .pre .0, some-side _ _ _ _ _ _ _ _ _ _ _ _ _ (c .before .before .before .before .before .before .before .before .loop .inv) (c .before .before .before .before .before .before .before .before .before .before .before .before .before .pre .1) (c .before .before .before .before .before .before .before .loop-test .taken) _ (c .sibling-at .ensures))
+grow-node-box-requires c κs =
+    let p = c .before .before .before .before .before .before .before .before .before .before .before .before .before .pre in
+    let g = c .before .before .before .before .before .before .before .before .loop .inv in
+    (p .0, (some-side _ _ _ _ _ _ _ _ _ _ _ _ _ g (p .1) (c .before .before .before .before .before .before .before .loop-test .taken) _ (c .sibling-at .ensures), going-numbers _ _ _ _ _ _ _ _ _ _ _ _ _ g (p .1)))
 
 add-m : tie.Need-add-m Inv-loop μ-loop
 add-m c = omega (arith, c .before .before .before .before .before .before .before .before .loop-test .taken, c .before .before .before .before .before .before .before .before .before .before .before .before .before .before .pre .1 .drawing .most)
