@@ -32,7 +32,7 @@ use Rattle.layout.proofs.Replaced.{in-sub, uses-sub, slot-above}
 use Rattle.boxstore.specs.Written.{boxWith, written}
 use Rattle.boxstore.proofs.Ends.{tab-same, both, least-end, most-end, least-ends, most-ends, row-ends}
 use Rattle.boxstore.proofs.Written.{written-length, written-here, written-there}
-use Rattle.boxstore.proofs.Rows.{at, Partly, partly-next, partly-rest, partly-all}
+use Rattle.boxstore.proofs.Partly.{at, Partly, partly-next, partly-rest, partly-all}
 
 module _ (d c : ℕ) (p : Reading) where
   pub replace-same : (h : ℕ) (t : Tree (whole d)) → h ≤ height (whole d) t p → replace (whole d) t h p (sub (whole d) t h p) ≡ t

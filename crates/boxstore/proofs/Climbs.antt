@@ -29,7 +29,7 @@ use Rattle.layout.proofs.Trails.{path-node}
 use Rattle.boxstore.specs.Written.{lowIn, highIn, boxWith, written}
 use Rattle.boxstore.specs.Edited.{Walked, Grafted, GrownAbove}
 use Rattle.boxstore.proofs.Ends.{least-end, most-end, least-ends, most-ends}
-use Rattle.boxstore.proofs.Rows.{at, Partly, partly-all}
+use Rattle.boxstore.proofs.Partly.{at, Partly, partly-all}
 use Rattle.boxstore.proofs.Changes.{old-box, Still, still-is}
 use Rattle.boxstore.proofs.Grafts.{graft-start, graft-turn, graft-stop}
 

@@ -22,7 +22,7 @@ use Rattle.layout.specs.Stands.{Once}
 use Rattle.layout.proofs.Replaced.{none-above, slot-other}
 use Rattle.boxstore.specs.Edited.{boxesOf}
 use Rattle.boxstore.proofs.Ends.{box-by, least-end, most-end}
-use Rattle.boxstore.proofs.Rows.{at, Partly}
+use Rattle.boxstore.proofs.Partly.{at, Partly}
 use Rattle.boxstore.proofs.Changes.{replace-same, partly-stop, end-replaced}
 
 module _ (d c k : ℕ) (t : Tree (whole d)) (p : Reading) (o : Once d c t) where

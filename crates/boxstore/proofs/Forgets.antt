@@ -26,7 +26,7 @@ use Rattle.layout.proofs.Replaced.{none-above, slot-kept}
 use Rattle.layout.proofs.Forks.{sum-fork, in-sibling}
 use Rattle.boxstore.specs.Written.{written}
 use Rattle.boxstore.proofs.Ends.{box-by, least-end, most-end}
-use Rattle.boxstore.proofs.Rows.{at, at-apart, Partly}
+use Rattle.boxstore.proofs.Partly.{at, at-apart, Partly}
 use Rattle.boxstore.proofs.Changes.{replace-same, replace-replace, partly-start, partly-stop, end-replaced}
 
 -- the tree before, and p's walk in it, which ends below a branch

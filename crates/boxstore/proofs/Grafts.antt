@@ -30,7 +30,7 @@ use Rattle.layout.proofs.Slots.{slot-node}
 use Rattle.layout.proofs.Replaced.{upper-uses, upper-at, none-above, in-sub, in-new, slot-kept}
 use Rattle.boxstore.specs.Written.{lowIn, highIn, boxWith, written}
 use Rattle.boxstore.proofs.Ends.{box-by, least-end, most-end}
-use Rattle.boxstore.proofs.Rows.{at, Partly}
+use Rattle.boxstore.proofs.Partly.{at, Partly}
 use Rattle.boxstore.proofs.Changes.{replace-same, old-box, partly-start, partly-turn, partly-stop, end-replaced, Still, still-up, grown-box}
 
 -- ---- the new branch's box: that of the node below it, with the point in it

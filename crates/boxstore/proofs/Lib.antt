@@ -3,7 +3,7 @@ pub mod Depths
 pub mod Parts
 pub mod Written
 pub mod Standing
-pub mod Rows
+pub mod Partly
 pub mod Changes
 pub mod Grafts
 pub mod Climbs

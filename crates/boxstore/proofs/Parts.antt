@@ -39,34 +39,34 @@ module _ (d : ℕ) (f : ℕ → Number) (l r : Tree (whole d)) (b : ℕ) (x : Cu
 
 module _ (c k node : ℕ) (nodes : List (List ℕ)) (points : List (List Float)) (boxes : List (List (List Float))) where
   -- X is the node's box
-  abbrev Ends : List (List Float) → Type 0
-  Ends X = (d : ℕ) (t : Tree (whole d)) → id (whole d) c t ≡ node → Boxed d c k nodes points boxes t → X ≡ boxEnds d c t
+  abbrev IsBox : List (List Float) → Type 0
+  IsBox X = (d : ℕ) (t : Tree (whole d)) → id (whole d) c t ≡ node → Boxed d c k nodes points boxes t → X ≡ boxEnds d c t
 
-  leaf-ends : c ≤ node → Ends (getD points (node - c) [] ∷ getD points (node - c) [] ∷ [])
-  leaf-ends h d (leaf i q n) e B =
+  leaf-is : c ≤ node → IsBox (getD points (node - c) [] ∷ getD points (node - c) [] ∷ [])
+  leaf-is h d (leaf i q n) e B =
       let z : node - c ≡ i = omega arith in
       rw z (both (B .leaves ∙ row-ends q) (B .leaves ∙ row-ends q))
-  leaf-ends h d (branch b x g l r) e B = absurd (omega (arith, B .in-range))
+  leaf-is h d (branch b x g l r) e B = absurd (omega (arith, B .in-range))
 
-  cached-ends : node < c → node < k → Ends (getD boxes node [])
-  cached-ends h m d (leaf i q n) e B = absurd (omega arith)
-  cached-ends h m d (branch b x g l r) e B = rw (← e) (B .cached .0 (omega arith))
+  cached-is : node < c → node < k → IsBox (getD boxes node [])
+  cached-is h m d (leaf i q n) e B = absurd (omega arith)
+  cached-is h m d (branch b x g l r) e B = rw (← e) (B .cached .0 (omega arith))
 
-  pub record Row (X : List (List Float)) : Type 0 where
+  pub record HasBox (X : List (List Float)) : Type 0 where
     pub grown : (low high low′ high′ : List Float) → low′ ≡ joined leastFloat low (getD X 0 []) → high′ ≡ joined greatestFloat high (getD X 1 []) → EndsGrownBy c k node nodes points boxes low high low′ high′
     pub whole-box : (r : BoundingBox) → r .«min_values» ≡ getD X 0 [] → r .«max_values» ≡ getD X 1 [] → BoxOf c k node nodes points boxes r
 
-  row : (X : List (List Float)) → Ends X → Row X
-  row X E = record {
+  has-box : (X : List (List Float)) → IsBox X → HasBox X
+  has-box X E = record {
     grown = λ low high low′ high′ p q d t f g e B m n. let w = E d t e B in (rw (p, m, w) (least-ends d f (lo (whole d) t)), rw (q, n, w) (most-ends d g (hi (whole d) t)));
     whole-box = λ r p q d t e B. rw (p, q, E d t e B) (refl, refl);
   }
 
-  pub at-leaf : c ≤ node → Row (getD points (node - c) [] ∷ getD points (node - c) [] ∷ [])
-  at-leaf h = row _ (leaf-ends h)
+  pub at-leaf : c ≤ node → HasBox (getD points (node - c) [] ∷ getD points (node - c) [] ∷ [])
+  at-leaf h = has-box _ (leaf-is h)
 
-  pub at-cached : node < c → node < k → Row (getD boxes node [])
-  at-cached h m = row _ (cached-ends h m)
+  pub at-cached : node < c → node < k → HasBox (getD boxes node [])
+  at-cached h m = has-box _ (cached-is h m)
 
   -- the box of a node that stands has numbers for ends
   pub box-numbers : (r : BoundingBox) → SomeBoxed c k node nodes points boxes → BoxOf c k node nodes points boxes r → Numbers r

@@ -43,7 +43,7 @@ use Rattle.boxstore.specs.Edited.{Walked, lifted, Forgotten, SomeForgott
 use Rattle.boxstore.proofs.Ends.{least-end, most-end}
 use Rattle.boxstore.proofs.Depths.{depth}
 use Rattle.boxstore.proofs.Standing.{depth-in, once-in, links-in}
-use Rattle.boxstore.proofs.Rows.{at, Partly, partly-all}
+use Rattle.boxstore.proofs.Partly.{at, Partly, partly-all}
 use Rattle.boxstore.proofs.Changes.{old-box, partly-turn}
 use Rattle.boxstore.proofs.Forgets.{forget-once, forget-start, Same, end-stays, forget-stop}
 use Rattle.boxstore.proofs.Climbs.{index-is}

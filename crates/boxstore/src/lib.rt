@@ -150,7 +150,7 @@ pub fn grow_node_box(
 }
 
 // The box of a node. That of a branch that is not cached is its left side's, grown by its right side.
-// Rules out a box of the left side alone, and a cached row taken for a branch that has none.
+// Rules out a box of the left side alone, and a cached box taken for a branch that has none.
 pub fn bounding_box(
     node: usize,
     nodes: &Nodes,
@@ -176,7 +176,7 @@ pub fn bounding_box(
 }
 
 // The box of a branch from its two sides, whatever is cached for the branch itself.
-// Rules out the stale row of a branch that is cached, and a box of one side alone.
+// Rules out the stale box of a branch that is cached, and a box of one side alone.
 fn reconstruct_box(
     node: usize,
     nodes: &Nodes,
@@ -225,7 +225,7 @@ pub fn copy_box_above(
 }
 
 // The box of a branch that is gone cleared, if the branch was cached.
-// Rules out a row left behind where no branch is.
+// Rules out a box left behind where no branch is.
 pub fn clear_box(boxes: &mut Boxes, index: usize, cached: usize)
     requires { ⌜ cached ≤ branchLimit ⌝ }
     ensures { λ _. ⌜ now (boxes .exit) ≡ written cached index noBoxEnds (now (boxes .entry)) ⌝ }
