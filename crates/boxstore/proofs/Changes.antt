@@ -140,7 +140,7 @@ module _ (d c : ℕ) (p : Reading) where
         rw w (end-swap (whole d) E _ _ _ ∙ ap (λ x. m x (end (whole d) m (sibling (whole d) t (e + n) p) i)) (still-up t e n (omega arith) S i l)))
 
     module _ (j : Float → Float → Float) (J : (f g : ℕ → Number) → joined j (ends f) (ends g) ≡ ends (λ (i : ℕ). m (f i) (g i))) where
-      pub joined-row : (t : Tree (whole d)) → joined j (endsOf t) (p .row) ≡ ends (λ (i : ℕ). m (end (whole d) m t i) (coordinate p i))
+      joined-row : (t : Tree (whole d)) → joined j (endsOf t) (p .row) ≡ ends (λ (i : ℕ). m (end (whole d) m t i) (coordinate p i))
       joined-row t = ap (joined j (endsOf t)) (row-ends p) ∙ J (λ i. end (whole d) m t i) (coordinate p)
 
       pub still-is : (t : Tree (whole d)) → joined j (endsOf t) (p .row) ≡ endsOf t → Still t

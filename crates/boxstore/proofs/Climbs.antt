@@ -41,7 +41,7 @@ one-number : (x y : Float) → T (isNumber x) → T (isNumber y) → key x ≡ k
 one-number x y p q e = ap (λ (a : Number). a .value) (same-key (record { value = x; is-number = p }) (record { value = y; is-number = q }) e)
 
 module _ (d c : ℕ) (p : Reading) (u : Tree (whole d)) where
-  pub held-still : contains (lowOf d c u) (highOf d c u) (p .row) (p .row) width ≡ true → Still d c p (least-end d) u × Still d c p (most-end d) u
+  held-still : contains (lowOf d c u) (highOf d c u) (p .row) (p .row) width ≡ true → Still d c p (least-end d) u × Still d c p (most-end d) u
   held-still e =
       let w = contains-unchanged (λ x. T (isNumber x)) key by-number one-number (lowOf d c u) (highOf d c u) (p .row) (p .row) width (tab-length width _) (tab-length width _)
       (λ i h. subst (λ x. T (isNumber x)) (sym (tab-at width _ i _ h)) (lo (whole d) u i .is-number))

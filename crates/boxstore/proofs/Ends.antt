@@ -42,7 +42,7 @@ module _ (d : ℕ) where
   most-end = most-of (whole d) (whole-laws d)
 
   -- on numbers a test for below and one for at or below pick the same
-  pub least-value : (a b : Number) → leastFloat (a .value) (b .value) ≡ least (whole d) a b .value
+  least-value : (a b : Number) → leastFloat (a .value) (b .value) ≡ least (whole d) a b .value
   unfolding leastFloat
   least-value a b = rw (← not-le b a) (go (le (a .value) (b .value)) (le (b .value) (a .value)) refl refl)
     where
@@ -52,7 +52,7 @@ module _ (d : ℕ) where
       go false true p q = refl
       go false false p q = clash (le (b .value) (a .value)) (le-total a b p) q
 
-  pub most-value : (a b : Number) → greatestFloat (a .value) (b .value) ≡ most (whole d) a b .value
+  most-value : (a b : Number) → greatestFloat (a .value) (b .value) ≡ most (whole d) a b .value
   unfolding greatestFloat
   most-value a b = rw (← not-le b a) (go (le (a .value) (b .value)) (le (b .value) (a .value)) refl refl)
     where

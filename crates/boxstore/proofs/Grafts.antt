@@ -48,7 +48,7 @@ module _ (d c : ℕ) (t : Tree (whole d)) (p : Reading) (o : Once d c t) (b i h 
   uses-above : (j : ℕ) → uses d c new j ≡ is b j + uses d c (sub (whole d) t h p) j
   uses-above j = omega (arith, sum-above (whole d) (λ i q n. 0) (λ b. is b j) b cut i p (sub (whole d) t h p))
 
-  pub graft-once : Once d c after
+  graft-once : Once d c after
   graft-once j =
       let w = sum-replace (whole d) (λ i q n. 0) (λ b. is b j) h p new t e in
       let v = uses-above j in
