@@ -1,37 +1,38 @@
 -- What an edit does to the box of each branch above it: with a point in it, or with the point gone from it. Assumes nothing.
-use mathlib.Core.Path.{_≡_, refl, sym, ap, _∙_}
+use mathlib.Core.Path.{_≡_, refl, sym, ap, _∙_, subst}
 use mathlib.Core.Bool.{Bool, true, cond}
 use mathlib.Core.Option.{some}
 use mathlib.Core.List.{List, []}
-use Prim.Native.Nat.{ℕ, zero, suc, _+_, _≤_, _<_}
+use Prim.Native.Nat.{ℕ, zero, suc, _+_, _-_, _≤_, _<_}
 use native.Mathlib.Omega.{arith}
-use lib.Dec.{ltb}
-use lib.ListN.{getD}
-use borrow.Author.Tests.{ltb-true, ltb-false}
+use lib.Dec.{eqb, ltb}
+use lib.ListN.{length, getD}
+use borrow.Author.Tests.{eqb-true, eqb-false, ltb-true}
 use lib.Ieee.{Float, nan}
 use Rattle.limits.specs.Limits.{width, branchLimit}
-use Rattle.boundingbox.specs.Ends.{channel, joined}
+use Rattle.boundingbox.specs.Ends.{channel, joined, least as leastFloat, greatest as greatestFloat}
 use Rattle.cuttree.specs.Setting.{below}
-use Rattle.cuttree.specs.Tree.{Tree, branch, height, end}
+use Rattle.cuttree.specs.Tree.{Tree, branch, height, end, lo, hi, least, most}
 use Rattle.cuttree.specs.Walk.{sub, sibling, replace}
-use Rattle.cuttree.proofs.Tests.{by-test, cond-true, cond-false}
+use Rattle.cuttree.proofs.Tests.{by-test, cond-true}
 use Rattle.cuttree.proofs.Steps.{toward, rejoin, along}
 use Rattle.cuttree.proofs.Orders.{End, end-swap}
 use Rattle.cuttree.proofs.Boxes.{end-rejoin}
 use Rattle.cuttree.proofs.Heights.{sub-top, replace-top, sub-down, replace-down, by-height, end-up}
 use Rattle.wholetree.specs.Number.{Number}
 use Rattle.wholetree.specs.Reading.{Reading, coordinate}
-use Rattle.wholetree.specs.Whole.{whole, ends}
+use Rattle.wholetree.specs.Whole.{whole, tab, ends}
 use Rattle.wholetree.proofs.Numbers.{same-number}
-use Rattle.wholetree.proofs.Readings.{tab-at}
-use Rattle.layout.specs.Layout.{boxIn, noEnds}
+use Rattle.wholetree.proofs.Readings.{tab-length, tab-at}
+use Rattle.layout.specs.Slots.{slot, lowOf, highOf, boxEnds}
+use Rattle.layout.specs.Layout.{boxIn, noBoxEnds}
 use Rattle.layout.specs.Stands.{Once}
 use Rattle.layout.proofs.Slots.{slot-node}
 use Rattle.layout.proofs.Replaced.{in-sub, uses-sub, slot-above}
-use Rattle.boxstore.specs.Written.{written}
-use Rattle.boxstore.proofs.Ends.{row-ends}
-use Rattle.boxstore.proofs.Written.{written-other, written-length, written-here, written-there}
-use Rattle.boxstore.proofs.Rows.{at, Partly, partly-next}
+use Rattle.boxstore.specs.Written.{boxWith, written}
+use Rattle.boxstore.proofs.Ends.{tab-same, both, least-end, most-end, least-ends, most-ends, row-ends}
+use Rattle.boxstore.proofs.Written.{written-length, written-here, written-there}
+use Rattle.boxstore.proofs.Partly.{at, Partly, partly-next, partly-rest, partly-all}
 
 module _ (d c : ℕ) (p : Reading) where
   pub replace-same : (h : ℕ) (t : Tree (whole d)) → h ≤ height (whole d) t p → replace (whole d) t h p (sub (whole d) t h p) ≡ t
@@ -49,35 +50,69 @@ module _ (d c : ℕ) (p : Reading) where
       (λ x. replace-down (whole d) b k g l r p n _ x ∙ ap (λ y. rejoin (whole d) b k g l r p (replace (whole d) (toward (whole d) k p l r) n p (replace (whole d) y h p s))) (sub-down (whole d) b k g l r p n x)
       ∙ ap (λ y. rejoin (whole d) b k g l r p y) (ih x) ∙ sym (replace-down (whole d) b k g l r p h s (omega arith))))
 
-  -- ---- the kept row of a branch on the walk
-  module _ (k : ℕ) (f : Tree (whole d) → List Float) (t : Tree (whole d)) where
-    abbrev pub kept : Tree (whole d) → ℕ → List Float
-    kept u m = cond (ltb (at d c t p m) k) (f u) noEnds
+  -- ---- the kept box of a branch on the walk in t
+  module _ (k : ℕ) (t : Tree (whole d)) (o : Once d c t) where
+    abbrev kept : Tree (whole d) → ℕ → List (List Float)
+    kept u m = cond (ltb (at d c t p m) k) (boxEnds d c u) noBoxEnds
 
-    pub old-at : Once d c t → (m : ℕ) → 0 < m → m ≤ height (whole d) t p → boxIn d c k f (some t) (at d c t p m) ≡ kept (sub (whole d) t m p) m
-    old-at o m a e = ap (λ x. cond (ltb (at d c t p m) k) x noEnds) (slot-node d c f noEnds (sub (whole d) t m p) o (in-sub d c m p t e) (uses-sub d c m p t a e))
+    old-at : (m : ℕ) → 0 < m → m ≤ height (whole d) t p → boxIn d c k (some t) (at d c t p m) ≡ kept (sub (whole d) t m p) m
+    old-at m a e = ap (λ x. cond (ltb (at d c t p m) k) x noBoxEnds) (slot-node d c (boxEnds d c) noBoxEnds (sub (whole d) t m p) o (in-sub d c m p t e) (uses-sub d c m p t a e))
 
-    pub new-at : (h : ℕ) (s : Tree (whole d)) → Once d c (replace (whole d) t h p s) → (m : ℕ) → h < m → m ≤ height (whole d) t p
-        → boxIn d c k f (some (replace (whole d) t h p s)) (at d c t p m) ≡ kept (replace (whole d) (sub (whole d) t m p) h p s) m
-    new-at h s o m a e = ap (λ x. cond (ltb (at d c t p m) k) x noEnds) (slot-above d c f noEnds h m p s t o a e)
+    -- one that is not done yet
+    pub old-box : k ≤ branchLimit → {t′ : Tree (whole d)} (boxes : List (List (List Float))) (n : ℕ) → Partly d c k t t′ p boxes n → (m : ℕ) → n < m → m ≤ height (whole d) t p → ltb (at d c t p m) k ≡ true → getD boxes (at d c t p m) [] ≡ boxEnds d c (sub (whole d) t m p)
+    old-box few boxes n P m a e x = P .todo m a e (omega (arith, ltb-true (at d c t p m) k x)) ∙ old-at m (omega arith) e ∙ cond-true _ _ _ x
 
-    -- a turn: the row of height n + 1 written, if its branch is cached
-    pub partly-turn : k ≤ branchLimit → Once d c t → (h : ℕ) (s : Tree (whole d)) → Once d c (replace (whole d) t h p s) → (rows : List (List Float)) (row : List Float) (n : ℕ) → h ≤ n → suc n ≤ height (whole d) t p
-        → Partly d c k f t (replace (whole d) t h p s) p rows n
-        → (ltb (at d c t p (suc n)) k ≡ true → at d c t p (suc n) < branchLimit → row ≡ f (replace (whole d) (sub (whole d) t (suc n) p) h p s))
-        → Partly d c k f t (replace (whole d) t h p s) p (written k (at d c t p (suc n)) row rows) (suc n)
-    partly-turn few o h s o′ rows row n a l P is =
-        partly-next d c k f t (replace (whole d) t h p s) p o rows (written k i row rows) n l P (written-length k i row rows ∙ P .size)
-        (λ q. by-test (ltb i k)
-        (λ x. written-here k i row rows (ltb-true i k x) (omega (arith, P .size)) ∙ is x q ∙ sym (will ∙ cond-true _ _ _ x))
-        (λ x. ap (λ r. getD r i []) (written-other k i row rows (ltb-false i k x)) ∙ P .todo (suc n) (omega arith) l q ∙ old-at o (suc n) (omega arith) l ∙ cond-false _ _ _ x ∙ sym (will ∙ cond-false _ _ _ x)))
-        (λ j z. written-there k i row rows j z)
+    -- the tree's boxes, with that of the number i written: they are those of t' at every number that is no branch's above the height h
+    pub partly-start : k ≤ branchLimit → (t′ : Tree (whole d)) (h i : ℕ) (x : List (List Float)) → ((n : ℕ) → h < n → n ≤ height (whole d) t p → i ≡ at d c t p n → ⊥) → slot d c (boxEnds d c) noBoxEnds t′ i ≡ x
+        → ((j : ℕ) → (i ≡ j → ⊥) → ((n : ℕ) → h < n → n ≤ height (whole d) t p → at d c t p n ≡ j → ⊥) → slot d c (boxEnds d c) noBoxEnds t′ j ≡ slot d c (boxEnds d c) noBoxEnds t j)
+        → Partly d c k t t′ p (written k i x (tab branchLimit (boxIn d c k (some t)))) h
+    partly-start few t′ h i x apart new same = record {
+      size = written-length k i x boxes ∙ long;
+      todo = λ n a l s. written-there k i x boxes (at d c t p n) (apart n a l) ∙ was (at d c t p n) s;
+      done = λ j s none. by-test (eqb i j)
+          (λ z. subst (λ n. n < branchLimit → getD (written k i x boxes) n [] ≡ boxIn d c k (some t′) n) (eqb-true i j z) (λ s. written-here k i x boxes (omega (arith, long)) _ (was i s) ∙ ap (λ y. cond (ltb i k) y noBoxEnds) (sym new)) s)
+          (λ z. let n = eqb-false i j z in written-there k i x boxes j n ∙ was j s ∙ ap (λ y. cond (ltb j k) y noBoxEnds) (sym (same j n none)));
+    }
       where
-        i : ℕ
-        i = at d c t p (suc n)
+        boxes : List (List (List Float))
+        boxes = tab branchLimit (boxIn d c k (some t))
 
-        will : boxIn d c k f (some (replace (whole d) t h p s)) i ≡ kept (replace (whole d) (sub (whole d) t (suc n) p) h p s) (suc n)
-        will = new-at h s o′ (suc n) (omega arith) l
+        long : length boxes ≡ branchLimit
+        long = tab-length branchLimit (boxIn d c k (some t))
+
+        was : (j : ℕ) → j < branchLimit → getD boxes j [] ≡ boxIn d c k (some t) j
+        was j s = tab-at branchLimit (boxIn d c k (some t)) j [] s
+
+    -- the tree after has s in place of the walk's node of height h
+    module _ (h : ℕ) (s : Tree (whole d)) (o′ : Once d c (replace (whole d) t h p s)) where
+      abbrev after : Tree (whole d)
+      after = replace (whole d) t h p s
+
+      abbrev with-it : ℕ → Tree (whole d)
+      with-it m = replace (whole d) (sub (whole d) t m p) h p s
+
+      new-at : (m : ℕ) → h < m → m ≤ height (whole d) t p → boxIn d c k (some after) (at d c t p m) ≡ kept (with-it m) m
+      new-at m a e = ap (λ x. cond (ltb (at d c t p m) k) x noBoxEnds) (slot-above d c (boxEnds d c) noBoxEnds h m p s t o′ a e)
+
+      -- a turn: the box of height n + 1 written, if its branch is cached
+      pub partly-turn : k ≤ branchLimit → (boxes : List (List (List Float))) (box : List (List Float)) (n : ℕ) → h ≤ n → suc n ≤ height (whole d) t p → Partly d c k t after p boxes n
+          → (ltb (at d c t p (suc n)) k ≡ true → box ≡ boxEnds d c (with-it (suc n))) → Partly d c k t after p (written k (at d c t p (suc n)) box boxes) (suc n)
+      partly-turn few boxes box n a l P is =
+          partly-next d c k t after p o boxes (written k i box boxes) n l P (written-length k i box boxes ∙ P .size)
+          (λ q. written-here k i box boxes (omega (arith, P .size)) _ (P .todo (suc n) (omega arith) l q ∙ old-at (suc n) (omega arith) l)
+          ∙ by-test (ltb i k) (λ x. rw x (is x)) (λ x. rw x) ∙ sym (new-at (suc n) (omega arith) l))
+          (λ j z. written-there k i box boxes j z)
+        where
+          i : ℕ
+          i = at d c t p (suc n)
+
+      -- the end: the boxes above are the same in both trees
+      pub partly-stop : (boxes : List (List (List Float))) (n : ℕ) → h ≤ n → n ≤ height (whole d) t p → Partly d c k t after p boxes n
+          → ((m : ℕ) → n < m → m ≤ height (whole d) t p → boxEnds d c (sub (whole d) t m p) ≡ boxEnds d c (with-it m)) → boxes ≡ tab branchLimit (boxIn d c k (some after))
+      partly-stop boxes n a l P same =
+          partly-all d c k t after p o boxes (height (whole d) t p) (omega arith)
+          (partly-rest d c k t after p o boxes (height (whole d) t p - n) n (omega arith) P
+          (λ m b e. old-at m (omega arith) e ∙ ap (λ x. cond (ltb (at d c t p m) k) x noBoxEnds) (same m b e) ∙ sym (new-at m (omega arith) e)))
 
   -- ---- the ends, lower or upper
   module _ {m : Number → Number → Number} {to : Number → Number → Bool} (E : End (whole d) m to) where
@@ -91,7 +126,7 @@ module _ (d c : ℕ) (p : Reading) where
         (λ n. rw (replace-down (whole d) b k g l r p h s n, replace-down (whole d) b k g l r p h u n, end-rejoin (whole d) E b k g l r p (replace (whole d) (toward (whole d) k p l r) h p s) i, end-rejoin (whole d) E b k g l r p (replace (whole d) (toward (whole d) k p l r) h p u) i, ih n)
         (out _ _)))
 
-    abbrev pub endsOf : Tree (whole d) → List Float
+    abbrev endsOf : Tree (whole d) → List Float
     endsOf t = ends (λ (i : ℕ). end (whole d) m t i)
 
     -- ---- a box that holds the point
@@ -105,10 +140,17 @@ module _ (d c : ℕ) (p : Reading) where
         rw w (end-swap (whole d) E _ _ _ ∙ ap (λ x. m x (end (whole d) m (sibling (whole d) t (e + n) p) i)) (still-up t e n (omega arith) S i l)))
 
     module _ (j : Float → Float → Float) (J : (f g : ℕ → Number) → joined j (ends f) (ends g) ≡ ends (λ (i : ℕ). m (f i) (g i))) where
-      pub joined-row : (t : Tree (whole d)) → joined j (endsOf t) (p .row) ≡ ends (λ (i : ℕ). m (end (whole d) m t i) (coordinate p i))
+      joined-row : (t : Tree (whole d)) → joined j (endsOf t) (p .row) ≡ ends (λ (i : ℕ). m (end (whole d) m t i) (coordinate p i))
       joined-row t = ap (joined j (endsOf t)) (row-ends p) ∙ J (λ i. end (whole d) m t i) (coordinate p)
 
       pub still-is : (t : Tree (whole d)) → joined j (endsOf t) (p .row) ≡ endsOf t → Still t
       still-is t e i l =
           same-number _ _
           (sym (tab-at width (λ (i : ℕ). m (end (whole d) m t i) (coordinate p i) .value) i nan l) ∙ ap (λ (x : List Float). channel x i) (sym (joined-row t) ∙ e) ∙ tab-at width (λ (i : ℕ). end (whole d) m t i .value) i nan l)
+
+  -- ---- a box grown by the point
+  pub grown-box : (t u : Tree (whole d)) → ((i : ℕ) → lo (whole d) u i ≡ least (whole d) (lo (whole d) t i) (coordinate p i)) → ((i : ℕ) → hi (whole d) u i ≡ most (whole d) (hi (whole d) t i) (coordinate p i))
+      → boxWith (lowOf d c t) (highOf d c t) (p .row) ≡ boxEnds d c u
+  grown-box t u low high = both
+      (joined-row (least-end d) leastFloat (least-ends d) t ∙ tab-same width _ _ (λ i _. ap (λ (x : Number). x .value) (sym (low i))))
+      (joined-row (most-end d) greatestFloat (most-ends d) t ∙ tab-same width _ _ (λ i _. ap (λ (x : Number). x .value) (sym (high i))))

@@ -1,12 +1,12 @@
 -- The ends of a tree's boxes as rows of floats: growing the rows channel by channel is growing the ends. Assumes nothing.
 use mathlib.Core.Path.{_≡_, refl, sym, ap, _∙_}
 use mathlib.Core.Bool.{Bool, true, false, not, cond}
-use mathlib.Core.List.{List, _∷_}
+use mathlib.Core.List.{List, [], _∷_}
 use Prim.Native.Nat.{ℕ, zero, suc, _<_}
 use lib.Ieee.{Float, nan, le}
 use Rattle.limits.specs.Limits.{width}
 use Rattle.boundingbox.specs.Ends.{joined, least as leastFloat, greatest as greatestFloat}
-use Rattle.cuttree.specs.Tree.{least, most}
+use Rattle.cuttree.specs.Tree.{Tree, lo, hi, least, most}
 use Rattle.cuttree.proofs.Tests.{clash}
 use Rattle.cuttree.proofs.Orders.{End, least-end as least-of, most-end as most-of}
 use Rattle.wholetree.specs.Number.{Number}
@@ -15,6 +15,7 @@ use Rattle.wholetree.specs.Whole.{whole, tab, ends}
 use Rattle.wholetree.proofs.Numbers.{not-le, le-total, le-antisym}
 use Rattle.wholetree.proofs.Readings.{row-length, coordinate-is}
 use Rattle.wholetree.proofs.Laws.{whole-laws}
+use Rattle.layout.specs.Slots.{boxEnds}
 use Rattle.layout.proofs.Tabs.{is-tab, same-tab}
 
 pub tab-same : {A : Type 0} (n : ℕ) (f g : ℕ → A) → ((i : ℕ) → i < n → f i ≡ g i) → tab n f ≡ tab n g
@@ -25,6 +26,13 @@ unfolding tab joined
 joined-tab m zero f g = refl
 joined-tab m (suc n) f g = ap (λ (l : List Float). m (f 0) (g 0) ∷ l) (joined-tab m n (λ (i : ℕ). f (suc i)) (λ (i : ℕ). g (suc i)))
 
+-- boxes end by end
+pub both : {a b x y : List Float} → a ≡ x → b ≡ y → a ∷ b ∷ [] ≡ x ∷ y ∷ []
+both p q = cc
+
+pub box-by : (d c : ℕ) (t u : Tree (whole d)) → ((i : ℕ) → i < width → lo (whole d) t i ≡ lo (whole d) u i) → ((i : ℕ) → i < width → hi (whole d) t i ≡ hi (whole d) u i) → boxEnds d c t ≡ boxEnds d c u
+box-by d c t u low high = both (tab-same width _ _ (λ i l. ap (λ (x : Number). x .value) (low i l))) (tab-same width _ _ (λ i l. ap (λ (x : Number). x .value) (high i l)))
+
 module _ (d : ℕ) where
   -- the lower and the upper ends of boxes
   pub least-end : End (whole d) (least (whole d)) (λ a b. le (a .value) (b .value))
@@ -34,7 +42,7 @@ module _ (d : ℕ) where
   most-end = most-of (whole d) (whole-laws d)
 
   -- on numbers a test for below and one for at or below pick the same
-  pub least-value : (a b : Number) → leastFloat (a .value) (b .value) ≡ least (whole d) a b .value
+  least-value : (a b : Number) → leastFloat (a .value) (b .value) ≡ least (whole d) a b .value
   unfolding leastFloat
   least-value a b = rw (← not-le b a) (go (le (a .value) (b .value)) (le (b .value) (a .value)) refl refl)
     where
@@ -44,7 +52,7 @@ module _ (d : ℕ) where
       go false true p q = refl
       go false false p q = clash (le (b .value) (a .value)) (le-total a b p) q
 
-  pub most-value : (a b : Number) → greatestFloat (a .value) (b .value) ≡ most (whole d) a b .value
+  most-value : (a b : Number) → greatestFloat (a .value) (b .value) ≡ most (whole d) a b .value
   unfolding greatestFloat
   most-value a b = rw (← not-le b a) (go (le (a .value) (b .value)) (le (b .value) (a .value)) refl refl)
     where

@@ -1,37 +1,33 @@
 -- The cached boxes through a delete of a last copy: the parent's row is cleared, and each box above, worked out again, is that of the tree after. Assumes nothing.
-use mathlib.Core.Path.{_≡_, refl, sym, ap, _∙_, subst}
-use mathlib.Core.Bool.{Bool, true, false, cond}
+use mathlib.Core.Path.{_≡_, refl, sym, ap, _∙_}
+use mathlib.Core.Bool.{Bool, true, false}
 use mathlib.Core.Option.{some}
-use mathlib.Core.List.{List, []}
-use Prim.Native.Nat.{ℕ, suc, _+_, _-_, _≤_, _<_}
+use mathlib.Core.List.{List}
+use Prim.Native.Nat.{ℕ, suc, _+_, _≤_, _<_}
 use native.Mathlib.Omega.{arith}
-use lib.Dec.{eqb, ltb}
-use lib.ListN.{length, getD}
 use lib.Ieee.{Float}
-use borrow.Author.Tests.{eqb-true, eqb-false, ne-eqb, ltb-true, ltb-false}
+use borrow.Author.Tests.{ne-eqb}
 use Rattle.limits.specs.Limits.{width, branchLimit}
 use Rattle.cuttree.specs.Tree.{Tree, is, height, ending, found, end}
 use Rattle.cuttree.specs.Walk.{sub, sibling, replace}
-use Rattle.cuttree.proofs.Tests.{by-test, cond-false}
 use Rattle.cuttree.proofs.Intervals.{is-same}
 use Rattle.cuttree.proofs.Orders.{End, end-comm, end-swap, end-before-it}
 use Rattle.cuttree.proofs.Nodes.{here}
 use Rattle.cuttree.proofs.Heights.{height-sub, sub-sub, sub-leaf, sum-replace, end-up}
 use Rattle.wholetree.specs.Number.{Number}
 use Rattle.wholetree.specs.Reading.{Reading, coordinate}
-use Rattle.wholetree.specs.Whole.{whole, tab, ends}
-use Rattle.wholetree.proofs.Readings.{tab-length, tab-at, same-is}
-use Rattle.layout.specs.Slots.{uses}
-use Rattle.layout.specs.Layout.{boxIn, noEnds}
+use Rattle.wholetree.specs.Whole.{whole, tab}
+use Rattle.wholetree.proofs.Readings.{same-is}
+use Rattle.layout.specs.Slots.{uses, boxEnds}
+use Rattle.layout.specs.Layout.{boxIn, noBoxEnds}
 use Rattle.layout.specs.Stands.{Once}
 use Rattle.layout.proofs.Slots.{slot-none}
 use Rattle.layout.proofs.Replaced.{none-above, slot-kept}
 use Rattle.layout.proofs.Forks.{sum-fork, in-sibling}
 use Rattle.boxstore.specs.Written.{written}
-use Rattle.boxstore.proofs.Ends.{tab-same}
-use Rattle.boxstore.proofs.Written.{written-other, written-length, written-here, written-there}
-use Rattle.boxstore.proofs.Rows.{at, at-apart, Partly, partly-rest}
-use Rattle.boxstore.proofs.Changes.{replace-same, replace-replace, old-at, new-at, end-replaced}
+use Rattle.boxstore.proofs.Ends.{box-by, least-end, most-end}
+use Rattle.boxstore.proofs.Partly.{at, at-apart, Partly}
+use Rattle.boxstore.proofs.Changes.{replace-same, replace-replace, partly-start, partly-stop, end-replaced}
 
 -- the tree before, and p's walk in it, which ends below a branch
 module _ (d c : ℕ) (t : Tree (whole d)) (p : Reading) (o : Once d c t) (e : 1 ≤ height (whole d) t p) where
@@ -51,43 +47,20 @@ module _ (d c : ℕ) (t : Tree (whole d)) (p : Reading) (o : Once d c t) (e : 1 
   pub forget-once : Once d c after
   forget-once j = omega (arith, after-uses j, o j)
 
-  module _ (k : ℕ) (few : k ≤ branchLimit) (f : Tree (whole d) → List Float) where
-    -- before the first turn: the tree's boxes, without the parent's
-    pub forget-start : Partly d c k f t after p (written k (at d c t p 1) noEnds (tab branchLimit (boxIn d c k f (some t)))) 1
-    forget-start = record {
-      size = written-length k i noEnds rows ∙ long;
-      todo = λ n a l s. written-there k i noEnds rows (at d c t p n) (at-apart d c 1 n t p (omega arith) a l o) ∙ tab-at branchLimit (boxIn d c k f (some t)) (at d c t p n) [] s;
-      done = λ j s none. by-test (eqb i j)
-          (λ x. subst (λ n. n < branchLimit → getD (written k i noEnds rows) n [] ≡ boxIn d c k f (some after) n) (eqb-true i j x) cleared s)
-          (λ x. let n = eqb-false i j x in written-there k i noEnds rows j n ∙ tab-at branchLimit (boxIn d c k f (some t)) j [] s
-          ∙ ap (λ x. cond (ltb j k) x noEnds) (sym (slot-kept d c f noEnds 1 p rest t rest j o forget-once e (in-sibling d p t e) here (none-above d c 1 p j t e none) (λ z. (sym (other j n) ∙ z, z)))));
-    }
-      where
-        i : ℕ
-        i = at d c t p 1
+  -- before the first turn: the tree's boxes, without the parent's
+  pub forget-start : (k : ℕ) → k ≤ branchLimit → Partly d c k t after p (written k (at d c t p 1) noBoxEnds (tab branchLimit (boxIn d c k (some t)))) 1
+  forget-start k few =
+      partly-start d c p k t o few after 1 (at d c t p 1) noBoxEnds (λ n a l. at-apart d c 1 n t p (omega arith) a l o) (slot-none d c (boxEnds d c) noBoxEnds after (at d c t p 1) (omega (arith, after-uses (at d c t p 1), o (at d c t p 1), is-same (at d c t p 1))))
+      (λ j n none. slot-kept d c (boxEnds d c) noBoxEnds 1 p rest t rest j o forget-once e (in-sibling d p t e) here (none-above d c 1 p j t e none) (λ z. (sym (other j n) ∙ z, z)))
+    where
+      other : (j : ℕ) → (at d c t p 1 ≡ j → ⊥) → uses d c rest j ≡ uses d c (sub (whole d) t 1 p) j
+      other j n = let z : is (at d c t p 1) j ≡ 0 = rw (ne-eqb (at d c t p 1) j n) in omega (arith, parent-uses j)
 
-        rows : List (List Float)
-        rows = tab branchLimit (boxIn d c k f (some t))
-
-        long : length rows ≡ branchLimit
-        long = tab-length branchLimit (boxIn d c k f (some t))
-
-        other : (j : ℕ) → (i ≡ j → ⊥) → uses d c rest j ≡ uses d c (sub (whole d) t 1 p) j
-        other j n = let z : is i j ≡ 0 = rw (ne-eqb i j n) in omega (arith, parent-uses j)
-
-        gone : boxIn d c k f (some after) i ≡ noEnds
-        gone = by-test (ltb i k) (λ x. rw x (slot-none d c f noEnds after i (omega (arith, after-uses i, o i, is-same i)))) (λ x. rw x)
-
-        cleared : i < branchLimit → getD (written k i noEnds rows) i [] ≡ boxIn d c k f (some after) i
-        cleared s = by-test (ltb i k)
-            (λ x. written-here k i noEnds rows (ltb-true i k x) (omega (arith, long)) ∙ sym gone)
-            (λ x. ap (λ l. getD l i []) (written-other k i noEnds rows (ltb-false i k x)) ∙ tab-at branchLimit (boxIn d c k f (some t)) i [] s ∙ cond-false _ _ _ x ∙ sym gone)
+  -- a box above and the same without the point
+  abbrev without : ℕ → Tree (whole d)
+  without n = replace (whole d) (sub (whole d) t n p) 1 p rest
 
   module _ {m : Number → Number → Number} {to : Number → Number → Bool} (E : End (whole d) m to) where
-    -- a box above and the same without the point
-    abbrev without : ℕ → Tree (whole d)
-    without n = replace (whole d) (sub (whole d) t n p) 1 p rest
-
     -- the old end is the new one with the point's coordinate
     with-point : found (whole d) t p ≡ true → (n i : ℕ) → 1 ≤ n → n ≤ height (whole d) t p → end (whole d) m (sub (whole d) t n p) i ≡ m (end (whole d) m (without n) i) (coordinate p i)
     with-point y n i a l =
@@ -119,13 +92,8 @@ module _ (d c : ℕ) (t : Tree (whole d)) (p : Reading) (o : Once d c t) (e : 1 
         let same : replace (whole d) u n p (sub (whole d) t n p) ≡ u = ap (replace (whole d) u n p) (sym v) ∙ replace-same d c p n u hu in
         sym (ap (λ x. end (whole d) m x i) low) ∙ end-replaced d c p E n i (λ x. x) (λ x y. refl) (without n) (sub (whole d) t n p) (S i q) u hu ∙ ap (λ x. end (whole d) m x i) same
 
-    -- the end: where a box is the same without the point, so are those above it
-    module _ (k : ℕ) where
-      abbrev f : Tree (whole d) → List Float
-      f u = ends (λ (i : ℕ). end (whole d) m u i)
-
-      pub forget-stop : (rows : List (List Float)) (n : ℕ) → 1 ≤ n → suc n ≤ height (whole d) t p → Partly d c k f t after p rows n → Same (suc n) → Partly d c k f t after p rows (height (whole d) t p)
-      forget-stop rows n a l P S = partly-rest d c k f t after p o rows (height (whole d) t p - n) n (omega arith) P
-          (λ g b q. old-at d c p k f t o g (omega arith) q
-          ∙ ap (λ x. cond (ltb (at d c t p g) k) x noEnds) (tab-same width _ _ (λ i r. ap (λ (x : Number). x .value) (sym (same-up (suc n) g (omega arith) b q S i r))))
-          ∙ sym (new-at d c p k f t 1 rest forget-once g (omega arith) q))
+  -- the end: where a box is the same without the point, so are those above it
+  pub forget-stop : (k : ℕ) (boxes : List (List (List Float))) (n : ℕ) → 1 ≤ n → suc n ≤ height (whole d) t p → Partly d c k t after p boxes n → Same (least-end d) (suc n) × Same (most-end d) (suc n) → boxes ≡ tab branchLimit (boxIn d c k (some after))
+  forget-stop k boxes n a l P S =
+      partly-stop d c p k t o 1 rest forget-once boxes n a (omega arith) P
+      (λ g b q. box-by d c (sub (whole d) t g p) (without g) (λ i r. sym (same-up (least-end d) (suc n) g (omega arith) b q (S .0) i r)) (λ i r. sym (same-up (most-end d) (suc n) g (omega arith) b q (S .1) i r)))

@@ -3,10 +3,11 @@ pub mod Depths
 pub mod Parts
 pub mod Written
 pub mod Standing
-pub mod Rows
+pub mod Partly
 pub mod Changes
 pub mod Grafts
 pub mod Climbs
 pub mod Forgets
 pub mod Repairs
 pub mod Copies
+pub mod Siblings

@@ -1,7 +1,7 @@
 -- A node whose box stands in arrays, by its kind: a leaf, a cached branch, or a branch with its two sides. Assumes nothing.
-use mathlib.Core.Path.{_≡_, sym, ap, _∙_}
+use mathlib.Core.Path.{_≡_, refl, sym, ap, _∙_}
 use mathlib.Core.Bool.{Bool}
-use mathlib.Core.List.{List, []}
+use mathlib.Core.List.{List, [], _∷_}
 use Prim.Native.Nat.{ℕ, _+_, _-_, _≤_, _<_}
 use native.Mathlib.Omega.{arith}
 use lib.ListN.{getD}
@@ -14,20 +14,20 @@ use Rattle.cuttree.specs.Tree.{Tree, leaf, branch, id, least, most, lo, hi}
 use Rattle.cuttree.proofs.Orders.{end-assoc}
 use Rattle.wholetree.specs.Number.{Number}
 use Rattle.wholetree.specs.Whole.{whole}
-use Rattle.layout.specs.Slots.{lowOf, highOf}
+use Rattle.layout.specs.Slots.{boxEnds}
 use Rattle.layout.specs.Stands.{Once}
 use Rattle.boxstore.specs.Boxed.{sideIn, Boxed, SomeBoxed}
-use Rattle.boxstore.specs.Grown.{lowWith, highWith, EndsGrownBy, GrownBy, SidesBox, BoxOf}
-use Rattle.boxstore.proofs.Ends.{tab-same, least-end, most-end, least-ends, most-ends, row-ends}
+use Rattle.boxstore.specs.Grown.{lowWith, highWith, EndsGrownBy, Numbers, GrownBy, SidesBox, BoxOf}
+use Rattle.boxstore.proofs.Ends.{tab-same, both, least-end, most-end, least-ends, most-ends, row-ends}
 use Rattle.boxstore.proofs.Depths.{deep, depth, depth-few, deep-is}
 
 -- the sides of a branch
-module _ (d c k : ℕ) (nodes : List (List ℕ)) (points lows highs : List (List Float)) {b : ℕ} {x : Cut (whole d)} {g : Bool} {l r : Tree (whole d)} (B : Boxed d c k nodes points lows highs (branch b x g l r)) where
-  pub left-boxed : Boxed d c k nodes points lows highs l
-  left-boxed = record { links = B .links .2; leaves = B .leaves .0; in-range = B .in-range .2; cached = record { low = B .cached .low .1; high = B .cached .high .1 } }
+module _ (d c k : ℕ) (nodes : List (List ℕ)) (points : List (List Float)) (boxes : List (List (List Float))) {b : ℕ} {x : Cut (whole d)} {g : Bool} {l r : Tree (whole d)} (B : Boxed d c k nodes points boxes (branch b x g l r)) where
+  pub left-boxed : Boxed d c k nodes points boxes l
+  left-boxed = record { links = B .links .2; leaves = B .leaves .0; in-range = B .in-range .2; cached = B .cached .1 }
 
-  pub right-boxed : Boxed d c k nodes points lows highs r
-  right-boxed = record { links = B .links .3; leaves = B .leaves .1; in-range = B .in-range .3; cached = record { low = B .cached .low .2; high = B .cached .high .2 } }
+  pub right-boxed : Boxed d c k nodes points boxes r
+  right-boxed = record { links = B .links .3; leaves = B .leaves .1; in-range = B .in-range .3; cached = B .cached .2 }
 
 -- growing by one side's box and then by the other's is growing by the branch's
 module _ (d : ℕ) (f : ℕ → Number) (l r : Tree (whole d)) (b : ℕ) (x : Cut (whole d)) (g : Bool) where
@@ -37,42 +37,48 @@ module _ (d : ℕ) (f : ℕ → Number) (l r : Tree (whole d)) (b : ℕ) (x : Cu
   high-sides : highWith d (λ (i : ℕ). most (whole d) (f i) (hi (whole d) l i)) r ≡ highWith d f (branch b x g l r)
   high-sides = tab-same width _ _ (λ i _. ap (λ (n : Number). n .value) (end-assoc (whole d) (most-end d) (f i) (hi (whole d) l i) (hi (whole d) r i)))
 
-module _ (c k node : ℕ) (nodes : List (List ℕ)) (points lows highs : List (List Float)) where
-  -- X and Y are the ends of the node's box
-  abbrev Ends : List Float → List Float → Type 0
-  Ends X Y = (d : ℕ) (t : Tree (whole d)) → id (whole d) c t ≡ node → Boxed d c k nodes points lows highs t → (lowOf d c t ≡ X) × (highOf d c t ≡ Y)
+module _ (c k node : ℕ) (nodes : List (List ℕ)) (points : List (List Float)) (boxes : List (List (List Float))) where
+  -- X is the node's box
+  abbrev IsBox : List (List Float) → Type 0
+  IsBox X = (d : ℕ) (t : Tree (whole d)) → id (whole d) c t ≡ node → Boxed d c k nodes points boxes t → X ≡ boxEnds d c t
 
-  leaf-ends : c ≤ node → Ends (getD points (node - c) []) (getD points (node - c) [])
-  leaf-ends h d (leaf i q n) e B =
+  leaf-is : c ≤ node → IsBox (getD points (node - c) [] ∷ getD points (node - c) [] ∷ [])
+  leaf-is h d (leaf i q n) e B =
       let z : node - c ≡ i = omega arith in
-      rw z (sym (B .leaves ∙ row-ends q), sym (B .leaves ∙ row-ends q))
-  leaf-ends h d (branch b x g l r) e B = absurd (omega (arith, B .in-range))
+      rw z (both (B .leaves ∙ row-ends q) (B .leaves ∙ row-ends q))
+  leaf-is h d (branch b x g l r) e B = absurd (omega (arith, B .in-range))
 
-  cached-ends : node < c → node < k → Ends (getD lows node []) (getD highs node [])
-  cached-ends h m d (leaf i q n) e B = absurd (omega arith)
-  cached-ends h m d (branch b x g l r) e B = rw (← e) (sym (B .cached .low .0 (omega arith)), sym (B .cached .high .0 (omega arith)))
+  cached-is : node < c → node < k → IsBox (getD boxes node [])
+  cached-is h m d (leaf i q n) e B = absurd (omega arith)
+  cached-is h m d (branch b x g l r) e B = rw (← e) (B .cached .0 (omega arith))
 
-  pub record Row (X Y : List Float) : Type 0 where
-    pub grown : (low high low′ high′ : List Float) → low′ ≡ joined leastFloat low X → high′ ≡ joined greatestFloat high Y → EndsGrownBy c k node nodes points lows highs low high low′ high′
-    pub whole-box : (r : BoundingBox) → r .«min_values» ≡ X → r .«max_values» ≡ Y → BoxOf c k node nodes points lows highs r
+  pub record HasBox (X : List (List Float)) : Type 0 where
+    pub grown : (low high low′ high′ : List Float) → low′ ≡ joined leastFloat low (getD X 0 []) → high′ ≡ joined greatestFloat high (getD X 1 []) → EndsGrownBy c k node nodes points boxes low high low′ high′
+    pub whole-box : (r : BoundingBox) → r .«min_values» ≡ getD X 0 [] → r .«max_values» ≡ getD X 1 [] → BoxOf c k node nodes points boxes r
 
-  row : (X Y : List Float) → Ends X Y → Row X Y
-  row X Y E = record {
-    grown = λ low high low′ high′ p q d t f g e B m n. let w = E d t e B in (rw (p, m, ← (w .0)) (least-ends d f (lo (whole d) t)), rw (q, n, ← (w .1)) (most-ends d g (hi (whole d) t)));
-    whole-box = λ r p q d t e B. let w = E d t e B in (p ∙ sym (w .0), q ∙ sym (w .1));
+  has-box : (X : List (List Float)) → IsBox X → HasBox X
+  has-box X E = record {
+    grown = λ low high low′ high′ p q d t f g e B m n. let w = E d t e B in (rw (p, m, w) (least-ends d f (lo (whole d) t)), rw (q, n, w) (most-ends d g (hi (whole d) t)));
+    whole-box = λ r p q d t e B. rw (p, q, E d t e B) (refl, refl);
   }
 
-  pub at-leaf : c ≤ node → Row (getD points (node - c) []) (getD points (node - c) [])
-  at-leaf h = row _ _ (leaf-ends h)
+  pub at-leaf : c ≤ node → HasBox (getD points (node - c) [] ∷ getD points (node - c) [] ∷ [])
+  at-leaf h = has-box _ (leaf-is h)
 
-  pub at-cached : node < c → node < k → Row (getD lows node []) (getD highs node [])
-  at-cached h m = row _ _ (cached-ends h m)
+  pub at-cached : node < c → node < k → HasBox (getD boxes node [])
+  at-cached h m = has-box _ (cached-is h m)
+
+  -- the box of a node that stands has numbers for ends
+  pub box-numbers : (r : BoundingBox) → SomeBoxed c k node nodes points boxes → BoxOf c k node nodes points boxes r → Numbers r
+  box-numbers r s F =
+      let w = F (s .channels) (s .tree) (s .at-node) (s .boxed) in
+      record { lower = lo (whole (s .channels)) (s .tree); upper = hi (whole (s .channels)) (s .tree); low = w .0; high = w .1 }
 
   -- a leaf's point is in the table, and a branch's number below the capacity
-  pub in-table : c ≤ node → SomeBoxed c k node nodes points lows highs → node - c < pointLimit
+  pub in-table : c ≤ node → SomeBoxed c k node nodes points boxes → node - c < pointLimit
   in-table h w = go (w .tree) (w .at-node) (w .boxed)
     where
-      go : (t : Tree (whole (w .channels))) → id (whole (w .channels)) c t ≡ node → Boxed (w .channels) c k nodes points lows highs t → node - c < pointLimit
+      go : (t : Tree (whole (w .channels))) → id (whole (w .channels)) c t ≡ node → Boxed (w .channels) c k nodes points boxes t → node - c < pointLimit
       go (leaf i q n) e B = omega (arith, B .in-range)
       go (branch b x g l r) e B = absurd (omega (arith, B .in-range))
 
@@ -85,21 +91,21 @@ module _ (c k node : ℕ) (nodes : List (List ℕ)) (points lows highs : List (L
 
   pub record Parts : Type 0 where
     pub small : node + 1 < c
-    pub left-some : SomeBoxed c k left nodes points lows highs
-    pub right-some : SomeBoxed c k right nodes points lows highs
+    pub left-some : SomeBoxed c k left nodes points boxes
+    pub right-some : SomeBoxed c k right nodes points boxes
     pub left-less : deep nodes c capacityLimit left < deep nodes c capacityLimit node
     pub right-less : deep nodes c capacityLimit right < deep nodes c capacityLimit node
 
-  pub parts : c ≤ capacityLimit → node < c → SomeBoxed c k node nodes points lows highs → Parts
+  pub parts : c ≤ capacityLimit → node < c → SomeBoxed c k node nodes points boxes → Parts
   parts few h w = go (w .tree) (w .at-node) (w .once) (w .boxed)
     where
-      go : (t : Tree (whole (w .channels))) → id (whole (w .channels)) c t ≡ node → Once (w .channels) c t → Boxed (w .channels) c k nodes points lows highs t → Parts
+      go : (t : Tree (whole (w .channels))) → id (whole (w .channels)) c t ≡ node → Once (w .channels) c t → Boxed (w .channels) c k nodes points boxes t → Parts
       go (leaf i q n) e o B = absurd (omega arith)
       go (branch b x g u v) e o B =
           let d = w .channels in
           let t = branch b x g u v in
-          let bl = left-boxed d c k nodes points lows highs B in
-          let br = right-boxed d c k nodes points lows highs B in
+          let bl = left-boxed d c k nodes points boxes B in
+          let br = right-boxed d c k nodes points boxes B in
           let ol : Once d c u = λ j. omega (arith, o j) in
           let or : Once d c v = λ j. omega (arith, o j) in
           let el : id (whole d) c u ≡ left = rw (← e) (sym (B .links .0)) in
@@ -117,20 +123,20 @@ module _ (c k node : ℕ) (nodes : List (List ℕ)) (points lows highs : List (L
           }
 
   -- what two calls give, one for each side
-  pub sides-grown : node < c → (low high low′ high′ low″ high″ : List Float) → EndsGrownBy c k left nodes points lows highs low high low′ high′ → EndsGrownBy c k right nodes points lows highs low′ high′ low″ high″
-      → EndsGrownBy c k node nodes points lows highs low high low″ high″
+  pub sides-grown : node < c → (low high low′ high′ low″ high″ : List Float) → EndsGrownBy c k left nodes points boxes low high low′ high′ → EndsGrownBy c k right nodes points boxes low′ high′ low″ high″
+      → EndsGrownBy c k node nodes points boxes low high low″ high″
   sides-grown h low high low′ high′ low″ high″ F G d (leaf i q n) f g e B p s = absurd (omega arith)
   sides-grown h low high low′ high′ low″ high″ F G d (branch a x y u v) f g e B p s =
-      let bl = left-boxed d c k nodes points lows highs B in
-      let br = right-boxed d c k nodes points lows highs B in
+      let bl = left-boxed d c k nodes points boxes B in
+      let br = right-boxed d c k nodes points boxes B in
       let one = F d u f g (rw (← e) (sym (B .links .0))) bl p s in
       let two = G d v _ _ (rw (← e) (sym (B .links .1))) br (one .0) (one .1) in
       (two .0 ∙ low-sides d f u v a x y, two .1 ∙ high-sides d g u v a x y)
 
-  pub sides-given : (m r : BoundingBox) → BoxOf c k left nodes points lows highs m → GrownBy c k right nodes points lows highs m r → SidesBox c k node nodes points lows highs r
+  pub sides-given : (m r : BoundingBox) → BoxOf c k left nodes points boxes m → GrownBy c k right nodes points boxes m r → SidesBox c k node nodes points boxes r
   sides-given m r F G d l u p q bl bu = let one = F d l p bl in G d u (lo (whole d) l) (hi (whole d) l) q bu (one .0) (one .1)
 
-  pub sides-box : node < c → (r : BoundingBox) → SidesBox c k node nodes points lows highs r → BoxOf c k node nodes points lows highs r
+  pub sides-box : node < c → (r : BoundingBox) → SidesBox c k node nodes points boxes r → BoxOf c k node nodes points boxes r
   sides-box h r F d (leaf i q n) e B = absurd (omega arith)
   sides-box h r F d (branch a x y u v) e B =
-      F d u v (rw (← e) (sym (B .links .0))) (rw (← e) (sym (B .links .1))) (left-boxed d c k nodes points lows highs B) (right-boxed d c k nodes points lows highs B)
+      F d u v (rw (← e) (sym (B .links .0))) (rw (← e) (sym (B .links .1))) (left-boxed d c k nodes points boxes B) (right-boxed d c k nodes points boxes B)

@@ -19,16 +19,16 @@ module _ (d c : ℕ) where
   Linked nodes (branch b k g l r) = (sideIn nodes b 0 ≡ id (whole d) c l) × (sideIn nodes b 1 ≡ id (whole d) c r) × Linked nodes l × Linked nodes r
 
   -- k branches are cached
-  pub record Boxed (k : ℕ) (nodes : List (List ℕ)) (points lows highs : List (List Float)) (t : Tree (whole d)) : Type 0 where
+  pub record Boxed (k : ℕ) (nodes : List (List ℕ)) (points : List (List Float)) (boxes : List (List (List Float))) (t : Tree (whole d)) : Type 0 where
     pub links : Linked nodes t
     pub leaves : All (whole d) (λ i q n. getD points i [] ≡ q .row) t
     pub in-range : InRange d c t
-    pub cached : Cached d c k lows highs t
+    pub cached : Cached d c k boxes t
 
 -- some tree's boxes stand below that node
-pub record SomeBoxed (c k node : ℕ) (nodes : List (List ℕ)) (points lows highs : List (List Float)) : Type 0 where
+pub record SomeBoxed (c k node : ℕ) (nodes : List (List ℕ)) (points : List (List Float)) (boxes : List (List (List Float))) : Type 0 where
   pub channels : ℕ
   pub tree : Tree (whole channels)
   pub at-node : id (whole channels) c tree ≡ node
   pub once : Once channels c tree
-  pub boxed : Boxed channels c k nodes points lows highs tree
+  pub boxed : Boxed channels c k nodes points boxes tree

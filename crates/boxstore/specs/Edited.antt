@@ -14,18 +14,15 @@ use Rattle.cuttree.specs.Tree.{Tree, id, ending, walk, height, found, above, Al
 use Rattle.cuttree.specs.Walk.{sub, sibling, replace, graft}
 use Rattle.wholetree.specs.Reading.{Reading}
 use Rattle.wholetree.specs.Whole.{whole, tab}
-use Rattle.layout.specs.Slots.{lowOf, highOf, uses}
-use Rattle.layout.specs.Layout.{noEnds, boxIn}
+use Rattle.layout.specs.Slots.{boxEnds, uses}
+use Rattle.layout.specs.Layout.{noBoxEnds, boxIn}
 use Rattle.layout.specs.Stands.{Once, InRange, trail}
 use Rattle.boxstore.specs.Boxed.{Linked}
 use Rattle.boxstore.specs.Written.{written}
 
--- the boxes that a tree keeps, k branches being cached: their lower and their upper ends
-abbrev pub lowsOf : (d c k : ℕ) → Tree (whole d) → List (List Float)
-lowsOf d c k t = tab branchLimit (boxIn d c k (lowOf d c) (some t))
-
-abbrev pub highsOf : (d c k : ℕ) → Tree (whole d) → List (List Float)
-highsOf d c k t = tab branchLimit (boxIn d c k (highOf d c) (some t))
+-- the boxes that a tree keeps, k branches being cached
+abbrev pub boxesOf : (d c k : ℕ) → Tree (whole d) → List (List (List Float))
+boxesOf d c k t = tab branchLimit (boxIn d c k (some t))
 
 -- the path has the walk of p in the tree, and the point is p
 pub record Walked (d c : ℕ) (path : List (List ℕ)) (point : List Float) (t : Tree (whole d)) (p : Reading) : Type 0 where
@@ -34,16 +31,28 @@ pub record Walked (d c : ℕ) (path : List (List ℕ)) (point : List Float) (t :
   pub row : point ≡ p .row
 
 -- A new branch b stands above the walk's node of height h, n nodes being above that. The cached boxes are the tree's from before, and the new branch's with it.
-pub record Grafted (d c k n : ℕ) (lows highs : List (List Float)) (t : Tree (whole d)) (p : Reading) (b i h : ℕ) (cut : Cut (whole d)) : Type 0 where
+pub record Grafted (d c k n : ℕ) (boxes : List (List (List Float))) (t : Tree (whole d)) (p : Reading) (b i h : ℕ) (cut : Cut (whole d)) : Type 0 where
   pub above-it : n + h ≡ height (whole d) t p
   pub fresh : uses d c t b ≡ 0
-  pub low : lows ≡ written k b (lowOf d c (above (whole d) b cut i p (sub (whole d) t h p))) (lowsOf d c k t)
-  pub high : highs ≡ written k b (highOf d c (above (whole d) b cut i p (sub (whole d) t h p))) (highsOf d c k t)
+  pub boxes-are : boxes ≡ written k b (boxEnds d c (above (whole d) b cut i p (sub (whole d) t h p))) (boxesOf d c k t)
+
+-- some tree has a new branch
+pub record SomeGrafted (k n : ℕ) (path : List (List ℕ)) (point : List Float) (boxes : List (List (List Float))) : Type 0 where
+  pub channels : ℕ
+  pub capacity : ℕ
+  pub tree : Tree (whole channels)
+  pub reading : Reading
+  pub number : ℕ
+  pub index : ℕ
+  pub high : ℕ
+  pub drawn : Cut (whole channels)
+  pub walked : Walked channels capacity path point tree reading
+  pub grafted : Grafted channels capacity k n boxes tree reading number index high drawn
 
 -- Then the cached boxes become those of the tree with the new branch in it, whichever tree it is.
-abbrev pub GrownAbove : (k n : ℕ) → List (List ℕ) → List Float → (lows highs lows′ highs′ : List (List Float)) → Type 0
-GrownAbove k n path point lows highs lows′ highs′ = (d c : ℕ) (t : Tree (whole d)) (p : Reading) (b i h : ℕ) (cut : Cut (whole d)) → Walked d c path point t p → Grafted d c k n lows highs t p b i h cut
-    → (lows′ ≡ lowsOf d c k (graft (whole d) b i p (h, cut) t)) × (highs′ ≡ highsOf d c k (graft (whole d) b i p (h, cut) t))
+abbrev pub GrownAbove : (k n : ℕ) → List (List ℕ) → List Float → (boxes boxes′ : List (List (List Float))) → Type 0
+GrownAbove k n path point boxes boxes′ = (d c : ℕ) (t : Tree (whole d)) (p : Reading) (b i h : ℕ) (cut : Cut (whole d)) → Walked d c path point t p → Grafted d c k n boxes t p b i h cut
+    → boxes′ ≡ boxesOf d c k (graft (whole d) b i p (h, cut) t)
 
 -- the tree without its last copy of p: the sibling in the parent's place
 abbrev pub lifted : (d : ℕ) → Tree (whole d) → Reading → Tree (whole d)
@@ -51,26 +60,25 @@ lifted d t p = replace (whole d) t 1 p (sibling (whole d) t 0 p)
 
 -- A last copy is gone, n nodes being above its parent. The rows of the branches are those of the tree after, the cached boxes still the tree's from before, but that the parent's is cleared.
 -- In the channels from `dimensions` on every reading has +0.0.
-pub record Forgotten (d c k n dimensions : ℕ) (nodes : List (List ℕ)) (points lows highs : List (List Float)) (t : Tree (whole d)) (p : Reading) : Type 0 where
+pub record Forgotten (d c k n dimensions : ℕ) (nodes : List (List ℕ)) (points : List (List Float)) (boxes : List (List (List Float))) (t : Tree (whole d)) (p : Reading) : Type 0 where
   pub above-it : n + 1 ≡ height (whole d) t p
   pub held : found (whole d) t p ≡ true
   pub last : ltb 1 (ending (whole d) t p .copies) ≡ false
   pub narrow : All (whole d) (λ i q n. Padded (q .row) dimensions width) t
-  pub low : lows ≡ written k (id (whole d) c (sub (whole d) t 1 p)) noEnds (lowsOf d c k t)
-  pub high : highs ≡ written k (id (whole d) c (sub (whole d) t 1 p)) noEnds (highsOf d c k t)
+  pub boxes-are : boxes ≡ written k (id (whole d) c (sub (whole d) t 1 p)) noBoxEnds (boxesOf d c k t)
   pub links : Linked d c nodes (lifted d t p)
   pub leaves : All (whole d) (λ i q n. getD points i [] ≡ q .row) (lifted d t p)
   pub in-range : InRange d c (lifted d t p)
 
 -- some tree's last copy is gone
-pub record SomeForgotten (c k n dimensions : ℕ) (path : List (List ℕ)) (point : List Float) (nodes : List (List ℕ)) (points lows highs : List (List Float)) : Type 0 where
+pub record SomeForgotten (c k n dimensions : ℕ) (path : List (List ℕ)) (point : List Float) (nodes : List (List ℕ)) (points : List (List Float)) (boxes : List (List (List Float))) : Type 0 where
   pub channels : ℕ
   pub tree : Tree (whole channels)
   pub reading : Reading
   pub walked : Walked channels c path point tree reading
-  pub forgotten : Forgotten channels c k n dimensions nodes points lows highs tree reading
+  pub forgotten : Forgotten channels c k n dimensions nodes points boxes tree reading
 
 -- Then the cached boxes become those of the tree after, whichever tree it is.
-abbrev pub RepairedAbove : (c k n dimensions : ℕ) → List (List ℕ) → List Float → List (List ℕ) → (points lows highs lows′ highs′ : List (List Float)) → Type 0
-RepairedAbove c k n dimensions path point nodes points lows highs lows′ highs′ = (d : ℕ) (t : Tree (whole d)) (p : Reading) → Walked d c path point t p → Forgotten d c k n dimensions nodes points lows highs t p
-    → (lows′ ≡ lowsOf d c k (lifted d t p)) × (highs′ ≡ highsOf d c k (lifted d t p))
+abbrev pub RepairedAbove : (c k n dimensions : ℕ) → List (List ℕ) → List Float → List (List ℕ) → List (List Float) → (boxes boxes′ : List (List (List Float))) → Type 0
+RepairedAbove c k n dimensions path point nodes points boxes boxes′ = (d : ℕ) (t : Tree (whole d)) (p : Reading) → Walked d c path point t p → Forgotten d c k n dimensions nodes points boxes t p
+    → boxes′ ≡ boxesOf d c k (lifted d t p)

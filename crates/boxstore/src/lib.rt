@@ -1,6 +1,6 @@
-// The boxes of a tree's branches: a cached box is a row of `lows` and one of `highs`, any other is worked out from the branch's sides. After the boxes of nodestore.rs.
+// The boxes of a tree's branches: a cached box is a slot of `boxes`, any other is worked out from the branch's sides. After the boxes of nodestore.rs.
 use boundingbox::BoundingBox;
-use limits::BRANCHES;
+use limits::Boxes;
 use limits::CHANNELS;
 use limits::Nodes;
 use limits::Path;
@@ -8,31 +8,25 @@ use limits::Points;
 use limits::Row;
 ghost use mathlib.Core.Path.{_≡_};
 ghost use mathlib.Core.Bool.{_&&_};
-ghost use mathlib.Core.List.{[]};
-ghost use Prim.Native.Nat.{_≤_, _<_};
+ghost use mathlib.Core.List.{[], _∷_};
+ghost use Prim.Native.Nat.{_-_, _≤_, _<_};
 ghost use lib.Dec.{ltb};
 ghost use lib.ListN.{getD};
 ghost use Rattle.limits.specs.Limits.{width, capacityLimit, branchLimit, pointLimit};
 ghost use Rattle.boundingbox.specs.Ends.{least, greatest, joined};
-ghost use Rattle.layout.specs.Layout.{noEnds};
+ghost use Rattle.layout.specs.Layout.{noBoxEnds};
 ghost use Rattle.boxstore.specs.Boxed.{sideIn, SomeBoxed};
 ghost use Rattle.boundingbox.specs.Contained.{contains};
-ghost use Rattle.boxstore.specs.Written.{written};
-ghost use Rattle.boxstore.specs.Grown.{EndsGrownBy, GrownBy, BoxOf, SomeSides, SidesBox, Rebuilt};
-ghost use Rattle.boxstore.specs.Edited.{GrownAbove, SomeForgotten, RepairedAbove};
-
-fn wide(x: u16) -> usize
-    ensures { λ r. ⌜ r ≡ x ⌝ }
-{
-    x as usize
-}
+ghost use Rattle.boxstore.specs.Written.{lowIn, highIn, boxWith, written};
+ghost use Rattle.boxstore.specs.Grown.{EndsGrownBy, Numbers, GrownBy, BoxOf, SomeSides, SidesBox, Rebuilt};
+ghost use Rattle.boxstore.specs.Edited.{SomeGrafted, GrownAbove, SomeForgotten, RepairedAbove};
 
 // The id of a branch's side: 0 is the left one, 1 the right one.
 fn side_of(nodes: &Nodes, node: usize, side: usize) -> usize
     requires { ⌜ (node < branchLimit) × (side < 2) ⌝ }
     ensures { λ r. ⌜ r ≡ sideIn (now (nodes .entry)) node side ⌝ }
 {
-    wide(nodes[node][side])
+    casts::wide16(nodes[node][side])
 }
 
 // A leaf's box: its point.
@@ -45,13 +39,13 @@ fn leaf_box(points: &Points, index: usize) -> BoundingBox
 }
 
 // A cached branch's box.
-fn box_from_data(lows: &[Row; BRANCHES], highs: &[Row; BRANCHES], index: usize) -> BoundingBox
+fn box_from_data(boxes: &Boxes, index: usize) -> BoundingBox
     requires { ⌜ index < branchLimit ⌝ }
-    ensures lower { λ r. ⌜ r .«min_values» ≡ getD (now (lows .entry)) index [] ⌝ }
-    ensures upper { λ r. ⌜ r .«max_values» ≡ getD (now (highs .entry)) index [] ⌝ }
+    ensures lower { λ r. ⌜ r .«min_values» ≡ lowIn (now (boxes .entry)) index ⌝ }
+    ensures upper { λ r. ⌜ r .«max_values» ≡ highIn (now (boxes .entry)) index ⌝ }
 {
-    let min_values = lows[index];
-    let max_values = highs[index];
+    let min_values = boxes[index][0];
+    let max_values = boxes[index][1];
     BoundingBox {
         min_values,
         max_values,
@@ -92,14 +86,13 @@ fn grow_ends(
     node: usize,
     nodes: &Nodes,
     points: &Points,
-    lows: &[Row; BRANCHES],
-    highs: &[Row; BRANCHES],
+    boxes: &Boxes,
     capacity: usize,
     cached: usize,
 )
     requires few { ⌜ capacity ≤ capacityLimit ⌝ }
-    requires stands { ⌜ SomeBoxed capacity cached node (now nodes) (now points) (now lows) (now highs) ⌝ }
-    ensures { λ _. ⌜ EndsGrownBy capacity cached node (now (nodes .entry)) (now (points .entry)) (now (lows .entry)) (now (highs .entry)) (now (low .entry)) (now (high .entry)) (now (low .exit)) (now (high .exit)) ⌝ }
+    requires stands { ⌜ SomeBoxed capacity cached node (now nodes) (now points) (now boxes) ⌝ }
+    ensures { λ _. ⌜ EndsGrownBy capacity cached node (now (nodes .entry)) (now (points .entry)) (now (boxes .entry)) (now (low .entry)) (now (high .entry)) (now (low .exit)) (now (high .exit)) ⌝ }
 {
     if capacity <= node {
         let index = node - capacity;
@@ -107,33 +100,13 @@ fn grow_ends(
         return;
     }
     if node < cached {
-        widen(low, high, &lows[node], &highs[node]);
+        widen(low, high, &boxes[node][0], &boxes[node][1]);
         return;
     }
     let left = side_of(nodes, node, 0);
     let right = side_of(nodes, node, 1);
-    grow_ends(
-        low,
-        high,
-        left,
-        nodes,
-        points,
-        lows,
-        highs,
-        capacity,
-        cached,
-    );
-    grow_ends(
-        low,
-        high,
-        right,
-        nodes,
-        points,
-        lows,
-        highs,
-        capacity,
-        cached,
-    );
+    grow_ends(low, high, left, nodes, points, boxes, capacity, cached);
+    grow_ends(low, high, right, nodes, points, boxes, capacity, cached);
 }
 
 // The box grown by that of a node.
@@ -143,20 +116,20 @@ pub fn grow_node_box(
     node: usize,
     nodes: &Nodes,
     points: &Points,
-    lows: &[Row; BRANCHES],
-    highs: &[Row; BRANCHES],
+    boxes: &Boxes,
     capacity: usize,
     cached: usize,
 ) -> BoundingBox
     requires few { ⌜ capacity ≤ capacityLimit ⌝ }
-    requires stands { ⌜ SomeBoxed capacity cached node (now nodes) (now points) (now lows) (now highs) ⌝ }
-    ensures { λ r. ⌜ GrownBy capacity cached node (now (nodes .entry)) (now (points .entry)) (now (lows .entry)) (now (highs .entry)) b r ⌝ }
+    requires stands { ⌜ SomeBoxed capacity cached node (now nodes) (now points) (now boxes) ⌝ }
+    requires numbers { ⌜ Numbers b ⌝ }
+    ensures { λ r. ⌜ GrownBy capacity cached node (now (nodes .entry)) (now (points .entry)) (now (boxes .entry)) b r ⌝ }
 {
     if capacity <= node {
         return grown(b, leaf_box(points, node - capacity));
     }
     if node < cached {
-        return grown(b, box_from_data(lows, highs, node));
+        return grown(b, box_from_data(boxes, node));
     }
     let mut low = b.min_values;
     let mut high = b.max_values;
@@ -166,8 +139,7 @@ pub fn grow_node_box(
         node,
         nodes,
         points,
-        lows,
-        highs,
+        boxes,
         capacity,
         cached,
     );
@@ -178,103 +150,85 @@ pub fn grow_node_box(
 }
 
 // The box of a node. That of a branch that is not cached is its left side's, grown by its right side.
-// Rules out a box of the left side alone, and a cached row taken for a branch that has none.
+// Rules out a box of the left side alone, and a cached box taken for a branch that has none.
 pub fn bounding_box(
     node: usize,
     nodes: &Nodes,
     points: &Points,
-    lows: &[Row; BRANCHES],
-    highs: &[Row; BRANCHES],
+    boxes: &Boxes,
     capacity: usize,
     cached: usize,
 ) -> BoundingBox
     requires few { ⌜ capacity ≤ capacityLimit ⌝ }
-    requires stands { ⌜ SomeBoxed capacity cached node (now nodes) (now points) (now lows) (now highs) ⌝ }
-    ensures { λ r. ⌜ BoxOf capacity cached node (now (nodes .entry)) (now (points .entry)) (now (lows .entry)) (now (highs .entry)) r ⌝ }
+    requires stands { ⌜ SomeBoxed capacity cached node (now nodes) (now points) (now boxes) ⌝ }
+    ensures { λ r. ⌜ BoxOf capacity cached node (now (nodes .entry)) (now (points .entry)) (now (boxes .entry)) r ⌝ }
 {
     if capacity <= node {
         return leaf_box(points, node - capacity);
     }
     if node < cached {
-        return box_from_data(lows, highs, node);
+        return box_from_data(boxes, node);
     }
     let left = side_of(nodes, node, 0);
     let right = side_of(nodes, node, 1);
-    let half = bounding_box(left, nodes, points, lows, highs, capacity, cached);
-    grow_node_box(half, right, nodes, points, lows, highs, capacity, cached)
+    let half = bounding_box(left, nodes, points, boxes, capacity, cached);
+    grow_node_box(half, right, nodes, points, boxes, capacity, cached)
 }
 
 // The box of a branch from its two sides, whatever is cached for the branch itself.
-// Rules out the stale row of a branch that is cached, and a box of one side alone.
+// Rules out the stale box of a branch that is cached, and a box of one side alone.
 fn reconstruct_box(
     node: usize,
     nodes: &Nodes,
     points: &Points,
-    lows: &[Row; BRANCHES],
-    highs: &[Row; BRANCHES],
+    boxes: &Boxes,
     capacity: usize,
     cached: usize,
 ) -> BoundingBox
     requires few { ⌜ capacity ≤ capacityLimit ⌝ }
-    requires stands { ⌜ SomeSides capacity cached node (now nodes) (now points) (now lows) (now highs) ⌝ }
-    ensures { λ r. ⌜ SidesBox capacity cached node (now (nodes .entry)) (now (points .entry)) (now (lows .entry)) (now (highs .entry)) r ⌝ }
+    requires stands { ⌜ SomeSides capacity cached node (now nodes) (now points) (now boxes) ⌝ }
+    ensures { λ r. ⌜ SidesBox capacity cached node (now (nodes .entry)) (now (points .entry)) (now (boxes .entry)) r ⌝ }
 {
     let left = side_of(nodes, node, 0);
     let right = side_of(nodes, node, 1);
-    let half = bounding_box(left, nodes, points, lows, highs, capacity, cached);
-    grow_node_box(half, right, nodes, points, lows, highs, capacity, cached)
+    let half = bounding_box(left, nodes, points, boxes, capacity, cached);
+    grow_node_box(half, right, nodes, points, boxes, capacity, cached)
 }
 
 // The branch's box kept, if the branch is cached.
 // Rules out a box kept under another number, and one kept for a branch that is not cached.
-pub fn copy_box_to_data(
-    lows: &mut [Row; BRANCHES],
-    highs: &mut [Row; BRANCHES],
-    index: usize,
-    b: BoundingBox,
-    cached: usize,
-)
+pub fn copy_box_to_data(boxes: &mut Boxes, index: usize, b: BoundingBox, cached: usize)
     requires { ⌜ cached ≤ branchLimit ⌝ }
-    ensures lower { λ _. ⌜ now (lows .exit) ≡ written cached index (b .«min_values») (now (lows .entry)) ⌝ }
-    ensures upper { λ _. ⌜ now (highs .exit) ≡ written cached index (b .«max_values») (now (highs .entry)) ⌝ }
+    ensures { λ _. ⌜ now (boxes .exit) ≡ written cached index (b .«min_values» ∷ b .«max_values» ∷ []) (now (boxes .entry)) ⌝ }
 {
     if index < cached {
         let low = b.min_values;
         let high = b.max_values;
-        lows[index] = low;
-        highs[index] = high;
+        boxes[index] = [low, high];
     }
 }
 
 // A new branch's box kept, if the branch is cached: the box of the node below it, grown by the new leaf's point.
 // Rules out the box kept without the point.
 pub fn copy_box_above(
-    lows: &mut [Row; BRANCHES],
-    highs: &mut [Row; BRANCHES],
+    boxes: &mut Boxes,
     index: usize,
     below: BoundingBox,
     point: &Row,
     cached: usize,
 )
     requires { ⌜ cached ≤ branchLimit ⌝ }
-    ensures lower { λ _. ⌜ now (lows .exit) ≡ written cached index (joined least (below .«min_values») (now (point .entry))) (now (lows .entry)) ⌝ }
-    ensures upper { λ _. ⌜ now (highs .exit) ≡ written cached index (joined greatest (below .«max_values») (now (point .entry))) (now (highs .entry)) ⌝ }
+    ensures { λ _. ⌜ now (boxes .exit) ≡ written cached index (boxWith (below .«min_values») (below .«max_values») (now (point .entry))) (now (boxes .entry)) ⌝ }
 {
     let grown = below.check_contains_and_add_point(point);
-    copy_box_to_data(lows, highs, index, grown.bounding_box, cached);
+    copy_box_to_data(boxes, index, grown.bounding_box, cached);
 }
 
 // The box of a branch that is gone cleared, if the branch was cached.
-// Rules out a row left behind where no branch is.
-pub fn clear_box(
-    lows: &mut [Row; BRANCHES],
-    highs: &mut [Row; BRANCHES],
-    index: usize,
-    cached: usize,
-)
+// Rules out a box left behind where no branch is.
+pub fn clear_box(boxes: &mut Boxes, index: usize, cached: usize)
     requires { ⌜ cached ≤ branchLimit ⌝ }
-    ensures lower { λ _. ⌜ now (lows .exit) ≡ written cached index noEnds (now (lows .entry)) ⌝ }
-    ensures upper { λ _. ⌜ now (highs .exit) ≡ written cached index noEnds (now (highs .entry)) ⌝ }
+    ensures { λ _. ⌜ now (boxes .exit) ≡ written cached index noBoxEnds (now (boxes .entry)) ⌝ }
 {
     let low = [0.0; CHANNELS];
     let high = [0.0; CHANNELS];
@@ -282,27 +236,20 @@ pub fn clear_box(
         min_values: low,
         max_values: high,
     };
-    copy_box_to_data(lows, highs, index, nothing, cached);
+    copy_box_to_data(boxes, index, nothing, cached);
 }
 
 // The branch's box grown by a point, if the branch is cached, and whether it is and held the point before.
 // Rules out an answer of true for a branch that is not cached, at which growing would end too early.
-fn check_contains_and_add_point(
-    lows: &mut [Row; BRANCHES],
-    highs: &mut [Row; BRANCHES],
-    index: usize,
-    point: &Row,
-    cached: usize,
-) -> bool
+fn check_contains_and_add_point(boxes: &mut Boxes, index: usize, point: &Row, cached: usize) -> bool
     requires { ⌜ cached ≤ branchLimit ⌝ }
-    ensures held { λ r. ⌜ r ≡ (ltb index cached && contains (getD (now (lows .entry)) index []) (getD (now (highs .entry)) index []) (now (point .entry)) (now (point .entry)) width) ⌝ }
-    ensures lower { λ _. ⌜ now (lows .exit) ≡ written cached index (joined least (getD (now (lows .entry)) index []) (now (point .entry))) (now (lows .entry)) ⌝ }
-    ensures upper { λ _. ⌜ now (highs .exit) ≡ written cached index (joined greatest (getD (now (highs .entry)) index []) (now (point .entry))) (now (highs .entry)) ⌝ }
+    ensures held { λ r. ⌜ r ≡ (ltb index cached && contains (lowIn (now (boxes .entry)) index) (highIn (now (boxes .entry)) index) (now (point .entry)) (now (point .entry)) width) ⌝ }
+    ensures grown { λ _. ⌜ now (boxes .exit) ≡ written cached index (boxWith (lowIn (now (boxes .entry)) index) (highIn (now (boxes .entry)) index) (now (point .entry))) (now (boxes .entry)) ⌝ }
 {
     if index < cached {
-        let b = box_from_data(lows, highs, index);
+        let b = box_from_data(boxes, index);
         let grown = b.check_contains_and_add_point(point);
-        copy_box_to_data(lows, highs, index, grown.bounding_box, cached);
+        copy_box_to_data(boxes, index, grown.bounding_box, cached);
         return grown.contained;
     }
     false
@@ -313,27 +260,31 @@ fn node_of(path: &Path, row: usize) -> usize
     requires { ⌜ row < capacityLimit ⌝ }
     ensures { λ r. ⌜ r ≡ getD (getD (now (path .entry)) row []) 0 0 ⌝ }
 {
-    wide(path[row][0])
+    casts::wide16(path[row][0])
+}
+
+// The sibling of the node of height m on a walk of len nodes.
+// Rules out the node in place of its sibling, and the sibling of another.
+pub fn sibling_at(path: &Path, len: usize, m: usize) -> usize
+    requires { ⌜ (m < len) × (len ≤ capacityLimit) ⌝ }
+    ensures { λ r. ⌜ r ≡ getD (getD (now (path .entry)) (len - 1 - m) []) 1 0 ⌝ }
+{
+    let row = len - 1 - m;
+    casts::wide16(path[row][1])
 }
 
 // The boxes of the first `n` nodes of a path grown by a point, from the lowest up. Ends at a cached box that held the point, as then do all above it.
 // Rules out an end at a branch that is not cached, and a box above left as it was though the point lies outside.
-pub fn grow_ancestors(
-    lows: &mut [Row; BRANCHES],
-    highs: &mut [Row; BRANCHES],
-    path: &Path,
-    n: usize,
-    point: &Row,
-    cached: usize,
-)
-    requires { ⌜ (n ≤ capacityLimit) × (cached ≤ branchLimit) ⌝ }
-    ensures { λ _. ⌜ GrownAbove cached n (now (path .entry)) (now (point .entry)) (now (lows .entry)) (now (highs .entry)) (now (lows .exit)) (now (highs .exit)) ⌝ }
+pub fn grow_ancestors(boxes: &mut Boxes, path: &Path, n: usize, point: &Row, cached: usize)
+    requires few { ⌜ (n ≤ capacityLimit) × (cached ≤ branchLimit) ⌝ }
+    requires stands { ⌜ SomeGrafted cached n (now path) (now point) (now boxes) ⌝ }
+    ensures { λ _. ⌜ GrownAbove cached n (now (path .entry)) (now (point .entry)) (now (boxes .entry)) (now (boxes .exit)) ⌝ }
 {
     let mut row = n;
     while 0 < row {
         row -= 1;
         let index = node_of(path, row);
-        if check_contains_and_add_point(lows, highs, index, point, cached) {
+        if check_contains_and_add_point(boxes, index, point, cached) {
             return;
         }
     }
@@ -342,8 +293,7 @@ pub fn grow_ancestors(
 // The branch's box worked out again from its sides, if the branch is cached and its box does not hold the point strictly inside; whether it is cached and does.
 // Rules out a box kept though the point lies on a face, where it may have been the end.
 fn check_contains_and_rebuild_box(
-    lows: &mut [Row; BRANCHES],
-    highs: &mut [Row; BRANCHES],
+    boxes: &mut Boxes,
     nodes: &Nodes,
     points: &Points,
     index: usize,
@@ -353,26 +303,25 @@ fn check_contains_and_rebuild_box(
     cached: usize,
 ) -> bool
     requires few { ⌜ (cached ≤ branchLimit) × (capacity ≤ capacityLimit) ⌝ }
-    requires stands { ⌜ (index < cached → SomeSides capacity cached index (now nodes) (now points) (now lows) (now highs)) ⌝ }
-    ensures { λ r. ⌜ Rebuilt capacity cached index dimensions (now (point .entry)) (now (nodes .entry)) (now (points .entry)) (now (lows .entry)) (now (highs .entry)) (now (lows .exit)) (now (highs .exit)) r ⌝ }
+    requires stands { ⌜ (index < cached → SomeSides capacity cached index (now nodes) (now points) (now boxes)) ⌝ }
+    ensures { λ r. ⌜ Rebuilt capacity cached index dimensions (now (point .entry)) (now (nodes .entry)) (now (points .entry)) (now (boxes .entry)) (now (boxes .exit)) r ⌝ }
 {
     if cached <= index {
         return false;
     }
-    let b = box_from_data(lows, highs, index);
+    let b = box_from_data(boxes, index);
     if b.strictly_contains(point, dimensions) {
         return true;
     }
-    let rebuilt = reconstruct_box(index, nodes, points, lows, highs, capacity, cached);
-    copy_box_to_data(lows, highs, index, rebuilt, cached);
+    let rebuilt = reconstruct_box(index, nodes, points, boxes, capacity, cached);
+    copy_box_to_data(boxes, index, rebuilt, cached);
     false
 }
 
 // The boxes of the first `n` nodes of a path worked out again, from the lowest up, after a point's last copy is gone. Ends at a cached box that held the point strictly inside: that box and all above it are the same without it.
 // Rules out an end where the point lies on a face, and one at a branch that is not cached.
 pub fn repair_ancestors(
-    lows: &mut [Row; BRANCHES],
-    highs: &mut [Row; BRANCHES],
+    boxes: &mut Boxes,
     nodes: &Nodes,
     points: &Points,
     path: &Path,
@@ -383,16 +332,15 @@ pub fn repair_ancestors(
     cached: usize,
 )
     requires few { ⌜ (n ≤ capacityLimit) × (cached ≤ branchLimit) × (capacity ≤ capacityLimit) ⌝ }
-    requires stands { ⌜ SomeForgotten capacity cached n dimensions (now path) (now point) (now nodes) (now points) (now lows) (now highs) ⌝ }
-    ensures { λ _. ⌜ RepairedAbove capacity cached n dimensions (now (path .entry)) (now (point .entry)) (now (nodes .entry)) (now (points .entry)) (now (lows .entry)) (now (highs .entry)) (now (lows .exit)) (now (highs .exit)) ⌝ }
+    requires stands { ⌜ SomeForgotten capacity cached n dimensions (now path) (now point) (now nodes) (now points) (now boxes) ⌝ }
+    ensures { λ _. ⌜ RepairedAbove capacity cached n dimensions (now (path .entry)) (now (point .entry)) (now (nodes .entry)) (now (points .entry)) (now (boxes .entry)) (now (boxes .exit)) ⌝ }
 {
     let mut row = n;
     while 0 < row {
         row -= 1;
         let index = node_of(path, row);
         if check_contains_and_rebuild_box(
-            lows,
-            highs,
+            boxes,
             nodes,
             points,
             index,

@@ -1,11 +1,11 @@
 -- The loop before the node of height m: what it keeps and the box it has, whichever tree stands in the arrays; and each way on or out of it. Assumes nothing.
-use mathlib.Core.Path.{_≡_, sym, ap, _∙_, subst}
+use mathlib.Core.Path.{_≡_, sym, _∙_}
 use mathlib.Core.Bool.{Bool, cond}
 use mathlib.Core.List.{List, []}
 use Prim.Native.Nat.{ℕ, suc, _+_, _-_, _^_, _≤_, _<_}
 use native.Mathlib.Numerals.{add-one}
 use native.Mathlib.Omega.{arith}
-use lib.ListN.{getD, take}
+use lib.ListN.{getD}
 use lib.Ieee.{Float}
 use Rattle.limits.specs.Limits.{width}
 use Rattle.boundingbox.specs.Ends.{least, greatest, joined}
@@ -17,31 +17,29 @@ use Rattle.cut.specs.declared.Separation.{Separation}
 use Rattle.cut.specs.declared.Separation.the-variants.{NoCut, Drawn}
 use Rattle.cut.specs.Draw.{separation}
 use Rattle.cut.specs.Laws.{Readings}
-use Rattle.cuttree.specs.Tree.{Tree, id, height}
-use Rattle.cuttree.specs.Walk.{sub, sibling}
+use Rattle.cuttree.specs.Tree.{Tree}
+use Rattle.cuttree.specs.Walk.{sub}
 use Rattle.wholetree.specs.Number.{zero as zeroNumber}
 use Rattle.wholetree.specs.Reading.{Reading}
 use Rattle.wholetree.specs.Whole.{whole}
 use Rattle.wholetree.proofs.Boxes.{tree-box}
 use Rattle.wholetree.proofs.Draws.{are-readings}
-use Rattle.layout.specs.Stands.{trail}
-use Rattle.layout.proofs.Trails.{path-sibling}
 use Rattle.boxstore.specs.Boxed.{SomeBoxed}
-use Rattle.boxstore.specs.Grown.{GrownBy}
+use Rattle.boxstore.specs.Grown.{Numbers, GrownBy}
+use Rattle.boxstore.proofs.Siblings.{sibling-is, At, at-numbers, some-sibling, grow-up}
 use Rattle.drawing.specs.declared.Highest.{Highest}
 use Rattle.drawing.specs.Drawing.{Drawing, SomeDrawing, Kept}
-use Rattle.drawing.proofs.Siblings.{At, some-sibling, grow-up}
 use Rattle.drawing.proofs.Keeping.{keeps-nothing, keeps-held, keeps-drawn}
 
-module _ (c k : ℕ) (nodes : List (List ℕ)) (points lows highs : List (List Float)) (path : List (List ℕ)) (len leaf : ℕ) (words : List ℕ) (point : List Float) where
+module _ (c k : ℕ) (nodes : List (List ℕ)) (points : List (List Float)) (boxes : List (List (List Float))) (path : List (List ℕ)) (len leaf : ℕ) (words : List ℕ) (point : List Float) where
   abbrev In : (d : ℕ) → Tree (whole d) → Reading → Type 0
-  In d t p = Drawing d c t p k nodes points lows highs path len leaf words point
+  In d t p = Drawing d c t p k nodes points boxes path len leaf words point
 
   pub record Going (m : ℕ) (b : BoundingBox) (r : Highest) : Type 0 where
     pub within : m < len
-    pub keeps : (d : ℕ) (t : Tree (whole d)) (p : Reading) → In d t p → Kept d c t p words m r × At d c k nodes points lows highs p t m b
+    pub keeps : (d : ℕ) (t : Tree (whole d)) (p : Reading) → In d t p → Kept d c t p words m r × At d c p t m b
 
-  pub going-starts : SomeDrawing c k nodes points lows highs path len leaf words point → (b : BoundingBox) → b .«min_values» ≡ joined least (getD points leaf []) (getD points leaf []) → b .«max_values» ≡ joined greatest (getD points leaf []) (getD points leaf [])
+  pub going-starts : SomeDrawing c k nodes points boxes path len leaf words point → (b : BoundingBox) → b .«min_values» ≡ joined least (getD points leaf []) (getD points leaf []) → b .«max_values» ≡ joined greatest (getD points leaf []) (getD points leaf [])
       → (v : Float) → v ≡ zeroNumber .value → Going 0 b (record { height = 0; cut = record { dimension = 0; value = v }; «bounding_box» = b })
   going-starts s b l h v e = record {
     within = omega (arith, s .drawing .count);
@@ -55,24 +53,19 @@ module _ (c k : ℕ) (nodes : List (List ℕ)) (points lows highs : List (List F
   -- at the node of height m
   module _ (m : ℕ) (b : BoundingBox) (r : Highest) (G : Going m b r) where
     -- the box and the point are coordinates, as the draw asks
-    pub going-readings : SomeDrawing c k nodes points lows highs path len leaf words point → Readings (b .«min_values») (b .«max_values») point width
+    pub going-readings : SomeDrawing c k nodes points boxes path len leaf words point → Readings (b .«min_values») (b .«max_values») point width
     going-readings s =
         let D = s .drawing in
         let A = G .keeps (s .channels) (s .tree) (s .reading) D .1 in
         rw (A .low, A .high, D .row) (are-readings (tree-box (s .channels) (sub (whole (s .channels)) (s .tree) m (s .reading))) (s .reading))
 
-    -- the id of the node's sibling
-    sibling-is : (d : ℕ) (t : Tree (whole d)) (p : Reading) → In d t p → m + 1 < len → getD (getD path (len - 1 - m) []) 1 0 ≡ id (whole d) c (sibling (whole d) t m p)
-    sibling-is d t p D h =
-        let i = len - 1 - m - 1 in
-        let e : suc i + m ≡ height (whole d) t p = omega (arith, D .count) in
-        let f : len - 1 - m ≡ suc i = omega arith in
-        ap (λ (y : ℕ). getD (getD path y []) 1 0) f ∙ path-sibling d c p path t (subst (λ (n : ℕ). take n path ≡ trail d c t p) (D .count) (D .is-trail)) i m e
+    pub going-numbers : SomeDrawing c k nodes points boxes path len leaf words point → Numbers b
+    going-numbers s = at-numbers (s .channels) c (s .reading) (s .tree) m b (G .keeps (s .channels) (s .tree) (s .reading) (s .drawing) .1)
 
-    pub some-side : SomeDrawing c k nodes points lows highs path len leaf words point → m + 1 < len → (node : ℕ) → node ≡ getD (getD path (len - 1 - m) []) 1 0 → SomeBoxed c k node nodes points lows highs
+    pub some-side : SomeDrawing c k nodes points boxes path len leaf words point → m + 1 < len → (node : ℕ) → node ≡ getD (getD path (len - 1 - m) []) 1 0 → SomeBoxed c k node nodes points boxes
     some-side s h node e =
         let D = s .drawing in
-        some-sibling (s .channels) c k nodes points lows highs (s .reading) m (s .tree) (omega (arith, D .count)) (D .boxed) (D .once) node (e ∙ sibling-is (s .channels) (s .tree) (s .reading) D h)
+        some-sibling (s .channels) c (s .reading) k nodes points boxes m (s .tree) (omega (arith, D .count)) (D .boxed) node (e ∙ sibling-is (s .channels) c (s .reading) (s .tree) path len m (D .count) (D .is-trail) h) (D .once)
 
     -- its draw
     module _ (W : getD words m 0 < 2 ^ 64) (s : Separation) (X : s ≡ separation width (b .«min_values») (b .«max_values») point (getD words m 0)) where
@@ -97,8 +90,8 @@ module _ (c k : ℕ) (nodes : List (List ℕ)) (points lows highs : List (List F
             let last : len ≡ suc m = omega (arith, G .within) in
             rw last (kept-on d t p D)
 
-        pub going-on : m + 1 < len → (node : ℕ) → node ≡ getD (getD path (len - 1 - m) []) 1 0 → (b′ : BoundingBox) → GrownBy c k node nodes points lows highs b b′ → Going (m + 1) b′ y
+        pub going-on : m + 1 < len → (node : ℕ) → node ≡ getD (getD path (len - 1 - m) []) 1 0 → (b′ : BoundingBox) → GrownBy c k node nodes points boxes b b′ → Going (m + 1) b′ y
         going-on h node f b′ g = record {
           within = h;
-          keeps = λ d t p D. rw (add-one m) (kept-on d t p D, grow-up d c k nodes points lows highs p m t (omega (arith, D .count)) (D .boxed) node (f ∙ sibling-is d t p D h) b b′ (G .keeps d t p D .1) g);
+          keeps = λ d t p D. rw (add-one m) (kept-on d t p D, grow-up d c p k nodes points boxes m t (omega (arith, D .count)) (D .boxed) node (f ∙ sibling-is d c p t path len m (D .count) (D .is-trail) h) b b′ (G .keeps d t p D .1) g);
         }

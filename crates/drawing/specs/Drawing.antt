@@ -26,8 +26,8 @@ wordAt ws n = getD ws n 0
 
 module _ (d c : ℕ) (t : Tree (whole d)) (p : Reading) where
   -- the tree whose boxes stand in the arrays, the walk of p in the path, and a word for each of its nodes
-  pub record Drawing (k : ℕ) (nodes : List (List ℕ)) (points lows highs : List (List Float)) (path : List (List ℕ)) (len leaf : ℕ) (words : List ℕ) (point : List Float) : Type 0 where
-    pub boxed : Boxed d c k nodes points lows highs t
+  pub record Drawing (k : ℕ) (nodes : List (List ℕ)) (points : List (List Float)) (boxes : List (List (List Float))) (path : List (List ℕ)) (len leaf : ℕ) (words : List ℕ) (point : List Float) : Type 0 where
+    pub boxed : Boxed d c k nodes points boxes t
     pub once : Once d c t
     pub count : len ≡ walk (whole d) t p
     pub most : len ≤ capacityLimit
@@ -46,8 +46,8 @@ module _ (d c : ℕ) (t : Tree (whole d)) (p : Reading) where
     pub high : r .«bounding_box» .«max_values» ≡ highOf d c (sub (whole d) t (r .height) p)
 
 -- some tree is there to draw in
-pub record SomeDrawing (c k : ℕ) (nodes : List (List ℕ)) (points lows highs : List (List Float)) (path : List (List ℕ)) (len leaf : ℕ) (words : List ℕ) (point : List Float) : Type 0 where
+pub record SomeDrawing (c k : ℕ) (nodes : List (List ℕ)) (points : List (List Float)) (boxes : List (List (List Float))) (path : List (List ℕ)) (len leaf : ℕ) (words : List ℕ) (point : List Float) : Type 0 where
   pub channels : ℕ
   pub tree : Tree (whole channels)
   pub reading : Reading
-  pub drawing : Drawing channels c tree reading k nodes points lows highs path len leaf words point
+  pub drawing : Drawing channels c tree reading k nodes points boxes path len leaf words point

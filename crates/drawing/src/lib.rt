@@ -2,15 +2,12 @@
 use boundingbox::BoundingBox;
 use cut::Cut;
 use cut::Separation;
-use limits::BRANCHES;
+use limits::Boxes;
 use limits::Nodes;
 use limits::Path;
 use limits::Points;
 use limits::Row;
-ghost use mathlib.Core.Path.{_≡_};
-ghost use mathlib.Core.List.{[]};
-ghost use Prim.Native.Nat.{ℕ, _+_, _-_, _≤_, _<_};
-ghost use lib.ListN.{getD};
+ghost use Prim.Native.Nat.{ℕ, _≤_};
 ghost use Rattle.limits.specs.Limits.{capacityLimit};
 ghost use Rattle.cuttree.specs.Tree.{Tree};
 ghost use Rattle.wholetree.specs.Reading.{Reading};
@@ -24,29 +21,13 @@ pub struct Highest {
     pub bounding_box: BoundingBox,
 }
 
-// The sibling of the node of height m on a walk of len nodes.
-fn sibling_at(path: &Path, len: usize, m: usize) -> usize
-    requires { ⌜ (m < len) × (len ≤ capacityLimit) ⌝ }
-    ensures { λ r. ⌜ r ≡ getD (getD (now (path .entry)) (len - 1 - m) []) 1 0 ⌝ }
-{
-    let row = len - 1 - m;
-    wide(path[row][1])
-}
-
-fn wide(x: u16) -> usize
-    ensures { λ r. ⌜ r ≡ x ⌝ }
-{
-    x as usize
-}
-
 // The highest cut that parts the point from a node's box, of one drawn at each node of the walk, from the leaf to the root. Once a box
 // holds the point, every box above does, and the words there change nothing.
 // Rules out the lowest cut that parts, and a box of the walk's node grown by the wrong side.
 pub fn highest_cut(
     nodes: &Nodes,
     points: &Points,
-    lows: &[Row; BRANCHES],
-    highs: &[Row; BRANCHES],
+    boxes: &Boxes,
     path: &Path,
     len: usize,
     leaf: usize,
@@ -56,8 +37,8 @@ pub fn highest_cut(
     cached: usize,
 ) -> Highest
     requires few { ⌜ capacity ≤ capacityLimit ⌝ }
-    requires walked { ⌜ SomeDrawing capacity cached (now nodes) (now points) (now lows) (now highs) (now path) len leaf (now words) (now point) ⌝ }
-    ensures { λ r. ⌜ ((d : ℕ) (t : Tree (whole d)) (p : Reading) → Drawing d capacity t p cached (now (nodes .entry)) (now (points .entry)) (now (lows .entry)) (now (highs .entry)) (now (path .entry)) len leaf (now (words .entry)) (now (point .entry)) → Kept d capacity t p (now (words .entry)) len r) ⌝ }
+    requires walked { ⌜ SomeDrawing capacity cached (now nodes) (now points) (now boxes) (now path) len leaf (now words) (now point) ⌝ }
+    ensures { λ r. ⌜ ((d : ℕ) (t : Tree (whole d)) (p : Reading) → Drawing d capacity t p cached (now (nodes .entry)) (now (points .entry)) (now (boxes .entry)) (now (path .entry)) len leaf (now (words .entry)) (now (point .entry)) → Kept d capacity t p (now (words .entry)) len r) ⌝ }
 {
     let first = BoundingBox::new(&points[leaf], &points[leaf]);
     let mut current = first;
@@ -86,17 +67,8 @@ pub fn highest_cut(
                 }
             }
         }
-        let sibling = sibling_at(path, len, m);
-        current = boxstore::grow_node_box(
-            current,
-            sibling,
-            nodes,
-            points,
-            lows,
-            highs,
-            capacity,
-            cached,
-        );
+        let sibling = boxstore::sibling_at(path, len, m);
+        current = boxstore::grow_node_box(current, sibling, nodes, points, boxes, capacity, cached);
         m += 1;
     }
     let last = Cut::whole_cut_and_separation(current, words[m], point);

@@ -18,9 +18,9 @@ use Rattle.cuttree.proofs.Nodes.{is-zero, In, here, left, right}
 use Rattle.cuttree.proofs.Room.{uses-in as used-in}
 use Rattle.wholetree.specs.Reading.{Reading}
 use Rattle.wholetree.specs.Whole.{whole, tab}
-use Rattle.layout.specs.Slots.{uses, slot}
-use Rattle.layout.specs.Layout.{noEnds, boxIn}
-use Rattle.layout.specs.Stands.{Laid, LaidBelow, Once, InRange}
+use Rattle.layout.specs.Slots.{uses, slot, boxEnds}
+use Rattle.layout.specs.Layout.{noBoxEnds, boxIn}
+use Rattle.layout.specs.Stands.{Laid, LaidBelow, Cached, Once, InRange}
 use Rattle.layout.proofs.Tabs.{entry-of, same-tab}
 
 module _ (d c : ℕ) where
@@ -84,10 +84,11 @@ module _ (d c : ℕ) where
     pub tab-laid : (y : A) (xs : List A) (t : Tree (whole d)) → c ≤ capacityLimit → xs ≡ tab branchLimit (slot d c f z t) → Once d c t → InRange d c t → Laid d c f (λ j. getD xs j y) t
     tab-laid y xs t m e o h = laid-by f (λ j. getD xs j y) t (λ b k g l r i. entry-of branchLimit (slot d c f z t) xs e y b (omega (arith, range-in h i)) ∙ slot-in o i)
 
-  -- THE CACHED BOXES, k of them: f is their lower or their upper ends
-  module _ (k : ℕ) (f : Tree (whole d) → List Float) where
-    box-low : (t : Tree (whole d)) (j : ℕ) → j < k → boxIn d c k f (some t) j ≡ slot d c f noEnds t j
-    box-low t j m = cond-true _ _ _ (lt-ltb j k m)
+  -- THE CACHED BOXES, k of them
+  module _ (k : ℕ) where
+    box-below : (t : Tree (whole d)) (j : ℕ) → j < k → boxIn d c k (some t) j ≡ slot d c (boxEnds d c) noBoxEnds t j
+    box-below t j m = cond-true _ _ _ (lt-ltb j k m)
 
-    pub tab-boxes : (xs : List (List Float)) (t : Tree (whole d)) → c ≤ capacityLimit → xs ≡ tab branchLimit (boxIn d c k f (some t)) → Once d c t → InRange d c t → LaidBelow d c k f (λ j. getD xs j []) t
-    tab-boxes xs t m e o h = laid-below-by f (λ j. getD xs j []) k t (λ b x g l r i z. entry-of branchLimit (boxIn d c k f (some t)) xs e [] b (omega (arith, range-in h i)) ∙ box-low t b z ∙ slot-in f noEnds o i)
+    pub tab-boxes : (xs : List (List (List Float))) (t : Tree (whole d)) → c ≤ capacityLimit → xs ≡ tab branchLimit (boxIn d c k (some t)) → Once d c t → InRange d c t → Cached d c k xs t
+    tab-boxes xs t m e o h =
+        laid-below-by (boxEnds d c) (λ j. getD xs j []) k t (λ b x g l r i z. entry-of branchLimit (boxIn d c k (some t)) xs e [] b (omega (arith, range-in h i)) ∙ box-below t b z ∙ slot-in (boxEnds d c) noBoxEnds o i)

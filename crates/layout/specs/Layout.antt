@@ -11,14 +11,17 @@ use Rattle.boundingbox.specs.Sides.{nought}
 use Rattle.cuttree.specs.Tree.{Tree, id}
 use Rattle.wholetree.specs.Reading.{Reading}
 use Rattle.wholetree.specs.Whole.{whole, tab}
-use Rattle.layout.specs.Slots.{slot, countAt}
+use Rattle.layout.specs.Slots.{slot, boxEnds, countAt}
 
--- no branch's row, and no box's or reading's
+-- no branch's row, no reading's, and no box
 abbrev pub noRow : List ℕ
 noRow = 0 ∷ 0 ∷ 0 ∷ 0 ∷ []
 
 abbrev pub noEnds : List Float
 noEnds = replicate width nought
+
+abbrev pub noBoxEnds : List (List Float)
+noBoxEnds = noEnds ∷ noEnds ∷ []
 
 -- what the table keeps: a row of coordinates for each index, and whether it is written
 pub record Table : Type 0 where
@@ -43,8 +46,8 @@ module _ (d c k : ℕ) where
   countIn (some t) x = countAt d c t x
 
   -- 'The cached boxes are those the tree keeps, one for each branch in it below the whole part of share × c'
-  abbrev pub boxIn : (Tree (whole d) → List Float) → Option (Tree (whole d)) → ℕ → List Float
-  boxIn f o j = cond (ltb j k) (slotIn f noEnds o j) noEnds
+  abbrev pub boxIn : Option (Tree (whole d)) → ℕ → List (List Float)
+  boxIn o j = cond (ltb j k) (slotIn (boxEnds d c) noBoxEnds o j) noBoxEnds
 
 abbrev pub pointRow : Option Reading → List Float
 pointRow none = noEnds

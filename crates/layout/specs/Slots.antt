@@ -33,12 +33,16 @@ module _ (d c : ℕ) where
   cutOf (leaf i q n) = nought
   cutOf (branch b k g l r) = k .value .value
 
-  -- the ends of its box
+  -- the lower and the upper ends of its box
   abbrev pub lowOf : Tree (whole d) → List Float
   lowOf t = ends (lo (whole d) t)
 
   abbrev pub highOf : Tree (whole d) → List Float
   highOf t = ends (hi (whole d) t)
+
+  -- its box: the lower ends, then the upper ends
+  abbrev pub boxEnds : Tree (whole d) → List (List Float)
+  boxEnds t = lowOf t ∷ highOf t ∷ []
 
   -- the copies of the leaf of a point index
   abbrev pub countAt : Tree (whole d) → ℕ → ℕ

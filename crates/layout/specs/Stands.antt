@@ -10,7 +10,7 @@ use Rattle.cuttree.specs.Setting.{below}
 use Rattle.cuttree.specs.Tree.{Tree, leaf, branch, id, All}
 use Rattle.wholetree.specs.Reading.{Reading}
 use Rattle.wholetree.specs.Whole.{whole}
-use Rattle.layout.specs.Slots.{rowOf, cutOf, lowOf, highOf, uses}
+use Rattle.layout.specs.Slots.{rowOf, cutOf, boxEnds, uses}
 
 -- stands in a path in place of the root's sibling
 abbrev pub noSibling : ℕ
@@ -44,9 +44,8 @@ module _ (d c : ℕ) where
     pub in-range : InRange t
 
   -- the cached boxes
-  pub record Cached (k : ℕ) (lows highs : List (List Float)) (t : Tree (whole d)) : Type 0 where
-    pub low : LaidBelow k (lowOf d c) (λ (j : ℕ). getD lows j []) t
-    pub high : LaidBelow k (highOf d c) (λ (j : ℕ). getD highs j []) t
+  abbrev pub Cached : ℕ → List (List (List Float)) → Tree (whole d) → Type 0
+  Cached k boxes t = LaidBelow k (boxEnds d c) (λ (j : ℕ). getD boxes j []) t
 
   -- The walk of p as `set_path` keeps it: from the root to the leaf, each node's id with that of its sibling; s stands for the root's, which has none.
   abbrev pub trailFrom : ℕ → Tree (whole d) → Reading → List (List ℕ)

@@ -28,6 +28,9 @@ pub type Nodes = [[u16; 4]; BRANCHES];
 
 pub type Cuts = [f32; BRANCHES];
 
+// The cached boxes, by branch number: lower ends, then upper ends.
+pub type Boxes = [[Row; 2]; BRANCHES];
+
 // The copies of each leaf, by its point index.
 pub type Copies = [u16; POINTS];
 

@@ -2,7 +2,7 @@
 use native.Mathlib.Omega.{arith}
 use Rattle.limits.specs.Limits.{capacityLimit}
 use Rattle.boxstore.proofs.Depths.{deep}
-use Rattle.boxstore.proofs.Parts.{at-leaf, at-cached, in-table, Parts, parts, sides-given, sides-box}
+use Rattle.boxstore.proofs.Parts.{at-leaf, at-cached, box-numbers, in-table, Parts, parts, sides-given, sides-box}
 use Prim.Native.Nat.{ℕ, _<_}
 use borrow.Fn.Kinds.{In}
 use borrow.Fn.PlainCycle.{Measures, is, falls, and}
@@ -16,19 +16,19 @@ use Rattle.boxstore.proofs.side_of.Reads as side-of-reads
 use Rattle.boxstore.proofs.+bounding_box.{statement}
 use Rattle.boxstore.proofs.+bounding_box.Tie.{close}
 
-abbrev μ-bounding-box : Measures 4 bounding-box-kinds.ps ℕ
-μ-bounding-box κs a = deep (a .1 .0 .now) (a .1 .1 .1 .1 .1 .0) capacityLimit (a .0)
+abbrev μ-bounding-box : Measures 3 bounding-box-kinds.ps ℕ
+μ-bounding-box κs a = deep (a .1 .0 .now) (a .1 .1 .1 .1 .0) capacityLimit (a .0)
 
-abbrev bounding-box-at : ℕ → In 4 bounding-box-kinds.ps
+abbrev bounding-box-at : ℕ → In 3 bounding-box-kinds.ps
 bounding-box-at t =
-    and 4 bounding-box-kinds.ps (is 4 bounding-box-kinds.ps μ-bounding-box t) bounding-box.Pre
+    and 3 bounding-box-kinds.ps (is 3 bounding-box-kinds.ps μ-bounding-box t) bounding-box.Pre
 
-abbrev bounding-box-below : ℕ → In 4 bounding-box-kinds.ps
+abbrev bounding-box-below : ℕ → In 3 bounding-box-kinds.ps
 bounding-box-below t =
     and
-    4
+    3
     bounding-box-kinds.ps
-    (falls 4 bounding-box-kinds.ps _<_ μ-bounding-box t)
+    (falls 3 bounding-box-kinds.ps _<_ μ-bounding-box t)
     bounding-box.Pre
 
 abbrev calls : ℕ → bounding-box-lts.Claims
@@ -36,20 +36,20 @@ calls t = (leaf-box-reads.Asked, leaf-box-reads.Learnt, box-from-data-reads.Aske
 
 -- what is known of a branch
 branch-at : (t : ℕ) (c : bounding-box-lts.Start (calls t) (bounding-box-at t) bounding-box.Post) → c .args .node < c .args .capacity
-    → Parts (c .args .capacity) (c .args .cached) (c .args .node) (c .args .nodes .now) (c .args .points .now) (c .args .lows .now) (c .args .highs .now)
-branch-at t c h = parts _ _ _ _ _ _ _ (c .pre .1 .0) h (c .pre .1 .1)
+    → Parts (c .args .capacity) (c .args .cached) (c .args .node) (c .args .nodes .now) (c .args .points .now) (c .args .boxes .now)
+branch-at t c h = parts _ _ _ _ _ _ (c .pre .1 .0) h (c .pre .1 .1)
 
 bounding-box-leaf-box-requires : (t : ℕ) → bounding-box-lts.Need-leaf-box-requires (calls t) (bounding-box-at t) bounding-box.Post
-bounding-box-leaf-box-requires t c κs = in-table _ _ _ _ _ _ _ (c .if1 .taken) (c .before .pre .1 .1)
+bounding-box-leaf-box-requires t c κs = in-table _ _ _ _ _ _ (c .if1 .taken) (c .before .pre .1 .1)
 
 bounding-box-returns : (t : ℕ) → bounding-box-lts.Need-returns (calls t) (bounding-box-at t) bounding-box.Post
-bounding-box-returns t c = at-leaf _ _ _ _ _ _ _ (c .before .if1 .taken) .whole-box _ (c .leaf-box .ensures .0) (c .leaf-box .ensures .1)
+bounding-box-returns t c = at-leaf _ _ _ _ _ _ (c .before .if1 .taken) .whole-box _ (c .leaf-box .ensures .0) (c .leaf-box .ensures .1)
 
 bounding-box-box-from-data-requires : (t : ℕ) → bounding-box-lts.Need-box-from-data-requires (calls t) (bounding-box-at t) bounding-box.Post
 bounding-box-box-from-data-requires t c κs = let w = branch-at t (c .before .before) (c .before .if1 .left) in omega arith
 
 bounding-box-returns-2 : (t : ℕ) → bounding-box-lts.Need-returns-2 (calls t) (bounding-box-at t) bounding-box.Post
-bounding-box-returns-2 t c = at-cached _ _ _ _ _ _ _ (c .before .before .if1 .left) (c .before .if2 .taken) .whole-box _ (c .box-from-data .ensures .0) (c .box-from-data .ensures .1)
+bounding-box-returns-2 t c = at-cached _ _ _ _ _ _ (c .before .before .if1 .left) (c .before .if2 .taken) .whole-box _ (c .box-from-data .ensures .0) (c .box-from-data .ensures .1)
 
 bounding-box-side-of-requires : (t : ℕ) → bounding-box-lts.Need-side-of-requires (calls t) (bounding-box-at t) bounding-box.Post
 bounding-box-side-of-requires t c κs = let w = branch-at t (c .before .before) (c .before .if1 .left) in (omega arith, omega arith)
@@ -62,12 +62,13 @@ bounding-box-bounding-box-requires t c κs = let w = branch-at t (c .before .bef
     rw (c .before .side-of .ensures) (omega (arith, w .left-less, c .before .before .before .before .pre .0), (c .before .before .before .before .pre .1 .0, w .left-some))
 
 bounding-box-grow-node-box-requires : (t : ℕ) → bounding-box-lts.Need-grow-node-box-requires (calls t) (bounding-box-at t) bounding-box.Post
-bounding-box-grow-node-box-requires t c κs = let w = branch-at t (c .before .before .before .before .before) (c .before .before .before .before .if1 .left) in rw (c .before .side-of2 .ensures) (c .before .before .before .before .before .pre .1 .0, w .right-some)
+bounding-box-grow-node-box-requires t c κs = let w = branch-at t (c .before .before .before .before .before) (c .before .before .before .before .if1 .left) in
+    (c .before .before .before .before .before .pre .1 .0, (rw (c .before .side-of2 .ensures) (w .right-some), box-numbers _ _ _ _ _ _ _ (w .left-some) (rw (c .before .before .side-of .ensures) at (c .bounding-box .ensures))))
 
 bounding-box-returns-3 : (t : ℕ) → bounding-box-lts.Need-returns-3 (calls t) (bounding-box-at t) bounding-box.Post
 bounding-box-returns-3 t c = let a = c .before .before .before .before .before .before .args in
-    sides-box (a .capacity) (a .cached) (a .node) (a .nodes .now) (a .points .now) (a .lows .now) (a .highs .now) (c .before .before .before .before .before .if1 .left) _
-    (sides-given _ _ _ _ _ _ _ _ _ (rw (c .before .before .before .side-of .ensures) at (c .before .bounding-box .ensures)) (rw (c .before .before .side-of2 .ensures) at (c .grow-node-box .ensures)))
+    sides-box (a .capacity) (a .cached) (a .node) (a .nodes .now) (a .points .now) (a .boxes .now) (c .before .before .before .before .before .if1 .left) _
+    (sides-given _ _ _ _ _ _ _ _ (rw (c .before .before .before .side-of .ensures) at (c .before .bounding-box .ensures)) (rw (c .before .before .side-of2 .ensures) at (c .grow-node-box .ensures)))
 
 pub +bounding-box-spec : {M : Type 1} → statement M
 +bounding-box-spec = close μ-bounding-box λ t. bounding-box-lts.spec (calls t)

@@ -15,41 +15,41 @@ use Rattle.boxstore.proofs.widen.Reads as widen-reads
 use Rattle.boxstore.proofs.+grow_ends.{statement}
 use Rattle.boxstore.proofs.+grow_ends.Tie.{close}
 
-abbrev μ-grow-ends : Measures 6 grow-ends-kinds.ps ℕ
-μ-grow-ends κs a = deep (a .1 .1 .1 .0 .now) (a .1 .1 .1 .1 .1 .1 .1 .0) capacityLimit (a .1 .1 .0)
+abbrev μ-grow-ends : Measures 5 grow-ends-kinds.ps ℕ
+μ-grow-ends κs a = deep (a .1 .1 .1 .0 .now) (a .1 .1 .1 .1 .1 .1 .0) capacityLimit (a .1 .1 .0)
 
-abbrev grow-ends-at : ℕ → In 6 grow-ends-kinds.ps
-grow-ends-at t = and 6 grow-ends-kinds.ps (is 6 grow-ends-kinds.ps μ-grow-ends t) grow-ends.Pre
+abbrev grow-ends-at : ℕ → In 5 grow-ends-kinds.ps
+grow-ends-at t = and 5 grow-ends-kinds.ps (is 5 grow-ends-kinds.ps μ-grow-ends t) grow-ends.Pre
 
-abbrev grow-ends-below : ℕ → In 6 grow-ends-kinds.ps
+abbrev grow-ends-below : ℕ → In 5 grow-ends-kinds.ps
 grow-ends-below t =
-    and 6 grow-ends-kinds.ps (falls 6 grow-ends-kinds.ps _<_ μ-grow-ends t) grow-ends.Pre
+    and 5 grow-ends-kinds.ps (falls 5 grow-ends-kinds.ps _<_ μ-grow-ends t) grow-ends.Pre
 
 abbrev calls : ℕ → grow-ends-lts.Claims
 calls t = (widen-reads.Asked, widen-reads.Learnt, side-of-reads.Asked, side-of-reads.Learnt, grow-ends-below t, grow-ends.Post)
 
 -- what is known of a branch
 branch-at : (t : ℕ) (c : grow-ends-lts.Start (calls t) (grow-ends-at t) grow-ends.Post) → c .args .node < c .args .capacity
-    → Parts (c .args .capacity) (c .args .cached) (c .args .node) (c .args .nodes .now) (c .args .points .now) (c .args .lows .now) (c .args .highs .now)
-branch-at t c h = parts _ _ _ _ _ _ _ (c .pre .1 .0) h (c .pre .1 .1)
+    → Parts (c .args .capacity) (c .args .cached) (c .args .node) (c .args .nodes .now) (c .args .points .now) (c .args .boxes .now)
+branch-at t c h = parts _ _ _ _ _ _ (c .pre .1 .0) h (c .pre .1 .1)
 
 grow-ends-mul-widen : (t : ℕ) → grow-ends-lts.Need-mul-widen (calls t) (grow-ends-at t) grow-ends.Post
-grow-ends-mul-widen t c = let w = in-table _ _ _ _ _ _ _ (c .before .before .if1 .taken) (c .before .before .before .pre .1 .1) in omega arith
+grow-ends-mul-widen t c = let w = in-table _ _ _ _ _ _ (c .before .before .if1 .taken) (c .before .before .before .pre .1 .1) in omega arith
 
 grow-ends-index-1-widen : (t : ℕ) → grow-ends-lts.Need-index-1-widen (calls t) (grow-ends-at t) grow-ends.Post
-grow-ends-index-1-widen t c = let w = in-table _ _ _ _ _ _ _ (c .before .before .if1 .taken) (c .before .before .before .pre .1 .1) in omega arith
+grow-ends-index-1-widen t c = let w = in-table _ _ _ _ _ _ (c .before .before .if1 .taken) (c .before .before .before .pre .1 .1) in omega arith
 
 grow-ends-mul-widen-2 : (t : ℕ) → grow-ends-lts.Need-mul-widen-2 (calls t) (grow-ends-at t) grow-ends.Post
-grow-ends-mul-widen-2 t c = let w = in-table _ _ _ _ _ _ _ (c .before .before .before .if1 .taken) (c .before .before .before .before .pre .1 .1) in omega arith
+grow-ends-mul-widen-2 t c = let w = in-table _ _ _ _ _ _ (c .before .before .before .if1 .taken) (c .before .before .before .before .pre .1 .1) in omega arith
 
 grow-ends-index-1-widen-2 : (t : ℕ) → grow-ends-lts.Need-index-1-widen-2 (calls t) (grow-ends-at t) grow-ends.Post
-grow-ends-index-1-widen-2 t c = let w = in-table _ _ _ _ _ _ _ (c .before .before .before .if1 .taken) (c .before .before .before .before .pre .1 .1) in omega arith
+grow-ends-index-1-widen-2 t c = let w = in-table _ _ _ _ _ _ (c .before .before .before .if1 .taken) (c .before .before .before .before .pre .1 .1) in omega arith
 
 grow-ends-widen-requires : (t : ℕ) → grow-ends-lts.Need-widen-requires (calls t) (grow-ends-at t) grow-ends.Post
 grow-ends-widen-requires t c κs = search needs
 
 grow-ends-returns : (t : ℕ) → grow-ends-lts.Need-returns (calls t) (grow-ends-at t) grow-ends.Post
-grow-ends-returns t c = at-leaf _ _ _ _ _ _ _ (c .before .before .before .before .before .if1 .taken) .grown _ _ _ _ (c .widen .ensures .0) (c .widen .ensures .1)
+grow-ends-returns t c = at-leaf _ _ _ _ _ _ (c .before .before .before .before .before .if1 .taken) .grown _ _ _ _ (c .widen .ensures .0) (c .widen .ensures .1)
 
 grow-ends-mul-widen-3 : (t : ℕ) → grow-ends-lts.Need-mul-widen-3 (calls t) (grow-ends-at t) grow-ends.Post
 grow-ends-mul-widen-3 t c = search needs
@@ -57,17 +57,23 @@ grow-ends-mul-widen-3 t c = search needs
 grow-ends-index-1-widen-3 : (t : ℕ) → grow-ends-lts.Need-index-1-widen-3 (calls t) (grow-ends-at t) grow-ends.Post
 grow-ends-index-1-widen-3 t c = let w = branch-at t (c .before .before .before .before) (c .before .before .before .if1 .left) in omega arith
 
+grow-ends-index-2-widen : (t : ℕ) → grow-ends-lts.Need-index-2-widen (calls t) (grow-ends-at t) grow-ends.Post
+grow-ends-index-2-widen t c = search needs
+
 grow-ends-mul-widen-4 : (t : ℕ) → grow-ends-lts.Need-mul-widen-4 (calls t) (grow-ends-at t) grow-ends.Post
 grow-ends-mul-widen-4 t c = search needs
 
 grow-ends-index-1-widen-4 : (t : ℕ) → grow-ends-lts.Need-index-1-widen-4 (calls t) (grow-ends-at t) grow-ends.Post
 grow-ends-index-1-widen-4 t c = let w = branch-at t (c .before .before .before .before .before) (c .before .before .before .before .if1 .left) in omega arith
 
+grow-ends-index-2-widen-2 : (t : ℕ) → grow-ends-lts.Need-index-2-widen-2 (calls t) (grow-ends-at t) grow-ends.Post
+grow-ends-index-2-widen-2 t c = search needs
+
 grow-ends-widen-requires-2 : (t : ℕ) → grow-ends-lts.Need-widen-requires-2 (calls t) (grow-ends-at t) grow-ends.Post
 grow-ends-widen-requires-2 t c κs = search needs
 
 grow-ends-returns-2 : (t : ℕ) → grow-ends-lts.Need-returns-2 (calls t) (grow-ends-at t) grow-ends.Post
-grow-ends-returns-2 t c = at-cached _ _ _ _ _ _ _ (c .before .before .before .before .before .before .if1 .left) (c .before .before .before .before .before .if2 .taken) .grown _ _ _ _ (c .widen2 .ensures .0) (c .widen2 .ensures .1)
+grow-ends-returns-2 t c = at-cached _ _ _ _ _ _ (c .before .before .before .before .before .before .if1 .left) (c .before .before .before .before .before .if2 .taken) .grown _ _ _ _ (c .widen2 .ensures .0) (c .widen2 .ensures .1)
 
 grow-ends-side-of-requires : (t : ℕ) → grow-ends-lts.Need-side-of-requires (calls t) (grow-ends-at t) grow-ends.Post
 grow-ends-side-of-requires t c κs = let w = branch-at t (c .before .before) (c .before .if1 .left) in (omega arith, omega arith)
@@ -85,7 +91,7 @@ grow-ends-grow-ends-requires-2 t c κs = let w = branch-at t (c .before .before 
 
 grow-ends-returns-3 : (t : ℕ) → grow-ends-lts.Need-returns-3 (calls t) (grow-ends-at t) grow-ends.Post
 grow-ends-returns-3 t c = let a = c .before .before .before .before .before .before .before .before .before .before .args in
-    sides-grown (a .capacity) (a .cached) (a .node) (a .nodes .now) (a .points .now) (a .lows .now) (a .highs .now) (c .before .before .before .before .before .before .before .before .before .if1 .left) _ _ _ _ _ _
+    sides-grown (a .capacity) (a .cached) (a .node) (a .nodes .now) (a .points .now) (a .boxes .now) (c .before .before .before .before .before .before .before .before .before .if1 .left) _ _ _ _ _ _
     (rw (c .before .before .before .before .before .before .before .side-of .ensures) at (c .before .before .before .grow-ends .ensures)) (rw (c .before .before .before .before .before .before .side-of2 .ensures) at (c .grow-ends2 .ensures))
 
 pub +grow-ends-spec : {M : Type 1} → statement M
@@ -100,8 +106,10 @@ pub +grow-ends-spec : {M : Type 1} → statement M
     (grow-ends-returns t)
     (grow-ends-mul-widen-3 t)
     (grow-ends-index-1-widen-3 t)
+    (grow-ends-index-2-widen t)
     (grow-ends-mul-widen-4 t)
     (grow-ends-index-1-widen-4 t)
+    (grow-ends-index-2-widen-2 t)
     (grow-ends-widen-requires-2 t)
     (grow-ends-returns-2 t)
     (grow-ends-side-of-requires t)

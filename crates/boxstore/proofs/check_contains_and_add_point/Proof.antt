@@ -17,14 +17,14 @@ copy-box-to-data-requires c κs = search needs
 
 returns : tie.Need-returns
 returns c =
-    let b = c .before .before .before .before .box-from-data .ensures in
-    let g = c .before .before .before .check-contains-and-add-point .ensures in (
-      rw (lt-ltb _ _ (c .before .before .before .before .before .before .before .if1 .taken), ← b .0, ← b .1) (g .1 .1),
-      (rw (← b .0, ← g .0) (c .copy-box-to-data .ensures .0), rw (← b .1, ← g .1 .0) (c .copy-box-to-data .ensures .1)),
+    let b = c .before .before .before .box-from-data .ensures in
+    let g = c .before .before .check-contains-and-add-point .ensures in (
+      rw (lt-ltb _ _ (c .before .before .before .before .before .if1 .taken), ← b .0, ← b .1) (g .1 .1),
+      rw (← b .0, ← b .1, ← g .0, ← g .1 .0) (c .copy-box-to-data .ensures),
     )
 
 returns-2 : tie.Need-returns-2
-returns-2 c = let h = c .if1 .left in (rw (le-ltb _ _ h), (sym (written-other _ _ _ _ h), sym (written-other _ _ _ _ h)))
+returns-2 c = let h = c .if1 .left in (rw (le-ltb _ _ h), sym (written-other _ _ _ _ h))
 
 pub check-contains-and-add-point-spec : {M : Type 1} → statement M
 check-contains-and-add-point-spec =

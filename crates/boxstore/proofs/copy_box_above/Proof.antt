@@ -11,8 +11,8 @@ copy-box-to-data-requires c κs = search needs
 
 returns : tie.Need-returns
 returns c =
-    let g = c .before .before .before .check-contains-and-add-point .ensures in
-    (rw (g .0) at (c .copy-box-to-data .ensures .0), rw (g .1 .0) at (c .copy-box-to-data .ensures .1))
+    let g = c .before .before .check-contains-and-add-point .ensures in
+    rw (g .0, g .1 .0) at (c .copy-box-to-data .ensures)
 
 pub copy-box-above-spec : {M : Type 1} → statement M
 copy-box-above-spec =

@@ -8,14 +8,14 @@ use Rattle.boxstore.proofs.grow_ancestors.Statement.{statement}
 use Rattle.boxstore.proofs.grow_ancestors.Tie as tie
 
 abbrev Inv-loop : tie.InvT-loop
-Inv-loop lows₀ highs₀ path n point cached row₀ lows highs row =
-    (row ≤ n) × (n ≤ capacityLimit) × (cached ≤ branchLimit) × Climbed cached n path point lows₀ highs₀ lows highs row
+Inv-loop boxes₀ path n point cached row₀ boxes row =
+    (row ≤ n) × (n ≤ capacityLimit) × (cached ≤ branchLimit) × Climbed cached n path point boxes₀ boxes row
 
 abbrev μ-loop : tie.MeasureT-loop
-μ-loop lows₀ highs₀ path n point cached row₀ lows highs row = row
+μ-loop boxes₀ path n point cached row₀ boxes row = row
 
 loop-holds : tie.Need-loop-holds Inv-loop μ-loop
-loop-holds c = (omega arith, c .pre .0, c .pre .1, climb-start _ _ _ _ _ _ (c .pre .1))
+loop-holds c = (omega arith, c .pre .0 .0, c .pre .0 .1, climb-start _ _ _ _ _ (c .pre .0 .1))
 
 sub-row : tie.Need-sub-row Inv-loop μ-loop
 sub-row c = search needs
@@ -29,21 +29,21 @@ check-contains-and-add-point-requires c κs = search needs
 
 returns : tie.Need-returns Inv-loop μ-loop
 returns c =
-    let i = c .before .before .before .before .before .before .loop .inv in
+    let i = c .before .before .before .before .before .loop .inv in
     let g = c .before .check-contains-and-add-point .ensures in
-    climb-stop _ _ _ _ _ _ (i .2) _ (c .before .before .before .before .before .loop-test .taken) (i .0) _ _ _ _ _ (c .before .before .before .before .node-of .ensures) (g .1 .0) (g .1 .1) (i .3) _ (g .0) (c .if1 .taken)
+    climb-stop _ _ _ _ _ (i .2) _ (c .before .before .before .before .loop-test .taken) (i .0) _ _ _ (c .before .before .before .node-of .ensures) (g .1) (i .3) _ (g .0) (c .if1 .taken)
 
 loop-less : tie.Need-loop-less Inv-loop μ-loop
 loop-less c = search needs
 
 loop-again : tie.Need-loop-again Inv-loop μ-loop
 loop-again c =
-    let i = c .before .before .before .before .before .before .loop .inv in
+    let i = c .before .before .before .before .before .loop .inv in
     let g = c .before .check-contains-and-add-point .ensures in
-    (omega arith, i .1, i .2, climb-turn _ _ _ _ _ _ (i .2) _ (c .before .before .before .before .before .loop-test .taken) (i .0) _ _ _ _ _ (c .before .before .before .before .node-of .ensures) (g .1 .0) (g .1 .1) (i .3))
+    (omega arith, i .1, i .2, climb-turn _ _ _ _ _ (i .2) _ (c .before .before .before .before .loop-test .taken) (i .0) _ _ _ (c .before .before .before .node-of .ensures) (g .1) (i .3))
 
 returns-2 : tie.Need-returns-2 Inv-loop μ-loop
-returns-2 c = let i = c .before .loop .inv in climb-end _ _ _ _ _ _ _ _ _ (omega arith) (i .3)
+returns-2 c = let i = c .before .loop .inv in climb-end _ _ _ _ _ _ _ (omega arith) (i .3)
 
 pub grow-ancestors-spec : {M : Type 1} → statement M
 grow-ancestors-spec =

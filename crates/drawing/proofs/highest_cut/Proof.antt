@@ -5,16 +5,16 @@ use mathlib.Core.Logic.{⊎-elim}
 use Prim.Native.Nat.{_-_}
 use lib.Ieee.{ofBits}
 use Rattle.wholetree.specs.Number.{zero}
-use Rattle.drawing.proofs.Going.{Going, going-starts, going-readings, kept-held, kept-last, some-side, going-on}
+use Rattle.drawing.proofs.Going.{Going, going-starts, going-readings, going-numbers, kept-held, kept-last, some-side, going-on}
 use borrow.Author.Needs.{needs}
 use Rattle.drawing.proofs.highest_cut.Statement.{statement}
 use Rattle.drawing.proofs.highest_cut.Tie as tie
 
 abbrev Inv-loop : tie.InvT-loop
-Inv-loop nodes points lows highs path len leaf words point capacity cached current₀ kept₀ m₀ current kept m = Going capacity cached nodes points lows highs path len leaf words point m current kept
+Inv-loop nodes points boxes path len leaf words point capacity cached current₀ kept₀ m₀ current kept m = Going capacity cached nodes points boxes path len leaf words point m current kept
 
 abbrev μ-loop : tie.MeasureT-loop
-μ-loop nodes points lows highs path len leaf words point capacity cached current₀ kept₀ m₀ current kept m = len - m
+μ-loop nodes points boxes path len leaf words point capacity cached current₀ kept₀ m₀ current kept m = len - m
 
 mul-new : tie.Need-mul-new Inv-loop μ-loop
 mul-new c = search needs
@@ -33,7 +33,7 @@ new-requires c κs = search needs
 
 loop-holds : tie.Need-loop-holds Inv-loop μ-loop
 unfolding zero ofBits
-loop-holds c = going-starts _ _ _ _ _ _ _ _ _ _ _ (c .before .before .before .before .pre .1) _ (c .new .ensures .0) (c .new .ensures .1) _ refl
+loop-holds c = going-starts _ _ _ _ _ _ _ _ _ _ (c .before .before .before .before .pre .1) _ (c .new .ensures .0) (c .new .ensures .1) _ refl
 
 add-loop : tie.Need-add-loop Inv-loop μ-loop
 add-loop c = omega (arith, c .loop .inv .within)
@@ -45,13 +45,13 @@ shared-slice-read-whole-cut-and-separation : tie.Need-shared-slice-read-whole-cu
 shared-slice-read-whole-cut-and-separation c = omega (arith, c .before .before .loop .inv .within, c .before .before .before .before .before .before .before .pre .1 .drawing .enough)
 
 whole-cut-and-separation-requires : tie.Need-whole-cut-and-separation-requires Inv-loop μ-loop
-whole-cut-and-separation-requires c κs = going-readings _ _ _ _ _ _ _ _ _ _ _ _ _ _ (c .before .before .loop .inv) (c .before .before .before .before .before .before .before .pre .1)
+whole-cut-and-separation-requires c κs = going-readings _ _ _ _ _ _ _ _ _ _ _ _ _ (c .before .before .loop .inv) (c .before .before .before .before .before .before .before .pre .1)
 
 enum-told : tie.Need-enum-told Inv-loop μ-loop
 enum-told c = search needs
 
 returns : tie.Need-returns Inv-loop μ-loop
-returns c = kept-held _ _ _ _ _ _ _ _ _ _ _ _ _ _ (c .before .before .before .before .before .loop .inv) (omega (arith, c .before .before .before .shared-slice-known2 .given (c .before .before .before .before .before .loop .m))) _ (c .before .before .whole-cut-and-separation .ensures) (c .enum-told .given .1)
+returns c = kept-held _ _ _ _ _ _ _ _ _ _ _ _ _ (c .before .before .before .before .before .loop .inv) (omega (arith, c .before .before .before .shared-slice-known2 .given (c .before .before .before .before .before .loop .m))) _ (c .before .before .whole-cut-and-separation .ensures) (c .enum-told .given .1)
 
 enum-known-drawn : tie.Need-enum-known-drawn Inv-loop μ-loop
 enum-known-drawn c = search needs
@@ -60,7 +60,10 @@ sibling-at-requires : tie.Need-sibling-at-requires Inv-loop μ-loop
 sibling-at-requires c κs = (omega arith, c .before .before .before .before .before .before .before .before .before .before .before .before .pre .1 .drawing .most)
 
 grow-node-box-requires : tie.Need-grow-node-box-requires Inv-loop μ-loop
-grow-node-box-requires c κs = (c .before .before .before .before .before .before .before .before .before .before .before .before .before .pre .0, some-side _ _ _ _ _ _ _ _ _ _ _ _ _ _ (c .before .before .before .before .before .before .before .before .loop .inv) (c .before .before .before .before .before .before .before .before .before .before .before .before .before .pre .1) (c .before .before .before .before .before .before .before .loop-test .taken) _ (c .sibling-at .ensures))
+grow-node-box-requires c κs =
+    let p = c .before .before .before .before .before .before .before .before .before .before .before .before .before .pre in
+    let g = c .before .before .before .before .before .before .before .before .loop .inv in
+    (p .0, (some-side _ _ _ _ _ _ _ _ _ _ _ _ _ g (p .1) (c .before .before .before .before .before .before .before .loop-test .taken) _ (c .sibling-at .ensures), going-numbers _ _ _ _ _ _ _ _ _ _ _ _ _ g (p .1)))
 
 add-m : tie.Need-add-m Inv-loop μ-loop
 add-m c = omega (arith, c .before .before .before .before .before .before .before .before .loop-test .taken, c .before .before .before .before .before .before .before .before .before .before .before .before .before .before .pre .1 .drawing .most)
@@ -70,7 +73,7 @@ loop-less c = omega (arith, c .before .before .before .before .before .before .b
 
 loop-again : tie.Need-loop-again Inv-loop μ-loop
 loop-again c =
-    going-on _ _ _ _ _ _ _ _ _ _ _ _ _ _ (c .before .before .before .before .before .before .before .before .before .loop .inv) (omega (arith, c .before .before .before .before .before .before .before .shared-slice-known2 .given (c .before .before .before .before .before .before .before .before .before .loop .m))) _ (c .before .before .before .before .before .before .whole-cut-and-separation .ensures)
+    going-on _ _ _ _ _ _ _ _ _ _ _ _ _ (c .before .before .before .before .before .before .before .before .before .loop .inv) (omega (arith, c .before .before .before .before .before .before .before .shared-slice-known2 .given (c .before .before .before .before .before .before .before .before .before .loop .m))) _ (c .before .before .before .before .before .before .whole-cut-and-separation .ensures)
     _ _ (c .before .before .before .before .drawn .given .1) _ (⊎-elim (λ w. rw (w .0 .taken) (w .1)) (λ w. rw (w .0 .left) (w .1)) (c .before .before .if1 .came))
     (c .before .before .before .before .before .before .before .before .loop-test .taken) _ (c .before .sibling-at .ensures) _ (c .grow-node-box .ensures)
 
@@ -81,7 +84,7 @@ shared-slice-read-whole-cut-and-separation-2 : tie.Need-shared-slice-read-whole-
 shared-slice-read-whole-cut-and-separation-2 c = omega (arith, c .before .before .loop .inv .within, c .before .before .before .before .before .before .before .pre .1 .drawing .enough)
 
 whole-cut-and-separation-requires-2 : tie.Need-whole-cut-and-separation-requires-2 Inv-loop μ-loop
-whole-cut-and-separation-requires-2 c κs = going-readings _ _ _ _ _ _ _ _ _ _ _ _ _ _ (c .before .before .loop .inv) (c .before .before .before .before .before .before .before .pre .1)
+whole-cut-and-separation-requires-2 c κs = going-readings _ _ _ _ _ _ _ _ _ _ _ _ _ (c .before .before .loop .inv) (c .before .before .before .before .before .before .before .pre .1)
 
 enum-told-2 : tie.Need-enum-told-2 Inv-loop μ-loop
 enum-told-2 c = search needs
@@ -91,15 +94,15 @@ enum-known-last c = search needs
 
 returns-2 : tie.Need-returns-2 Inv-loop μ-loop
 returns-2 c =
-    kept-last _ _ _ _ _ _ _ _ _ _ _ _ _ _ (c .before .before .before .before .before .before .before .loop .inv) (omega (arith, c .before .before .before .before .before .shared-slice-known3 .given (c .before .before .before .before .before .before .before .loop .m))) _ (c .before .before .before .before .whole-cut-and-separation2 .ensures)
+    kept-last _ _ _ _ _ _ _ _ _ _ _ _ _ (c .before .before .before .before .before .before .before .loop .inv) (omega (arith, c .before .before .before .before .before .shared-slice-known3 .given (c .before .before .before .before .before .before .before .loop .m))) _ (c .before .before .before .before .whole-cut-and-separation2 .ensures)
     _ _ (c .before .before .last .given .1) _ (rw (c .if2 .taken)) (c .before .before .before .before .before .before .loop-test .left)
 
 returns-3 : tie.Need-returns-3 Inv-loop μ-loop
-returns-3 c = kept-held _ _ _ _ _ _ _ _ _ _ _ _ _ _ (c .before .before .before .before .before .loop .inv) (omega (arith, c .before .before .before .shared-slice-known3 .given (c .before .before .before .before .before .loop .m))) _ (c .before .before .whole-cut-and-separation2 .ensures) (c .enum-told2 .given .1)
+returns-3 c = kept-held _ _ _ _ _ _ _ _ _ _ _ _ _ (c .before .before .before .before .before .loop .inv) (omega (arith, c .before .before .before .shared-slice-known3 .given (c .before .before .before .before .before .loop .m))) _ (c .before .before .whole-cut-and-separation2 .ensures) (c .enum-told2 .given .1)
 
 returns-4 : tie.Need-returns-4 Inv-loop μ-loop
 returns-4 c =
-    kept-last _ _ _ _ _ _ _ _ _ _ _ _ _ _ (c .before .before .before .before .before .before .before .loop .inv) (omega (arith, c .before .before .before .before .before .shared-slice-known3 .given (c .before .before .before .before .before .before .before .loop .m))) _ (c .before .before .before .before .whole-cut-and-separation2 .ensures)
+    kept-last _ _ _ _ _ _ _ _ _ _ _ _ _ (c .before .before .before .before .before .before .before .loop .inv) (omega (arith, c .before .before .before .before .before .shared-slice-known3 .given (c .before .before .before .before .before .before .before .loop .m))) _ (c .before .before .before .before .whole-cut-and-separation2 .ensures)
     _ _ (c .before .before .last .given .1) _ (rw (c .if2 .left)) (c .before .before .before .before .before .before .loop-test .left)
 
 pub highest-cut-spec : {M : Type 1} → statement M
