@@ -37,9 +37,9 @@ module _ (tree : RCFTree) (k x : ℕ) (reply : List ℕ) where
     state = S;
   })
 
-  pub box-does : (k ≡ 8 → ⊥) → (k ≡ 9 → ⊥) → (nodes : List (List ℕ)) (points lows highs : List (List Float)) (r : BoxAnswer) → BoxTold tree nodes points lows highs x r → reply ≡ filled replyWidth (boxNumbers (min (tree .dimensions) width) r)
-      → (a : Lent) (marks : List ℕ) → BoxRead a nodes lows highs → Does (λ d. query (queryOf k x)) tree a points marks tree a points marks reply
-  box-does n m nodes points lows highs r T f a marks g = asked a points marks (boxOf x) (cond-false _ _ _ (ne-eqb k 8 n) ∙ cond-false _ _ _ (ne-eqb k 9 m)) (λ d c s W S. record {
+  pub box-does : (k ≡ 8 → ⊥) → (k ≡ 9 → ⊥) → (nodes : List (List ℕ)) (points : List (List Float)) (boxes : List (List (List Float))) (r : BoxAnswer) → BoxTold tree nodes points boxes x r → reply ≡ filled replyWidth (boxNumbers (min (tree .dimensions) width) r)
+      → (a : Lent) (marks : List ℕ) → BoxRead a nodes boxes → Does (λ d. query (queryOf k x)) tree a points marks tree a points marks reply
+  box-does n m nodes points boxes r T f a marks g = asked a points marks (boxOf x) (cond-false _ _ _ (ne-eqb k 8 n) ∙ cond-false _ _ _ (ne-eqb k 9 m)) (λ d c s W S. record {
     reply-is = f ∙ ap (λ y. filled replyWidth (boxNumbers y r)) (ap (λ (n : ℕ). min n width) (dimensions-are S) ∙ min-eq-left (S .limits .1)) ∙ ap (λ y. filled replyWidth (boxNumbers d y)) (T d c s W a marks S g);
     state = S;
   })

@@ -1,6 +1,6 @@
 // The calls of a tree with what they are given in arrays of fixed size: each carried out on the lent state, and its answer as numbers.
 use answers::Reply;
-use limits::BRANCHES;
+use limits::Boxes;
 use limits::CAPACITY;
 use limits::CHANNELS;
 use limits::Copies;
@@ -9,7 +9,6 @@ use limits::Free;
 use limits::Marks;
 use limits::Nodes;
 use limits::Points;
-use limits::Row;
 use pointstore::PutAnswer;
 use randomcuttree::AddAnswer;
 use randomcuttree::DeleteAnswer;
@@ -88,16 +87,15 @@ fn add_first(
     cuts: &mut Cuts,
     copies: &mut Copies,
     free: &mut Free,
-    lows: &mut [Row; BRANCHES],
-    highs: &mut [Row; BRANCHES],
+    boxes: &mut Boxes,
     points: &Points,
     written: &Marks,
     index: usize,
     words: &Words,
     n: usize,
 ) -> AddAnswer
-    requires { ⌜ (n ≤ capacityLimit) × SomeState tree (lent (now nodes) (now cuts) (now copies) (now free) (now lows) (now highs)) (now points) (now written) ⌝ }
-    ensures { λ r. ⌜ AddDone tree (lent (now (nodes .entry)) (now (cuts .entry)) (now (copies .entry)) (now (free .entry)) (now (lows .entry)) (now (highs .entry))) (now (points .entry)) (now (written .entry)) index (take n (now (words .entry))) r (lent (now (nodes .exit)) (now (cuts .exit)) (now (copies .exit)) (now (free .exit)) (now (lows .exit)) (now (highs .exit))) ⌝ }
+    requires { ⌜ (n ≤ capacityLimit) × SomeState tree (lent (now nodes) (now cuts) (now copies) (now free) (now boxes)) (now points) (now written) ⌝ }
+    ensures { λ r. ⌜ AddDone tree (lent (now (nodes .entry)) (now (cuts .entry)) (now (copies .entry)) (now (free .entry)) (now (boxes .entry))) (now (points .entry)) (now (written .entry)) index (take n (now (words .entry))) r (lent (now (nodes .exit)) (now (cuts .exit)) (now (copies .exit)) (now (free .exit)) (now (boxes .exit))) ⌝ }
 {
     let all: &[u64] = words;
     tree.add(
@@ -105,8 +103,7 @@ fn add_first(
         cuts,
         copies,
         free,
-        lows,
-        highs,
+        boxes,
         points,
         written,
         index,
@@ -141,8 +138,7 @@ pub fn add(
     cuts: &mut Cuts,
     copies: &mut Copies,
     free: &mut Free,
-    lows: &mut [Row; BRANCHES],
-    highs: &mut [Row; BRANCHES],
+    boxes: &mut Boxes,
     points: &Points,
     written: &Marks,
     index: usize,
@@ -150,9 +146,9 @@ pub fn add(
     n: usize,
     reply: &mut Reply,
 ) -> RCFTree
-    requires { ⌜ (n ≤ capacityLimit) × SomeState tree (lent (now nodes) (now cuts) (now copies) (now free) (now lows) (now highs)) (now points) (now written) ⌝ }
+    requires { ⌜ (n ≤ capacityLimit) × SomeState tree (lent (now nodes) (now cuts) (now copies) (now free) (now boxes)) (now points) (now written) ⌝ }
     ensures { λ r. ⌜ ((ws : List ℕ) → take n (now (words .entry)) ≡ take capacityLimit ws
-        → Does (λ d. add index ws) tree (lent (now (nodes .entry)) (now (cuts .entry)) (now (copies .entry)) (now (free .entry)) (now (lows .entry)) (now (highs .entry))) (now (points .entry)) (now (written .entry)) r (lent (now (nodes .exit)) (now (cuts .exit)) (now (copies .exit)) (now (free .exit)) (now (lows .exit)) (now (highs .exit))) (now (points .entry)) (now (written .entry)) (now (reply .exit))) ⌝ }
+        → Does (λ d. add index ws) tree (lent (now (nodes .entry)) (now (cuts .entry)) (now (copies .entry)) (now (free .entry)) (now (boxes .entry))) (now (points .entry)) (now (written .entry)) r (lent (now (nodes .exit)) (now (cuts .exit)) (now (copies .exit)) (now (free .exit)) (now (boxes .exit))) (now (points .entry)) (now (written .entry)) (now (reply .exit))) ⌝ }
 {
     let answer = add_first(
         tree,
@@ -160,8 +156,7 @@ pub fn add(
         cuts,
         copies,
         free,
-        lows,
-        highs,
+        boxes,
         points,
         written,
         index,
@@ -180,27 +175,16 @@ pub fn delete(
     cuts: &mut Cuts,
     copies: &mut Copies,
     free: &mut Free,
-    lows: &mut [Row; BRANCHES],
-    highs: &mut [Row; BRANCHES],
+    boxes: &mut Boxes,
     points: &Points,
     written: &Marks,
     index: usize,
     reply: &mut Reply,
 ) -> RCFTree
-    requires { ⌜ SomeState tree (lent (now nodes) (now cuts) (now copies) (now free) (now lows) (now highs)) (now points) (now written) ⌝ }
-    ensures { λ r. ⌜ Does (λ d. delete index) tree (lent (now (nodes .entry)) (now (cuts .entry)) (now (copies .entry)) (now (free .entry)) (now (lows .entry)) (now (highs .entry))) (now (points .entry)) (now (written .entry)) r (lent (now (nodes .exit)) (now (cuts .exit)) (now (copies .exit)) (now (free .exit)) (now (lows .exit)) (now (highs .exit))) (now (points .entry)) (now (written .entry)) (now (reply .exit)) ⌝ }
+    requires { ⌜ SomeState tree (lent (now nodes) (now cuts) (now copies) (now free) (now boxes)) (now points) (now written) ⌝ }
+    ensures { λ r. ⌜ Does (λ d. delete index) tree (lent (now (nodes .entry)) (now (cuts .entry)) (now (copies .entry)) (now (free .entry)) (now (boxes .entry))) (now (points .entry)) (now (written .entry)) r (lent (now (nodes .exit)) (now (cuts .exit)) (now (copies .exit)) (now (free .exit)) (now (boxes .exit))) (now (points .entry)) (now (written .entry)) (now (reply .exit)) ⌝ }
 {
-    let answer = tree.delete(
-        nodes,
-        cuts,
-        copies,
-        free,
-        lows,
-        highs,
-        points,
-        written,
-        index,
-    );
+    let answer = tree.delete(nodes, cuts, copies, free, boxes, points, written, index);
     answers::tell_delete(answer, reply);
     header_deleted(tree, answer)
 }
@@ -213,14 +197,13 @@ pub fn query(
     cuts: &Cuts,
     copies: &Copies,
     points: &Points,
-    lows: &[Row; BRANCHES],
-    highs: &[Row; BRANCHES],
+    boxes: &Boxes,
     kind: usize,
     id: usize,
     reply: &mut Reply,
 )
-    requires { ⌜ SomeBoxRead tree (now nodes) (now points) (now lows) (now highs) ⌝ }
-    ensures { λ _. ⌜ ((a : Lent) (marks : List ℕ) → BoxRead a (now (nodes .entry)) (now (lows .entry)) (now (highs .entry)) → a .cuts ≡ now (cuts .entry) → a .copies ≡ now (copies .entry)
+    requires { ⌜ SomeBoxRead tree (now nodes) (now points) (now boxes) ⌝ }
+    ensures { λ _. ⌜ ((a : Lent) (marks : List ℕ) → BoxRead a (now (nodes .entry)) (now (boxes .entry)) → a .cuts ≡ now (cuts .entry) → a .copies ≡ now (copies .entry)
         → Does (λ d. query (queryOf kind id)) tree a (now (points .entry)) marks tree a (now (points .entry)) marks (now (reply .exit))) ⌝ }
 {
     if kind == 8 {
@@ -232,7 +215,7 @@ pub fn query(
         return;
     }
     answers::tell_box(
-        tree.box_of(nodes, points, lows, highs, id),
+        tree.box_of(nodes, points, boxes, id),
         tree.dimensions,
         reply,
     );

@@ -76,7 +76,6 @@ module _ (d c : ℕ) (f : ℕ → Option Reading) (t : Tree (whole d)) (u : List
       let e : branches d t + length u ≤ c - 1 = intervals-few (whole d) c (whole-laws d) f t u H in
       omega arith
 
-
 -- A STATE'S TREE
 module _ (d c : ℕ) (s : Float) (W : World (whole d)) (tree : RCFTree) (a : Lent) (points : List (List Float)) (marks : List ℕ) (S : State d c s W tree a points marks) where
   -- the tree that is there where there are copies

@@ -31,7 +31,7 @@ use Rattle.treestore.specs.Finds.{SomeSought, Finds, FoundIn}
 use Rattle.treestore.specs.Edits.{Walking}
 use Rattle.treestore.specs.Enters.{Entering, SomeEntering, Enters}
 use Rattle.treestore.proofs.Leaves as Left
-use Rattle.treestore.proofs.Removes.{reached, free-are, lows-are, highs-are}
+use Rattle.treestore.proofs.Removes.{reached, free-are, boxes-are}
 use Rattle.randomcuttree.specs.declared.RCFTree.{RCFTree}
 use Rattle.randomcuttree.specs.declared.AddAnswer.{AddAnswer}
 use Rattle.randomcuttree.specs.declared.AddAnswer.the-variants.{Added, NotAdded}
@@ -92,16 +92,14 @@ module _ {d c : ℕ} {s : Float} {W : World (whole d)} {tree : RCFTree} {a : Len
         -- ---- the first leaf
         pub first : (ws : List ℕ) → tree .total ≡ 0 → (header : RCFTree) (root : ℕ) (K : List ℕ) → header ≡ headed tree root 1 (tree .manager) → root ≡ i + tree .capacity
             → ((d c : ℕ) (nodes : List (List ℕ)) (cuts : List Float) (p : Reading) → Arrays d c nodes cuts (a .copies) none → Arrays d c nodes cuts K (some (leaf i p 1)))
-            → Done ws (Added header i 0) (lent (a .nodes) (a .cuts) K (a .free) (a .lows) (a .highs))
+            → Done ws (Added header i 0) (lent (a .nodes) (a .cuts) K (a .free) (a .boxes))
         first ws z header root K e f h =
             let N : W .tree ≡ none = Calls.no-tree H z in
             let A : a ≡ arraysOf d c k none (W .free) = subst (λ o. a ≡ arraysOf d c k o (W .free)) N (H .arrays-are) in
-            let lows : a .lows ≡ tab branchLimit (boxIn d c k (lowOf d c) none) = ap (λ (x : Lent). x .lows) A in
-            let highs : a .highs ≡ tab branchLimit (boxIn d c k (highOf d c) none) = ap (λ (x : Lent). x .highs) A in
             done ws (added i 0) (some (leaf i p 1)) (W .free) (record { root = root; manager = tree .manager }) 1 header _ (Added header i 0) (entered ws none N) refl e refl
             (Left.leaves d c k (some (leaf i p 1)) (W .free) root (tree .manager) _ (f ∙ ap (λ x. i + x) (Parts.capacity-is H)) (ap (λ (x : RCFTree). x .manager) (H .header-is))
             (h d c (a .nodes) (a .cuts) p (record { rows = ap (λ (x : Lent). x .nodes) A; values = ap (λ (x : Lent). x .cuts) A; counts = ap (λ (x : Lent). x .copies) A })) (ap (λ (x : Lent). x .free) A)
-            (lows ∙ sym (Left.no-boxes d c k p (lowOf d c) (leaf i p 1) refl)) (highs ∙ sym (Left.no-boxes d c k p (highOf d c) (leaf i p 1) refl)))
+            (ap (λ (x : Lent). x .boxes) A ∙ sym (Left.no-boxes d c k p (leaf i p 1) refl)))
 
         -- ---- a tree that holds something
         module _ (some-held : tree .total ≡ 0 → ⊥) where
@@ -136,14 +134,14 @@ module _ {d c : ℕ} {s : Float} {W : World (whole d)} {tree : RCFTree} {a : Len
 
             pub copied : (ws : List ℕ) → f .held ≡ true → (header : RCFTree) (N : List (List ℕ)) (K : List ℕ) → header ≡ headed tree (tree .root) (tree .total + 1) (tree .manager)
                 → ((d c : ℕ) (cuts : List Float) (t : Tree (whole d)) (p : Reading) → Reached d c (a .nodes) cuts (a .copies) path (f .nodes) (f .leaf) t p → Arrays d c N cuts K (some (addCopy (whole d) p t)))
-                → Done ws (Added header (f .leaf) 0) (lent N (a .cuts) K (a .free) (a .lows) (a .highs))
+                → Done ws (Added header (f .leaf) 0) (lent N (a .cuts) K (a .free) (a .boxes))
             copied ws g header N K e h =
                 let boxes = copy-boxes d c k t p (walking .once) in
                 done ws (added (ending (whole d) t p .index) 0) (some (addCopy (whole d) p t)) (W .free) (record { root = tree .root; manager = tree .manager }) (tree .total + 1) header _ (Added header (f .leaf) 0)
                 (entered ws (some t) T ∙ cond-true _ _ _ (sym (found-in .held-is) ∙ g)) (ap (λ j. Added header j 0) (found-in .leaf-is)) e (omega (arith, total-of, total-copy (whole d) p t))
                 (Left.leaves d c k (some (addCopy (whole d) p t)) (W .free) (tree .root) (tree .manager) _
                 (ap (λ (x : RCFTree). x .root) (H .header-is) ∙ walking .root-is ∙ sym (copy-root d c p t)) (ap (λ (x : RCFTree). x .manager) (H .header-is)) (h d c (a .cuts) t p (reached walking)) (free-are walking)
-                (lows-are walking ∙ sym (boxes .0)) (highs-are walking ∙ sym (boxes .1)))
+                (boxes-are walking ∙ sym boxes))
 
             -- ---- another value's leaf
             module _ (other : f .held ≡ false) where

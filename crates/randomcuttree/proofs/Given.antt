@@ -31,7 +31,7 @@ use Rattle.treestore.proofs.Links.{linked}
 use Rattle.randomcuttree.specs.declared.RCFTree.{RCFTree}
 use Rattle.randomcuttree.specs.State.{cachedBy, InRow, Reachable, State}
 use Rattle.randomcuttree.proofs.Lookups as Lookups
-use Rattle.randomcuttree.proofs.Parts.{root-is, nodes-are, cuts-are, copies-are, lows-are, highs-are}
+use Rattle.randomcuttree.proofs.Parts.{root-is, nodes-are, cuts-are, copies-are, boxes-are}
 
 module _ {d c : ℕ} {W : World (whole d)} (R : Reachable d c W) {t : Tree (whole d)} (T : W .tree ≡ some t) where
   pub sound : Sound (whole d) c (record { table = W .table; tree = some t; free = W .free })
@@ -90,11 +90,8 @@ module _ {d c : ℕ} {s : Float} {W : World (whole d)} {tree : RCFTree} {a : Len
   values-are : a .cuts ≡ tab branchLimit (slot d c (cutOf d c) nought t)
   values-are = cuts-are H ∙ ap (λ (o : Option (Tree (whole d))). tab branchLimit (slotIn d c k (cutOf d c) nought o)) T
 
-  lows-of : a .lows ≡ tab branchLimit (boxIn d c k (lowOf d c) (some t))
-  lows-of = lows-are H ∙ ap (λ (o : Option (Tree (whole d))). tab branchLimit (boxIn d c k (lowOf d c) o)) T
-
-  highs-of : a .highs ≡ tab branchLimit (boxIn d c k (highOf d c) (some t))
-  highs-of = highs-are H ∙ ap (λ (o : Option (Tree (whole d))). tab branchLimit (boxIn d c k (highOf d c) o)) T
+  boxes-of : a .boxes ≡ tab branchLimit (boxIn d c k (some t))
+  boxes-of = boxes-are H ∙ ap (λ (o : Option (Tree (whole d))). tab branchLimit (boxIn d c k o)) T
 
   rows-laid : Laid d c (rowOf d c) (λ (j : ℕ). getD (a .nodes) j []) t
   rows-laid = tab-laid d c (rowOf d c) noRow [] (a .nodes) t (H .limits .3) rows-are (once R T) (in-range R T)
@@ -122,13 +119,10 @@ module _ {d c : ℕ} {s : Float} {W : World (whole d)} {tree : RCFTree} {a : Len
     point-is = point-at R T (H .table-is) i p P;
   }
 
-  pub boxed : Boxed d c k (a .nodes) points (a .lows) (a .highs) t
+  pub boxed : Boxed d c k (a .nodes) points (a .boxes) t
   boxed = record {
     links = linked d c (a .nodes) t rows-laid;
     leaves = leaves-stand R T (H .table-is);
     in-range = in-range R T;
-    cached = record {
-      low = tab-boxes d c k (lowOf d c) (a .lows) t (H .limits .3) lows-of (once R T) (in-range R T);
-      high = tab-boxes d c k (highOf d c) (a .highs) t (H .limits .3) highs-of (once R T) (in-range R T);
-    };
+    cached = tab-boxes d c k (a .boxes) t (H .limits .3) boxes-of (once R T) (in-range R T);
   }

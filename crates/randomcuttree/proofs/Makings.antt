@@ -31,13 +31,12 @@ pub fresh-state : (d c : ℕ) (s : Float) → (1 ≤ d) × (d ≤ width) × (2 �
     → record { points = points; written = marks } ≡ tableOf (λ i. none) → State d c s (fresh (whole d) c) (emptyTree d c s) (cleared c) points marks
 fresh-state d c s l points marks e = record {
   header-is = refl;
-  arrays-are = lent-is (cleared c) _ _ _ _ _ _
+  arrays-are = lent-is (cleared c) _ _ _ _ _
       (constant branchLimit noRow _ (λ i. refl))
       (constant branchLimit nought _ (λ i. refl))
       (constant pointLimit 0 _ (λ i. refl))
       refl
-      (constant branchLimit noEnds _ (λ i. either (ltb i (cachedBy s c)) noEnds))
-      (constant branchLimit noEnds _ (λ i. either (ltb i (cachedBy s c)) noEnds));
+      (constant branchLimit noBoxEnds _ (λ i. either (ltb i (cachedBy s c)) noBoxEnds));
   table-is = e;
   reachable = reachable-fresh d c (l .2);
   limits = l;

@@ -43,8 +43,5 @@ module _ {d c : ℕ} {s : Float} {W : World (whole d)} {tree : RCFTree} {a : Len
   pub copies-are : a .copies ≡ tab pointLimit (countIn d c (cachedBy s c) (W .tree))
   copies-are = ap (λ (x : Lent). x .copies) (S .arrays-are)
 
-  pub lows-are : a .lows ≡ tab branchLimit (boxIn d c (cachedBy s c) (lowOf d c) (W .tree))
-  lows-are = ap (λ (x : Lent). x .lows) (S .arrays-are)
-
-  pub highs-are : a .highs ≡ tab branchLimit (boxIn d c (cachedBy s c) (highOf d c) (W .tree))
-  highs-are = ap (λ (x : Lent). x .highs) (S .arrays-are)
+  pub boxes-are : a .boxes ≡ tab branchLimit (boxIn d c (cachedBy s c) (W .tree))
+  boxes-are = ap (λ (x : Lent). x .boxes) (S .arrays-are)

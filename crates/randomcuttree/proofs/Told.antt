@@ -114,13 +114,13 @@ module _ (tree : RCFTree) (nodes : List (List ℕ)) (cuts : List Float) (x : ℕ
 
 -- ---- boxes
 -- boxes that stand below a tree stand below each of its nodes
-boxed-in : (d c k : ℕ) (nodes : List (List ℕ)) (points lows highs : List (List Float)) {v t : Tree (whole d)} → In (whole d) v t → Boxed d c k nodes points lows highs t → Boxed d c k nodes points lows highs v
-boxed-in d c k nodes points lows highs here B = B
-boxed-in d c k nodes points lows highs (left i) B = boxed-in d c k nodes points lows highs i (left-boxed d c k nodes points lows highs B)
-boxed-in d c k nodes points lows highs (right i) B = boxed-in d c k nodes points lows highs i (right-boxed d c k nodes points lows highs B)
+boxed-in : (d c k : ℕ) (nodes : List (List ℕ)) (points : List (List Float)) (boxes : List (List (List Float))) {v t : Tree (whole d)} → In (whole d) v t → Boxed d c k nodes points boxes t → Boxed d c k nodes points boxes v
+boxed-in d c k nodes points boxes here B = B
+boxed-in d c k nodes points boxes (left i) B = boxed-in d c k nodes points boxes i (left-boxed d c k nodes points boxes B)
+boxed-in d c k nodes points boxes (right i) B = boxed-in d c k nodes points boxes i (right-boxed d c k nodes points boxes B)
 
-module _ (tree : RCFTree) (nodes : List (List ℕ)) (points lows highs : List (List Float)) (x : ℕ) where
-  pub box-refused : (x < branchLimit → massRead nodes x ≡ 0) → BoxTold tree nodes points lows highs x (noBox 16)
+module _ (tree : RCFTree) (nodes : List (List ℕ)) (points : List (List Float)) (boxes : List (List (List Float))) (x : ℕ) where
+  pub box-refused : (x < branchLimit → massRead nodes x ≡ 0) → BoxTold tree nodes points boxes x (noBox 16)
   box-refused h d c s W a marks S e = go (W .tree) (S .reachable .sound) (sym (e .nodes-are) ∙ nodes-are S)
     where
       go : (o : Option (Tree (whole d))) → Sound (whole d) c (record { table = W .table; tree = o; free = W .free }) → nodes ≡ tab branchLimit (slotIn d c (cachedBy s c) (rowOf d c) noRow o) → noBox 16 ≡ boxSays d (boxFound (whole d) (lookIn (whole d) c o x))
@@ -133,9 +133,9 @@ module _ (tree : RCFTree) (nodes : List (List ℕ)) (points lows highs : List (L
       pub node : Cut (whole d) × Bool × Tree (whole d) × Tree (whole d)
       pub found : lookIn (whole d) c o x ≡ some (branch x (node .0) (node .1) (node .2) (node .3))
       pub singly : Once d c (branch x (node .0) (node .1) (node .2) (node .3))
-      pub boxes : Boxed d c k nodes points lows highs (branch x (node .0) (node .1) (node .2) (node .3))
+      pub boxes : Boxed d c k nodes points boxes (branch x (node .0) (node .1) (node .2) (node .3))
 
-    box-at : (d c : ℕ) (s : Float) (W : World (whole d)) (a : Lent) (marks : List ℕ) → State d c s W tree a points marks → BoxRead a nodes lows highs → BoxAt d c (cachedBy s c) (W .tree)
+    box-at : (d c : ℕ) (s : Float) (W : World (whole d)) (a : Lent) (marks : List ℕ) → State d c s W tree a points marks → BoxRead a nodes boxes → BoxAt d c (cachedBy s c) (W .tree)
     box-at d c s W a marks S e = go (W .tree) refl
       where
         rows : nodes ≡ tab branchLimit (slotIn d c (cachedBy s c) (rowOf d c) noRow (W .tree))
@@ -146,21 +146,21 @@ module _ (tree : RCFTree) (nodes : List (List ℕ)) (points lows highs : List (L
         go (some t) T =
             let H = sound (S .reachable) T in
             let B = used nodes x d c (W .table) t (W .free) H (S .limits .3) (rw T at rows) l h in
-            let b : Boxed d c (cachedBy s c) nodes points lows highs t = rw (e .nodes-are, e .lows-are, e .highs-are) at (boxed S T) in
+            let b : Boxed d c (cachedBy s c) nodes points boxes t = rw (e .nodes-are, e .boxes-are) at (boxed S T) in
             record {
               node = (B .cut, B .lag, B .low, B .high);
               found = branch-found d c (W .table) t (W .free) H x B;
               singly = once-in d c (B .inside) (once d c (W .table) t (W .free) H);
-              boxes = boxed-in d c (cachedBy s c) nodes points lows highs (B .inside) b;
+              boxes = boxed-in d c (cachedBy s c) nodes points boxes (B .inside) b;
             }
 
-    pub some-boxed : SomeBoxRead tree nodes points lows highs → (tree .capacity ≤ capacityLimit) × SomeBoxed (tree .capacity) (tree .cached) x nodes points lows highs
+    pub some-boxed : SomeBoxRead tree nodes points boxes → (tree .capacity ≤ capacityLimit) × SomeBoxed (tree .capacity) (tree .cached) x nodes points boxes
     some-boxed w =
         let S = w .state .state in
         let B = box-at (w .state .channels) (w .state .capacity) (w .state .share) (w .state .world) (w .lent) (w .marks) S (w .read) in
         rw (capacity-is S, cached-is S) (S .limits .3, record { channels = w .state .channels; tree = branch x (B .node .0) (B .node .1) (B .node .2) (B .node .3); at-node = refl; once = B .singly; boxed = B .boxes })
 
-    pub box-told : (b : BoundingBox) → BoxOf (tree .capacity) (tree .cached) x nodes points lows highs b → BoxTold tree nodes points lows highs x (record { refusal = 0; «bounding_box» = b })
+    pub box-told : (b : BoundingBox) → BoxOf (tree .capacity) (tree .cached) x nodes points boxes b → BoxTold tree nodes points boxes x (record { refusal = 0; «bounding_box» = b })
     box-told b F d c s W a marks S e =
         let B = box-at d c s W a marks S e in
         let w = (rw (capacity-is S, cached-is S) at F) d (branch x (B .node .0) (B .node .1) (B .node .2) (B .node .3)) refl (B .boxes) in

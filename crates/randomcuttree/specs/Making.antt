@@ -56,8 +56,7 @@ cleared c = record {
   cuts = replicate branchLimit nought;
   copies = replicate pointLimit 0;
   free = Rows.layout (Stack.fresh (c - 1));
-  lows = replicate branchLimit noEnds;
-  highs = replicate branchLimit noEnds;
+  boxes = replicate branchLimit noBoxEnds;
 }
 
 -- the arrays after a making: a refused one writes nothing

@@ -66,19 +66,18 @@ BranchTold tree nodes cuts x r =
     → a .nodes ≡ nodes → a .cuts ≡ cuts → r ≡ branchSays d (ask (whole d) c W (branchOf x))
 
 -- the arrays that a box is read from
-pub record BoxRead (a : Lent) (nodes : List (List ℕ)) (lows highs : List (List Float)) : Type 0 where
+pub record BoxRead (a : Lent) (nodes : List (List ℕ)) (boxes : List (List (List Float))) : Type 0 where
   pub nodes-are : a .nodes ≡ nodes
-  pub lows-are : a .lows ≡ lows
-  pub highs-are : a .highs ≡ highs
+  pub boxes-are : a .boxes ≡ boxes
 
 abbrev pub BoxTold : RCFTree → List (List ℕ) → List (List Float) → List (List Float) → List (List Float) → ℕ → BoxAnswer → Type 0
-BoxTold tree nodes points lows highs x r =
+BoxTold tree nodes points boxes x r =
     (d c : ℕ) (s : Float) (W : World (whole d)) (a : Lent) (marks : List ℕ) → State d c s W tree a points marks
-    → BoxRead a nodes lows highs → r ≡ boxSays d (ask (whole d) c W (boxOf x))
+    → BoxRead a nodes boxes → r ≡ boxSays d (ask (whole d) c W (boxOf x))
 
 -- What a box query asks of its caller: that the header and these arrays are part of a state that a making and its calls leave.
-pub record SomeBoxRead (tree : RCFTree) (nodes : List (List ℕ)) (points lows highs : List (List Float)) : Type 0 where
+pub record SomeBoxRead (tree : RCFTree) (nodes : List (List ℕ)) (points : List (List Float)) (boxes : List (List (List Float))) : Type 0 where
   pub lent : Lent
   pub marks : List ℕ
-  pub read : BoxRead lent nodes lows highs
+  pub read : BoxRead lent nodes boxes
   pub state : SomeState tree lent points marks

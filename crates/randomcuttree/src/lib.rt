@@ -4,6 +4,7 @@ use casts::wide16;
 use cut::Cut;
 use intervalstoremanager::IntervalStoreManager;
 use limits::BRANCHES;
+use limits::Boxes;
 use limits::CAPACITY;
 use limits::CHANNELS;
 use limits::Copies;
@@ -14,7 +15,6 @@ use limits::Nodes;
 use limits::POINTS;
 use limits::Path;
 use limits::Points;
-use limits::Row;
 ghost use mathlib.Core.Path.{_≡_};
 ghost use mathlib.Core.Bool.{_&&_};
 ghost use mathlib.Core.List.{[]};
@@ -93,24 +93,16 @@ fn within(x: usize, low: usize, high: usize) -> bool
 }
 
 // Clears what a tree keeps of its branches and leaves.
-fn clear(
-    nodes: &mut Nodes,
-    cuts: &mut Cuts,
-    copies: &mut Copies,
-    lows: &mut [Row; BRANCHES],
-    highs: &mut [Row; BRANCHES],
-)
+fn clear(nodes: &mut Nodes, cuts: &mut Cuts, copies: &mut Copies, boxes: &mut Boxes)
     ensures rows { λ _. ⌜ now (nodes .exit) ≡ replicate branchLimit noRow ⌝ }
     ensures values { λ _. ⌜ now (cuts .exit) ≡ replicate branchLimit nought ⌝ }
     ensures counts { λ _. ⌜ now (copies .exit) ≡ replicate pointLimit 0 ⌝ }
-    ensures lower { λ _. ⌜ now (lows .exit) ≡ replicate branchLimit noEnds ⌝ }
-    ensures upper { λ _. ⌜ now (highs .exit) ≡ replicate branchLimit noEnds ⌝ }
+    ensures ends { λ _. ⌜ now (boxes .exit) ≡ replicate branchLimit noBoxEnds ⌝ }
 {
     *nodes = [[0; 4]; BRANCHES];
     *cuts = [0.0; BRANCHES];
     *copies = [0; POINTS];
-    *lows = [[0.0; CHANNELS]; BRANCHES];
-    *highs = [[0.0; CHANNELS]; BRANCHES];
+    *boxes = [[[0.0; CHANNELS]; 2]; BRANCHES];
 }
 
 // The mass in a branch's row. A branch has one of at least 1, and a row of no branch is zero.
@@ -169,12 +161,11 @@ impl RCFTree {
         cuts: &mut Cuts,
         copies: &mut Copies,
         free: &mut Free,
-        lows: &mut [Row; BRANCHES],
-        highs: &mut [Row; BRANCHES],
+        boxes: &mut Boxes,
     ) -> Made
         ensures { λ r. ⌜ MakeDone dimensions capacity «cache_fraction»
-            (lent (now (nodes .entry)) (now (cuts .entry)) (now (copies .entry)) (now (free .entry)) (now (lows .entry)) (now (highs .entry)))
-            (lent (now (nodes .exit)) (now (cuts .exit)) (now (copies .exit)) (now (free .exit)) (now (lows .exit)) (now (highs .exit))) r ⌝ }
+            (lent (now (nodes .entry)) (now (cuts .entry)) (now (copies .entry)) (now (free .entry)) (now (boxes .entry)))
+            (lent (now (nodes .exit)) (now (cuts .exit)) (now (copies .exit)) (now (free .exit)) (now (boxes .exit))) r ⌝ }
     {
         if !within(dimensions, 1, Self::CHANNELS) {
             return Made::NotMade(1);
@@ -185,7 +176,7 @@ impl RCFTree {
         if !readings::is_share(cache_fraction) {
             return Made::NotMade(3);
         }
-        clear(nodes, cuts, copies, lows, highs);
+        clear(nodes, cuts, copies, boxes);
         let c = capacity as u16;
         let part = readings::cached_part(cache_fraction, c);
         let cached = casts::at_most(part, capacity - 1);
@@ -247,16 +238,9 @@ impl RCFTree {
 
     // The box of a branch by its number.
     // Rules out the box of a leaf answered, and a cached row taken for a branch that is not cached.
-    pub fn box_of(
-        self,
-        nodes: &Nodes,
-        points: &Points,
-        lows: &[Row; BRANCHES],
-        highs: &[Row; BRANCHES],
-        id: usize,
-    ) -> BoxAnswer
-        requires { ⌜ SomeBoxRead self (now nodes) (now points) (now lows) (now highs) ⌝ }
-        ensures { λ r. ⌜ BoxTold self (now (nodes .entry)) (now (points .entry)) (now (lows .entry)) (now (highs .entry)) id r ⌝ }
+    pub fn box_of(self, nodes: &Nodes, points: &Points, boxes: &Boxes, id: usize) -> BoxAnswer
+        requires { ⌜ SomeBoxRead self (now nodes) (now points) (now boxes) ⌝ }
+        ensures { λ r. ⌜ BoxTold self (now (nodes .entry)) (now (points .entry)) (now (boxes .entry)) id r ⌝ }
     {
         if BRANCHES <= id {
             return no_box();
@@ -268,8 +252,7 @@ impl RCFTree {
             id,
             nodes,
             points,
-            lows,
-            highs,
+            boxes,
             wide16(self.capacity),
             self.cached,
         );
@@ -288,15 +271,14 @@ impl RCFTree {
         cuts: &mut Cuts,
         copies: &mut Copies,
         free: &mut Free,
-        lows: &mut [Row; BRANCHES],
-        highs: &mut [Row; BRANCHES],
+        boxes: &mut Boxes,
         points: &Points,
         written: &Marks,
         index: usize,
         words: &[u64],
     ) -> AddAnswer
-        requires { ⌜ SomeState self (lent (now nodes) (now cuts) (now copies) (now free) (now lows) (now highs)) (now points) (now written) ⌝ }
-        ensures { λ r. ⌜ AddDone self (lent (now (nodes .entry)) (now (cuts .entry)) (now (copies .entry)) (now (free .entry)) (now (lows .entry)) (now (highs .entry))) (now (points .entry)) (now (written .entry)) index (now (words .entry)) r (lent (now (nodes .exit)) (now (cuts .exit)) (now (copies .exit)) (now (free .exit)) (now (lows .exit)) (now (highs .exit))) ⌝ }
+        requires { ⌜ SomeState self (lent (now nodes) (now cuts) (now copies) (now free) (now boxes)) (now points) (now written) ⌝ }
+        ensures { λ r. ⌜ AddDone self (lent (now (nodes .entry)) (now (cuts .entry)) (now (copies .entry)) (now (free .entry)) (now (boxes .entry))) (now (points .entry)) (now (written .entry)) index (now (words .entry)) r (lent (now (nodes .exit)) (now (cuts .exit)) (now (copies .exit)) (now (free .exit)) (now (boxes .exit))) ⌝ }
     {
         if Self::POINTS <= index {
             return AddAnswer::NotAdded(5);
@@ -345,8 +327,7 @@ impl RCFTree {
             cuts,
             copies,
             free,
-            lows,
-            highs,
+            boxes,
             points,
             &path,
             n,
@@ -367,14 +348,13 @@ impl RCFTree {
         cuts: &mut Cuts,
         copies: &mut Copies,
         free: &mut Free,
-        lows: &mut [Row; BRANCHES],
-        highs: &mut [Row; BRANCHES],
+        boxes: &mut Boxes,
         points: &Points,
         written: &Marks,
         index: usize,
     ) -> DeleteAnswer
-        requires { ⌜ SomeState self (lent (now nodes) (now cuts) (now copies) (now free) (now lows) (now highs)) (now points) (now written) ⌝ }
-        ensures { λ r. ⌜ DeleteDone self (lent (now (nodes .entry)) (now (cuts .entry)) (now (copies .entry)) (now (free .entry)) (now (lows .entry)) (now (highs .entry))) (now (points .entry)) (now (written .entry)) index r (lent (now (nodes .exit)) (now (cuts .exit)) (now (copies .exit)) (now (free .exit)) (now (lows .exit)) (now (highs .exit))) ⌝ }
+        requires { ⌜ SomeState self (lent (now nodes) (now cuts) (now copies) (now free) (now boxes)) (now points) (now written) ⌝ }
+        ensures { λ r. ⌜ DeleteDone self (lent (now (nodes .entry)) (now (cuts .entry)) (now (copies .entry)) (now (free .entry)) (now (boxes .entry))) (now (points .entry)) (now (written .entry)) index r (lent (now (nodes .exit)) (now (cuts .exit)) (now (copies .exit)) (now (free .exit)) (now (boxes .exit))) ⌝ }
     {
         if Self::POINTS <= index {
             return DeleteAnswer::NotDeleted(5);
@@ -410,8 +390,7 @@ impl RCFTree {
             cuts,
             copies,
             free,
-            lows,
-            highs,
+            boxes,
             points,
             &path,
             n,

@@ -4,7 +4,7 @@ use calls::COORDINATES;
 use calls::Coordinates;
 use calls::Words;
 use form::Row;
-use limits::BRANCHES;
+use limits::Boxes;
 use limits::CAPACITY;
 use limits::Copies;
 use limits::Cuts;
@@ -50,8 +50,7 @@ pub fn call_row(
     cuts: &mut Cuts,
     copies: &mut Copies,
     free: &mut Free,
-    lows: &mut [limits::Row; BRANCHES],
-    highs: &mut [limits::Row; BRANCHES],
+    boxes: &mut Boxes,
     points: &mut Points,
     written: &mut Marks,
     row: &[u8],
@@ -59,9 +58,9 @@ pub fn call_row(
     words: &mut Words,
     reply: &mut Reply,
 ) -> RCFTree
-    requires { ⌜ SomeOp (now row) × SomeState tree (lent (now nodes) (now cuts) (now copies) (now free) (now lows) (now highs)) (now points) (now written) ⌝ }
+    requires { ⌜ SomeOp (now row) × SomeState tree (lent (now nodes) (now cuts) (now copies) (now free) (now boxes)) (now points) (now written) ⌝ }
     ensures { λ r. ⌜ ((o : Op) → rowOf (pieces 32 (now (row .entry))) ≡ some o
-        → Does (λ d. callOf d o) tree (lent (now (nodes .entry)) (now (cuts .entry)) (now (copies .entry)) (now (free .entry)) (now (lows .entry)) (now (highs .entry))) (now (points .entry)) (now (written .entry)) r (lent (now (nodes .exit)) (now (cuts .exit)) (now (copies .exit)) (now (free .exit)) (now (lows .exit)) (now (highs .exit))) (now (points .exit)) (now (written .exit)) (now (reply .exit))) ⌝ }
+        → Does (λ d. callOf d o) tree (lent (now (nodes .entry)) (now (cuts .entry)) (now (copies .entry)) (now (free .entry)) (now (boxes .entry))) (now (points .entry)) (now (written .entry)) r (lent (now (nodes .exit)) (now (cuts .exit)) (now (copies .exit)) (now (free .exit)) (now (boxes .exit))) (now (points .exit)) (now (written .exit)) (now (reply .exit))) ⌝ }
 {
     match form::read_row(row) {
         Row::Put(index, start) => {
@@ -86,8 +85,7 @@ pub fn call_row(
                 cuts,
                 copies,
                 free,
-                lows,
-                highs,
+                boxes,
                 points,
                 written,
                 index as usize,
@@ -102,8 +100,7 @@ pub fn call_row(
             cuts,
             copies,
             free,
-            lows,
-            highs,
+            boxes,
             points,
             written,
             index as usize,

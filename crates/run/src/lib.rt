@@ -1,6 +1,7 @@
 // The C entry: a byte run, a making and the calls after it, carried out whole (docs/LAYOUT.md). No state outlives it.
 use answers::REPLY;
 use limits::BRANCHES;
+use limits::Boxes;
 use limits::CAPACITY;
 use limits::CHANNELS;
 use limits::Copies;
@@ -10,7 +11,6 @@ use limits::Marks;
 use limits::Nodes;
 use limits::POINTS;
 use limits::Points;
-use limits::Row;
 use randomcuttree::Made;
 use randomcuttree::RCFTree;
 use runlayout::Checked;
@@ -50,16 +50,15 @@ fn run_calls(
     cuts: &mut Cuts,
     copies: &mut Copies,
     free: &mut Free,
-    lows: &mut [Row; BRANCHES],
-    highs: &mut [Row; BRANCHES],
+    boxes: &mut Boxes,
     points: &mut Points,
     written: &mut Marks,
     run: &[u8],
     answers: &mut [u8],
 ) -> usize
     requires making { ⌜ isMaking (now run) ≡ true ⌝ }
-    requires ready { ⌜ SomeRunning (now run) 5 1 tree (lent (now nodes) (now cuts) (now copies) (now free) (now lows) (now highs)) (now points) (now written) (now answers) ⌝ }
-    ensures { λ r. ⌜ ((final : List ℕ) (count : ℕ) → Running (now (run .entry)) 5 1 tree (lent (now (nodes .entry)) (now (cuts .entry)) (now (copies .entry)) (now (free .entry)) (now (lows .entry)) (now (highs .entry))) (now (points .entry)) (now (written .entry)) (now (answers .entry)) final count
+    requires ready { ⌜ SomeRunning (now run) 5 1 tree (lent (now nodes) (now cuts) (now copies) (now free) (now boxes)) (now points) (now written) (now answers) ⌝ }
+    ensures { λ r. ⌜ ((final : List ℕ) (count : ℕ) → Running (now (run .entry)) 5 1 tree (lent (now (nodes .entry)) (now (cuts .entry)) (now (copies .entry)) (now (free .entry)) (now (boxes .entry))) (now (points .entry)) (now (written .entry)) (now (answers .entry)) final count
         → (r ≡ count) × (now (answers .exit) ≡ final)) ⌝ }
 {
     let n = runlayout::size_of(run);
@@ -75,8 +74,7 @@ fn run_calls(
             cuts,
             copies,
             free,
-            lows,
-            highs,
+            boxes,
             points,
             written,
             run,
@@ -110,16 +108,15 @@ fn run_tree(
     cuts: &mut Cuts,
     copies: &mut Copies,
     free: &mut Free,
-    lows: &mut [Row; BRANCHES],
-    highs: &mut [Row; BRANCHES],
+    boxes: &mut Boxes,
     points: &mut Points,
     written: &mut Marks,
     run: &[u8],
     answers: &mut [u8],
 ) -> usize
     requires making { ⌜ isMaking (now run) ≡ true ⌝ }
-    requires ready { ⌜ SomeStarted (now run) tree (lent (now nodes) (now cuts) (now copies) (now free) (now lows) (now highs)) (now points) (now written) (now answers) ⌝ }
-    ensures { λ r. ⌜ ((d c : ℕ) (s : Float) (W : World (whole d)) (cs : List (Call (whole d))) → Started d c s W cs (now (run .entry)) tree (lent (now (nodes .entry)) (now (cuts .entry)) (now (copies .entry)) (now (free .entry)) (now (lows .entry)) (now (highs .entry))) (now (points .entry)) (now (written .entry)) (now (answers .entry))
+    requires ready { ⌜ SomeStarted (now run) tree (lent (now nodes) (now cuts) (now copies) (now free) (now boxes)) (now points) (now written) (now answers) ⌝ }
+    ensures { λ r. ⌜ ((d c : ℕ) (s : Float) (W : World (whole d)) (cs : List (Call (whole d))) → Started d c s W cs (now (run .entry)) tree (lent (now (nodes .entry)) (now (cuts .entry)) (now (copies .entry)) (now (free .entry)) (now (boxes .entry))) (now (points .entry)) (now (written .entry)) (now (answers .entry))
         → (r, now (answers .exit)) ≡ given (0 ∷ saidFrom d c s W cs) (now (answers .entry))) ⌝ }
 {
     little::put_u32(answers, 0, 0);
@@ -130,8 +127,7 @@ fn run_tree(
             cuts,
             copies,
             free,
-            lows,
-            highs,
+            boxes,
             points,
             written,
             run,
@@ -150,8 +146,7 @@ fn run_made(run: &[u8], answers: &mut [u8], enough: bool) -> usize
     let mut cuts = [0.0f32; BRANCHES];
     let mut copies = [0u16; POINTS];
     let mut free = [[0u16; 2]; BRANCHES];
-    let mut lows = [[0.0f32; CHANNELS]; BRANCHES];
-    let mut highs = [[0.0f32; CHANNELS]; BRANCHES];
+    let mut boxes = [[[0.0f32; CHANNELS]; 2]; BRANCHES];
     let mut points = pointstore::no_points();
     let mut written = pointstore::no_marks();
     let made = RCFTree::new(
@@ -162,8 +157,7 @@ fn run_made(run: &[u8], answers: &mut [u8], enough: bool) -> usize
         &mut cuts,
         &mut copies,
         &mut free,
-        &mut lows,
-        &mut highs,
+        &mut boxes,
     );
     match made {
         Made::NotMade(refusal) => tell_refusal(answers, refusal),
@@ -177,8 +171,7 @@ fn run_made(run: &[u8], answers: &mut [u8], enough: bool) -> usize
                 &mut cuts,
                 &mut copies,
                 &mut free,
-                &mut lows,
-                &mut highs,
+                &mut boxes,
                 &mut points,
                 &mut written,
                 run,

@@ -72,5 +72,5 @@ module _ (bytes : List ℕ) (p : ℕ) where
         ∙ queried d (number bytes (p + 1)) ∙ (rw (← e, ← y) refl))
 
 -- what a query asks of its caller, of a lent state
-pub readable : (tree : RCFTree) (a : Lent) (points : List (List Float)) (marks : List ℕ) → SomeState tree a points marks → SomeBoxRead tree (a .nodes) points (a .lows) (a .highs)
-readable tree a points marks S = record { lent = a; marks = marks; read = record { nodes-are = refl; lows-are = refl; highs-are = refl }; state = S }
+pub readable : (tree : RCFTree) (a : Lent) (points : List (List Float)) (marks : List ℕ) → SomeState tree a points marks → SomeBoxRead tree (a .nodes) points (a .boxes)
+readable tree a points marks S = record { lent = a; marks = marks; read = record { nodes-are = refl; boxes-are = refl }; state = S }

@@ -3,7 +3,7 @@ use answers::Reply;
 use calls::COORDINATES;
 use calls::Coordinates;
 use calls::Words;
-use limits::BRANCHES;
+use limits::Boxes;
 use limits::CAPACITY;
 use limits::Copies;
 use limits::Cuts;
@@ -11,7 +11,6 @@ use limits::Free;
 use limits::Marks;
 use limits::Nodes;
 use limits::Points;
-use limits::Row;
 use randomcuttree::RCFTree;
 ghost use mathlib.Core.Path.{_≡_};
 ghost use mathlib.Core.Bool.{true};
@@ -84,8 +83,7 @@ fn add_call(
     cuts: &mut Cuts,
     copies: &mut Copies,
     free: &mut Free,
-    lows: &mut [Row; BRANCHES],
-    highs: &mut [Row; BRANCHES],
+    boxes: &mut Boxes,
     points: &Points,
     written: &Marks,
     run: &[u8],
@@ -93,8 +91,8 @@ fn add_call(
     words: &mut Words,
     reply: &mut Reply,
 ) -> RCFTree
-    requires { ⌜ (p + 3 + 2 * number (now run) (p + 2) ≤ size (now run)) × SomeState tree (lent (now nodes) (now cuts) (now copies) (now free) (now lows) (now highs)) (now points) (now written) ⌝ }
-    ensures { λ r. ⌜ Does (λ d. add (number (now (run .entry)) (p + 1)) (wordsAt (now (run .entry)) p)) tree (lent (now (nodes .entry)) (now (cuts .entry)) (now (copies .entry)) (now (free .entry)) (now (lows .entry)) (now (highs .entry))) (now (points .entry)) (now (written .entry)) r (lent (now (nodes .exit)) (now (cuts .exit)) (now (copies .exit)) (now (free .exit)) (now (lows .exit)) (now (highs .exit))) (now (points .entry)) (now (written .entry)) (now (reply .exit)) ⌝ }
+    requires { ⌜ (p + 3 + 2 * number (now run) (p + 2) ≤ size (now run)) × SomeState tree (lent (now nodes) (now cuts) (now copies) (now free) (now boxes)) (now points) (now written) ⌝ }
+    ensures { λ r. ⌜ Does (λ d. add (number (now (run .entry)) (p + 1)) (wordsAt (now (run .entry)) p)) tree (lent (now (nodes .entry)) (now (cuts .entry)) (now (copies .entry)) (now (free .entry)) (now (boxes .entry))) (now (points .entry)) (now (written .entry)) r (lent (now (nodes .exit)) (now (cuts .exit)) (now (copies .exit)) (now (free .exit)) (now (boxes .exit))) (now (points .entry)) (now (written .entry)) (now (reply .exit)) ⌝ }
 {
     let index = runlayout::number_at(run, p + 1);
     let n = casts::at_most(runlayout::number_at(run, p + 2), CAPACITY);
@@ -105,8 +103,7 @@ fn add_call(
         cuts,
         copies,
         free,
-        lows,
-        highs,
+        boxes,
         points,
         written,
         index,
@@ -122,16 +119,15 @@ fn delete_call(
     cuts: &mut Cuts,
     copies: &mut Copies,
     free: &mut Free,
-    lows: &mut [Row; BRANCHES],
-    highs: &mut [Row; BRANCHES],
+    boxes: &mut Boxes,
     points: &Points,
     written: &Marks,
     run: &[u8],
     p: usize,
     reply: &mut Reply,
 ) -> RCFTree
-    requires { ⌜ (p + 2 ≤ size (now run)) × SomeState tree (lent (now nodes) (now cuts) (now copies) (now free) (now lows) (now highs)) (now points) (now written) ⌝ }
-    ensures { λ r. ⌜ Does (λ d. delete (number (now (run .entry)) (p + 1))) tree (lent (now (nodes .entry)) (now (cuts .entry)) (now (copies .entry)) (now (free .entry)) (now (lows .entry)) (now (highs .entry))) (now (points .entry)) (now (written .entry)) r (lent (now (nodes .exit)) (now (cuts .exit)) (now (copies .exit)) (now (free .exit)) (now (lows .exit)) (now (highs .exit))) (now (points .entry)) (now (written .entry)) (now (reply .exit)) ⌝ }
+    requires { ⌜ (p + 2 ≤ size (now run)) × SomeState tree (lent (now nodes) (now cuts) (now copies) (now free) (now boxes)) (now points) (now written) ⌝ }
+    ensures { λ r. ⌜ Does (λ d. delete (number (now (run .entry)) (p + 1))) tree (lent (now (nodes .entry)) (now (cuts .entry)) (now (copies .entry)) (now (free .entry)) (now (boxes .entry))) (now (points .entry)) (now (written .entry)) r (lent (now (nodes .exit)) (now (cuts .exit)) (now (copies .exit)) (now (free .exit)) (now (boxes .exit))) (now (points .entry)) (now (written .entry)) (now (reply .exit)) ⌝ }
 {
     let index = runlayout::number_at(run, p + 1);
     calls::delete(
@@ -140,8 +136,7 @@ fn delete_call(
         cuts,
         copies,
         free,
-        lows,
-        highs,
+        boxes,
         points,
         written,
         index,
@@ -157,8 +152,7 @@ pub fn call_at(
     cuts: &mut Cuts,
     copies: &mut Copies,
     free: &mut Free,
-    lows: &mut [Row; BRANCHES],
-    highs: &mut [Row; BRANCHES],
+    boxes: &mut Boxes,
     points: &mut Points,
     written: &mut Marks,
     run: &[u8],
@@ -166,8 +160,8 @@ pub fn call_at(
     words: &mut Words,
     reply: &mut Reply,
 ) -> RCFTree
-    requires { ⌜ (standsAt (now run) p ≡ true) × SomeState tree (lent (now nodes) (now cuts) (now copies) (now free) (now lows) (now highs)) (now points) (now written) ⌝ }
-    ensures { λ r. ⌜ Does (λ d. callAt (now (run .entry)) d p) tree (lent (now (nodes .entry)) (now (cuts .entry)) (now (copies .entry)) (now (free .entry)) (now (lows .entry)) (now (highs .entry))) (now (points .entry)) (now (written .entry)) r (lent (now (nodes .exit)) (now (cuts .exit)) (now (copies .exit)) (now (free .exit)) (now (lows .exit)) (now (highs .exit))) (now (points .exit)) (now (written .exit)) (now (reply .exit)) ⌝ }
+    requires { ⌜ (standsAt (now run) p ≡ true) × SomeState tree (lent (now nodes) (now cuts) (now copies) (now free) (now boxes)) (now points) (now written) ⌝ }
+    ensures { λ r. ⌜ Does (λ d. callAt (now (run .entry)) d p) tree (lent (now (nodes .entry)) (now (cuts .entry)) (now (copies .entry)) (now (free .entry)) (now (boxes .entry))) (now (points .entry)) (now (written .entry)) r (lent (now (nodes .exit)) (now (cuts .exit)) (now (copies .exit)) (now (free .exit)) (now (boxes .exit))) (now (points .exit)) (now (written .exit)) (now (reply .exit)) ⌝ }
 {
     let kind = runlayout::number_at(run, p);
     if kind == 3 {
@@ -181,8 +175,7 @@ pub fn call_at(
             cuts,
             copies,
             free,
-            lows,
-            highs,
+            boxes,
             points,
             written,
             run,
@@ -198,8 +191,7 @@ pub fn call_at(
             cuts,
             copies,
             free,
-            lows,
-            highs,
+            boxes,
             points,
             written,
             run,
@@ -208,17 +200,6 @@ pub fn call_at(
         );
     }
     let id = runlayout::number_at(run, p + 1);
-    calls::query(
-        tree,
-        nodes,
-        cuts,
-        copies,
-        points,
-        lows,
-        highs,
-        kind,
-        id,
-        reply,
-    );
+    calls::query(tree, nodes, cuts, copies, points, boxes, kind, id, reply);
     tree
 }

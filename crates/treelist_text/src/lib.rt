@@ -5,6 +5,7 @@ use calls::COORDINATES;
 use form::Form;
 use form::MakingRow;
 use limits::BRANCHES;
+use limits::Boxes;
 use limits::CAPACITY;
 use limits::CHANNELS;
 use limits::Copies;
@@ -14,7 +15,6 @@ use limits::Marks;
 use limits::Nodes;
 use limits::POINTS;
 use limits::Points;
-use limits::Row;
 use randomcuttree::Made;
 use randomcuttree::RCFTree;
 ghost use mathlib.Core.Path.{_≡_};
@@ -62,8 +62,7 @@ fn run_rows(
     cuts: &mut Cuts,
     copies: &mut Copies,
     free: &mut Free,
-    lows: &mut [Row; BRANCHES],
-    highs: &mut [Row; BRANCHES],
+    boxes: &mut Boxes,
     points: &mut Points,
     written: &mut Marks,
     text: &[u8],
@@ -71,8 +70,8 @@ fn run_rows(
     out: &mut [u8],
 ) -> usize
     requires within { ⌜ (start ≤ length (now text)) × (length (now text) ≤ 32768) ⌝ }
-    requires ready { ⌜ SomeStanding (now text) start 0 tree (lent (now nodes) (now cuts) (now copies) (now free) (now lows) (now highs)) (now points) (now written) ⌝ }
-    ensures { λ r. ⌜ ((d c : ℕ) (s : Float) (W : World (whole d)) (os : List Op) → Standing d c s W os (now (text .entry)) start 0 tree (lent (now (nodes .entry)) (now (cuts .entry)) (now (copies .entry)) (now (free .entry)) (now (lows .entry)) (now (highs .entry))) (now (points .entry)) (now (written .entry))
+    requires ready { ⌜ SomeStanding (now text) start 0 tree (lent (now nodes) (now cuts) (now copies) (now free) (now boxes)) (now points) (now written) ⌝ }
+    ensures { λ r. ⌜ ((d c : ℕ) (s : Float) (W : World (whole d)) (os : List Op) → Standing d c s W os (now (text .entry)) start 0 tree (lent (now (nodes .entry)) (now (cuts .entry)) (now (copies .entry)) (now (free .entry)) (now (boxes .entry))) (now (points .entry)) (now (written .entry))
         → Wrote (now (out .entry)) 0 (outputFrom d c W 0 os) r (now (out .exit))) ⌝ }
 {
     let mut coordinates = [0.0f32; COORDINATES];
@@ -93,8 +92,7 @@ fn run_rows(
             cuts,
             copies,
             free,
-            lows,
-            highs,
+            boxes,
             points,
             written,
             &text[at..end],
@@ -126,8 +124,7 @@ fn print_by(
     let mut cuts = [0.0f32; BRANCHES];
     let mut copies = [0u16; POINTS];
     let mut free = [[0u16; 2]; BRANCHES];
-    let mut lows = [[0.0f32; CHANNELS]; BRANCHES];
-    let mut highs = [[0.0f32; CHANNELS]; BRANCHES];
+    let mut boxes = [[[0.0f32; CHANNELS]; 2]; BRANCHES];
     let mut points = pointstore::no_points();
     let mut written = pointstore::no_marks();
     let made = RCFTree::new(
@@ -138,8 +135,7 @@ fn print_by(
         &mut cuts,
         &mut copies,
         &mut free,
-        &mut lows,
-        &mut highs,
+        &mut boxes,
     );
     match made {
         Made::NotMade(refusal) => lines::put_refused(out, 0, casts::wide8(refusal), 0),
@@ -149,8 +145,7 @@ fn print_by(
             &mut cuts,
             &mut copies,
             &mut free,
-            &mut lows,
-            &mut highs,
+            &mut boxes,
             &mut points,
             &mut written,
             text,

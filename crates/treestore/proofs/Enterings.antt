@@ -26,7 +26,7 @@ use Rattle.wholetree.proofs.Laws.{whole-laws}
 use Rattle.layout.specs.Slots.{lowOf, highOf}
 use Rattle.layout.proofs.Ranges.{range-ending}
 use Rattle.nodestore.specs.Stored.{Arrays, Graft, SomeGraft}
-use Rattle.boxstore.specs.Edited.{Walked, Grafted, GrownAbove, lowsOf, highsOf}
+use Rattle.boxstore.specs.Edited.{Walked, Grafted, SomeGrafted, GrownAbove, boxesOf}
 use Rattle.boxstore.specs.Written.{written}
 use Rattle.boxstore.proofs.Ends.{least-end, most-end, least-ends, most-ends}
 use Rattle.boxstore.proofs.Grafts.{box-above}
@@ -39,7 +39,7 @@ use Rattle.treestore.specs.Enters.{Entering}
 use Rattle.treestore.proofs.Channels.{kept-channel}
 use Rattle.treestore.proofs.Leaves.{leaves}
 use Rattle.treestore.proofs.Manager.{get-done, get-empty}
-use Rattle.treestore.proofs.Removes.{free-are, lows-are, highs-are}
+use Rattle.treestore.proofs.Removes.{free-are, boxes-are}
 
 module _ {d c k : ℕ} {t : Tree (whole d)} {u : List (ℕ × ℕ)} {p : Reading} {root : ℕ} {manager : IntervalStoreManager} {a : Lent} {points : List (List Float)} {path : List (List ℕ)} {n leaf index : ℕ} {words : List ℕ} {point : List Float}
     (E : Entering d c k t u p root manager a points path n leaf index words point) where
@@ -73,8 +73,8 @@ module _ {d c k : ℕ} {t : Tree (whole d)} {u : List (ℕ × ℕ)} {p : Reading
 
   -- w is the capacity, widened
   module _ (w : ℕ) (Q : w ≡ c) where
-    drawing : Drawing d w t p k (a .nodes) points (a .lows) (a .highs) path n leaf words point
-    drawing = subst (λ x. Drawing d x t p k (a .nodes) points (a .lows) (a .highs) path n leaf words point) (sym Q) (record {
+    drawing : Drawing d w t p k (a .nodes) points (a .boxes) path n leaf words point
+    drawing = subst (λ x. Drawing d x t p k (a .nodes) points (a .boxes) path n leaf words point) (sym Q) (record {
       boxed = W .boxed;
       once = W .once;
       count = W .walked .count;
@@ -86,11 +86,11 @@ module _ {d c k : ℕ} {t : Tree (whole d)} {u : List (ℕ × ℕ)} {p : Reading
       leaf-row = ap (λ x. getD points x []) (W .index-is) ∙ all-ending (whole d) (λ i q n. getD points i [] ≡ q .row) p t (W .boxed .leaves);
     })
 
-    pub some-drawing : (w ≤ capacityLimit) × SomeDrawing w k (a .nodes) points (a .lows) (a .highs) path n leaf words point
+    pub some-drawing : (w ≤ capacityLimit) × SomeDrawing w k (a .nodes) points (a .boxes) path n leaf words point
     some-drawing = (omega (arith, W .small), record { channels = d; tree = t; reading = p; drawing = drawing })
 
     -- the highest cut
-    module _ (r : Highest) (H : (d : ℕ) (t : Tree (whole d)) (p : Reading) → Drawing d w t p k (a .nodes) points (a .lows) (a .highs) path n leaf words point → Kept d w t p words n r) where
+    module _ (r : Highest) (H : (d : ℕ) (t : Tree (whole d)) (p : Reading) → Drawing d w t p k (a .nodes) points (a .boxes) path n leaf words point → Kept d w t p words n r) where
       K : Kept d c t p words n r
       K = subst (λ x. Kept d x t p words n r) Q (H d t p drawing)
 
@@ -154,38 +154,32 @@ module _ {d c k : ℕ} {t : Tree (whole d)} {u : List (ℕ × ℕ)} {p : Reading
               ∙ sym (insert-loop (whole d) (whole-laws d) (next u) index p (wordAt words) (noCut d) t (E .absent))
 
           -- the new branch's box, and those above it. j is the number, widened
-          module _ (j : ℕ) (J : j ≡ b) (lows highs lows′ highs′ : List (List Float))
-              (L : lows ≡ written k j (joined least (r .«bounding_box» .«min_values») point) (a .lows)) (U : highs ≡ written k j (joined greatest (r .«bounding_box» .«max_values») point) (a .highs))
-              (A : GrownAbove k (n - 1 - r .height) path point lows highs lows′ highs′) where
+          module _ (j : ℕ) (J : j ≡ b) (boxes : List (List (List Float))) (L : boxes ≡ written k j (boxWith (r .«bounding_box» .«min_values») (r .«bounding_box» .«max_values») point) (a .boxes)) where
             abbrev node : Tree (whole d)
             node = sub (whole d) t (r .height) p
 
-            low-is : joined least (r .«bounding_box» .«min_values») point ≡ lowOf d c (above (whole d) b cut index p node)
-            low-is = ap (λ x. joined least x point) (K .low) ∙ ap (joined least (lowOf d c node)) (W .row) ∙ box-above d c (least-end d) b index cut p node least (least-ends d)
-
-            high-is : joined greatest (r .«bounding_box» .«max_values») point ≡ highOf d c (above (whole d) b cut index p node)
-            high-is = ap (λ x. joined greatest x point) (K .high) ∙ ap (joined greatest (highOf d c node)) (W .row) ∙ box-above d c (most-end d) b index cut p node greatest (most-ends d)
+            box-is : boxWith (r .«bounding_box» .«min_values») (r .«bounding_box» .«max_values») point ≡ boxEnds d c (above (whole d) b cut index p node)
+            box-is = rw (K .low, K .high, W .row) (box-above d c b index cut p node)
 
             walked : Walked d c path point t p
             walked = record { once = W .once; rows = ap (λ x. take x path) (sym (W .walked .count)) ∙ W .walked .is-trail; row = W .row }
 
-            grafted : Grafted d c k (n - 1 - r .height) lows highs t p b index (r .height) cut
+            grafted : Grafted d c k (n - 1 - r .height) boxes t p b index (r .height) cut
             grafted = record {
               above-it = place;
               fresh = grafting .fresh;
-              low = L ∙ rw (J, low-is, lows-are W) refl;
-              high = U ∙ rw (J, high-is, highs-are W) refl;
+              boxes-are = L ∙ rw (J, box-is, boxes-are W) refl;
             }
 
-            boxes : (lows′ ≡ lowsOf d c k after) × (highs′ ≡ highsOf d c k after)
-            boxes = A d c t p b index (r .height) cut walked grafted
+            pub some-grafted : SomeGrafted k (n - 1 - r .height) path point boxes
+            some-grafted = record { channels = d; capacity = c; tree = t; reading = p; number = b; index = index; high = r .height; drawn = cut; walked = walked; grafted = grafted }
 
-            -- the rows, the cuts and the copies, and the root
-            module _ (nodes′ : List (List ℕ)) (cuts′ : List Float) (copies′ : List ℕ) (root′ : ℕ)
+            -- the boxes above are grown; the rows, the cuts and the copies, and the root
+            module _ (boxes′ : List (List (List Float))) (A : GrownAbove k (n - 1 - r .height) path point boxes boxes′) (nodes′ : List (List ℕ)) (cuts′ : List Float) (copies′ : List ℕ) (root′ : ℕ)
                 (P : (e m : ℕ) (t : Tree (whole e)) (p : Reading) (h : ℕ) (x : Cut (whole e)) → Graft e c (a .nodes) (a .cuts) (a .copies) path (n - 1 - r .height) b index (r .cut) left m t p h x → Arrays e c nodes′ cuts′ copies′ (some (graft (whole e) b index p (h, x) t)))
                 (R : (e c : ℕ) (nodes : List (List ℕ)) (cuts : List Float) (copies : List ℕ) (path : List (List ℕ)) (i : ℕ) (cut : FloatCut) (left : Bool) (m : ℕ) (t : Tree (whole e)) (p : Reading) (h : ℕ) (x : Cut (whole e))
                 → Graft e c nodes cuts copies path (n - 1 - r .height) b i cut left m t p h x → root ≡ id (whole e) c t → root′ ≡ id (whole e) c (graft (whole e) b i p (h, x) t)) where
-              pub entered : Leaves d c k (some (insert (whole d) (next u) index p (wordAt words) t)) (afterGet u) (record { root = root′; manager = left-over }) (lent nodes′ cuts′ copies′ free′ lows′ highs′)
-              entered = subst (λ o. Leaves d c k (some o) (afterGet u) (record { root = root′; manager = left-over }) (lent nodes′ cuts′ copies′ free′ lows′ highs′)) after-is
+              pub entered : Leaves d c k (some (insert (whole d) (next u) index p (wordAt words) t)) (afterGet u) (record { root = root′; manager = left-over }) (lent nodes′ cuts′ copies′ free′ boxes′)
+              entered = subst (λ o. Leaves d c k (some o) (afterGet u) (record { root = root′; manager = left-over }) (lent nodes′ cuts′ copies′ free′ boxes′)) after-is
                   (leaves d c k (some after) (afterGet u) root′ left-over _
-                  (R d c (a .nodes) (a .cuts) (a .copies) path index (r .cut) left n t p (r .height) cut grafting (W .root-is)) (taken .1) (P d n t p (r .height) cut grafting) (taken .2) (boxes .0) (boxes .1))
+                  (R d c (a .nodes) (a .cuts) (a .copies) path index (r .cut) left n t p (r .height) cut grafting (W .root-is)) (taken .1) (P d n t p (r .height) cut grafting) (taken .2) (A d c t p b index (r .height) cut walked grafted))

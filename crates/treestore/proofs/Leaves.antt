@@ -22,8 +22,8 @@ use Rattle.nodestore.specs.Stored.{Arrays}
 use Rattle.treestore.specs.declared.Edited.{Edited}
 use Rattle.treestore.specs.Arrays.{Lent, lent, managerOf, editedOf, Leaves}
 
-pub lent-is : (b : Lent) (n : List (List ℕ)) (x : List Float) (m : List ℕ) (f : List (List ℕ)) (l h : List (List Float)) → b .nodes ≡ n → b .cuts ≡ x → b .copies ≡ m → b .free ≡ f → b .lows ≡ l → b .highs ≡ h → b ≡ lent n x m f l h
-lent-is b n x m f l h N X M F L H = rw (← N, ← X, ← M, ← F, ← L, ← H) refl
+pub lent-is : (b : Lent) (n : List (List ℕ)) (x : List Float) (m : List ℕ) (f : List (List ℕ)) (g : List (List (List Float))) → b .nodes ≡ n → b .cuts ≡ x → b .copies ≡ m → b .free ≡ f → b .boxes ≡ g → b ≡ lent n x m f g
+lent-is b n x m f g N X M F G = rw (← N, ← X, ← M, ← F, ← G) refl
 
 module _ (d c k : ℕ) where
   -- rows, cuts and copies do not depend on how many branches are cached
@@ -36,14 +36,14 @@ module _ (d c k : ℕ) where
   counts-cached (some s) = refl
 
   pub leaves : (o : Option (Tree (whole d))) (v : List (ℕ × ℕ)) (root : ℕ) (m : IntervalStoreManager) (b : Lent) → root ≡ rootOf d c k o → m ≡ managerOf (c - 1) v
-      → Arrays d c (b .nodes) (b .cuts) (b .copies) o → b .free ≡ Rows.layout v → b .lows ≡ tab branchLimit (boxIn d c k (lowOf d c) o) → b .highs ≡ tab branchLimit (boxIn d c k (highOf d c) o)
+      → Arrays d c (b .nodes) (b .cuts) (b .copies) o → b .free ≡ Rows.layout v → b .boxes ≡ tab branchLimit (boxIn d c k o)
       → Leaves d c k o v (record { root = root; manager = m }) b
-  leaves o v root m b x y A f l h = record { answer = answered; arrays = lent-is b _ _ _ _ _ _ (A .rows ∙ any-cached (rowOf d c) noRow o) (A .values ∙ any-cached (cutOf d c) nought o) (A .counts ∙ counts-cached o) f l h }
+  leaves o v root m b x y A f g = record { answer = answered; arrays = lent-is b _ _ _ _ _ (A .rows ∙ any-cached (rowOf d c) noRow o) (A .values ∙ any-cached (cutOf d c) nought o) (A .counts ∙ counts-cached o) f g }
     where
       answered : _≡_ {A = Edited} (record { root = root; manager = m }) (editedOf d c k o v)
       answered = ap (λ (z : ℕ). record { root = z; manager = m }) x ∙ ap (λ (z : IntervalStoreManager). record { root = rootOf d c k o; manager = z }) y
 
   -- a lone leaf has no boxes
-  pub no-boxes : (p : Reading) (f : Tree (whole d) → List Float) (s : Tree (whole d)) → height (whole d) s p ≡ 0 → tab branchLimit (boxIn d c k f (some s)) ≡ tab branchLimit (boxIn d c k f none)
-  no-boxes p f (branch b x g l r) h = absurd (omega arith)
-  no-boxes p f (leaf i q x) h = same-tab noEnds branchLimit (boxIn d c k f (some (leaf i q x))) (boxIn d c k f none) (λ j _. ap (λ (y : List Float). cond (ltb j k) y noEnds) (slot-none d c f noEnds (leaf i q x) j refl))
+  pub no-boxes : (p : Reading) (s : Tree (whole d)) → height (whole d) s p ≡ 0 → tab branchLimit (boxIn d c k (some s)) ≡ tab branchLimit (boxIn d c k none)
+  no-boxes p (branch b x g l r) h = absurd (omega arith)
+  no-boxes p (leaf i q x) h = same-tab noBoxEnds branchLimit (boxIn d c k (some (leaf i q x))) (boxIn d c k none) (λ j _. ap (λ (y : List (List Float)). cond (ltb j k) y noBoxEnds) (slot-none d c (boxEnds d c) noBoxEnds (leaf i q x) j refl))

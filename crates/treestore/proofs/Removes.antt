@@ -32,7 +32,7 @@ use Rattle.nodestore.proofs.Facts.{root-replace}
 use Rattle.walk.proofs.Ends.{walk-is}
 use Rattle.nodestore.proofs.Ends.{copies-are, copies-some}
 use Rattle.boxstore.specs.Written.{written}
-use Rattle.boxstore.specs.Edited.{Walked, lowsOf, highsOf, lifted, Forgotten, SomeForgotten, RepairedAbove}
+use Rattle.boxstore.specs.Edited.{Walked, boxesOf, lifted, Forgotten, SomeForgotten, RepairedAbove}
 use Rattle.boxstore.proofs.Copies.{less-boxes}
 use Rattle.boxstore.proofs.Forgets.{forget-once}
 use Rattle.treestore.specs.Arrays.{Lent, lent, managerOf, Leaves}
@@ -56,11 +56,8 @@ module _ {d c k : ℕ} {t : Tree (whole d)} {u : List (ℕ × ℕ)} {p : Reading
   pub free-are : a .free ≡ Rows.layout u
   free-are = ap (λ (x : Lent). x .free) (G .arrays-are)
 
-  pub lows-are : a .lows ≡ lowsOf d c k t
-  lows-are = ap (λ (x : Lent). x .lows) (G .arrays-are)
-
-  pub highs-are : a .highs ≡ highsOf d c k t
-  highs-are = ap (λ (x : Lent). x .highs) (G .arrays-are)
+  pub boxes-are : a .boxes ≡ boxesOf d c k t
+  boxes-are = ap (λ (x : Lent). x .boxes) (G .arrays-are)
 
   -- the tree after, and its free numbers
   abbrev Gone : ℕ → IntervalStoreManager → Lent → Type 0
@@ -71,15 +68,14 @@ module _ {d c k : ℕ} {t : Tree (whole d)} {u : List (ℕ × ℕ)} {p : Reading
   less-root m (leaf i q x) = refl
   less-root m (branch b x g l r) = root-replace d c (branch b x g l r) _ p 0 (height S (branch b x g l r) p) (omega arith) ∙ cond-false _ _ _ (ne-eqb (height S (branch b x g l r) p) 0 (λ e. omega (arith, e)))
 
-  pub dropped : (N : List (List ℕ)) (K : List ℕ) → 1 < getD (a .copies) index 0 → Arrays d c N (a .cuts) K (forget S p t) × (freed S p t ≡ none) → Gone root manager (lent N (a .cuts) K (a .free) (a .lows) (a .highs))
+  pub dropped : (N : List (List ℕ)) (K : List ℕ) → 1 < getD (a .copies) index 0 → Arrays d c N (a .cuts) K (forget S p t) × (freed S p t ≡ none) → Gone root manager (lent N (a .cuts) K (a .free) (a .boxes))
   dropped N K m A =
       let more : ltb 1 (ending S t p .copies) ≡ true = lt-ltb 1 (ending S t p .copies) (omega (arith, copies-are reached)) in
       let z = less-replace S p t more .0 in
       let boxes = less-boxes d c k t p (G .once) more _ z in
       rw (A .1) (leaves d c k (forget S p t) u _ _ _
       (G .root-is ∙ sym (ap (rootOf d c k) z ∙ less-root _ t)) (G .manager-is) (A .0) free-are
-      (lows-are ∙ sym (ap (λ (o : Option (Tree S)). tab branchLimit (boxIn d c k (lowOf d c) o)) z ∙ boxes .0))
-      (highs-are ∙ sym (ap (λ (o : Option (Tree S)). tab branchLimit (boxIn d c k (highOf d c) o)) z ∙ boxes .1)))
+      (boxes-are ∙ sym (ap (λ (o : Option (Tree S)). tab branchLimit (boxIn d c k o)) z ∙ boxes)))
 
   pub one-copy : getD (a .copies) index 0 ≤ 1 → getD (a .copies) index 0 ≡ 1
   one-copy m = omega (arith, copies-some reached)
@@ -88,14 +84,13 @@ module _ {d c k : ℕ} {t : Tree (whole d)} {u : List (ℕ × ℕ)} {p : Reading
   last-copy m = le-ltb 1 (ending S t p .copies) (omega (arith, copies-are reached))
 
   -- ---- the last copy, of a lone leaf
-  pub alone : (K : List ℕ) → getD (a .copies) index 0 ≤ 1 → n < 2 → Arrays d c (a .nodes) (a .cuts) K (forget S p t) × (freed S p t ≡ none) → Gone (c - 1) manager (lent (a .nodes) (a .cuts) K (a .free) (a .lows) (a .highs))
+  pub alone : (K : List ℕ) → getD (a .copies) index 0 ≤ 1 → n < 2 → Arrays d c (a .nodes) (a .cuts) K (forget S p t) × (freed S p t ≡ none) → Gone (c - 1) manager (lent (a .nodes) (a .cuts) K (a .free) (a .boxes))
   alone K m low A =
       let flat : height S t p ≡ 0 = omega (arith, G .walked .count) in
       let z = last-alone S p t flat (last-copy m) .0 in
       rw (A .1) (leaves d c k (forget S p t) u _ _ _
       (sym (ap (rootOf d c k) z)) (G .manager-is) (A .0) free-are
-      (lows-are ∙ no-boxes d c k p (lowOf d c) t flat ∙ sym (ap (λ (o : Option (Tree S)). tab branchLimit (boxIn d c k (lowOf d c) o)) z))
-      (highs-are ∙ no-boxes d c k p (highOf d c) t flat ∙ sym (ap (λ (o : Option (Tree S)). tab branchLimit (boxIn d c k (highOf d c) o)) z)))
+      (boxes-are ∙ no-boxes d c k p t flat ∙ sym (ap (λ (o : Option (Tree S)). tab branchLimit (boxIn d c k o)) z)))
 
   -- the number of the branch that goes is free again
   pub back : (b : ℕ) → freed S p t ≡ some b → (m : IntervalStoreManager) (free : List (List ℕ))
@@ -122,29 +117,27 @@ module _ {d c k : ℕ} {t : Tree (whole d)} {u : List (ℕ × ℕ)} {p : Reading
     walks = record { once = G .once; rows = walk-is (G .walked); row = G .row }
 
     -- the boxes before they are repaired. The capacity and the number are widened
-    module _ (cap at : ℕ) (lows highs : List (List Float)) (cap-is : cap ≡ c) (at-is : at ≡ b) (L : lows ≡ written k at noEnds (a .lows)) (H : highs ≡ written k at noEnds (a .highs)) where
-      forgotten : Forgotten d c k (n - 2) d N points lows highs t p
+    module _ (cap at : ℕ) (boxes : List (List (List Float))) (cap-is : cap ≡ c) (at-is : at ≡ b) (L : boxes ≡ written k at noBoxEnds (a .boxes)) where
+      forgotten : Forgotten d c k (n - 2) d N points boxes t p
       forgotten = record {
         above-it = omega (arith, G .walked .count);
         held = held;
         last = last-copy m;
         narrow = G .narrow;
-        low = L ∙ rw (at-is ∙ number-is, lows-are) refl;
-        high = H ∙ rw (at-is ∙ number-is, highs-are) refl;
+        boxes-are = L ∙ rw (at-is ∙ number-is, boxes-are) refl;
         links = linked d c N (lifted d t p) (tab-laid d c (rowOf d c) noRow [] N (lifted d t p) (G .small) (subst (Arrays d c N C K) (lift .0) (A .0) .rows) (forget-once d c t p (G .once) (omega (arith, G .walked .count))) range);
         leaves = subst (OfTree S (All S (λ i q n. getD points i [] ≡ q .row))) (lift .0) (all-forget S (λ i q n. getD points i [] ≡ q .row) p (λ i q n _ e. e) t (G .boxed .leaves));
         in-range = range;
       }
 
-      pub some-forgotten : SomeForgotten cap k (n - 2) d path point N points lows highs
+      pub some-forgotten : SomeForgotten cap k (n - 2) d path point N points boxes
       some-forgotten = rw cap-is (record { channels = d; tree = t; reading = p; walked = walks; forgotten = forgotten })
 
-      pub removed : (r : ℕ) (left : IntervalStoreManager) (free lows′ highs′ : _) → r ≡ rootOf d c 0 (forget S p t)
-          → (left ≡ managerOf (c - 1) (afterRelease u b)) × (free ≡ Rows.layout (afterRelease u b)) → RepairedAbove cap k (n - 2) d path point N points lows highs lows′ highs′
-          → Gone r left (lent N C K free lows′ highs′)
-      removed r left free lows′ highs′ x M B =
-          let boxes = (rw cap-is at B) d t p walks forgotten in
+      pub removed : (r : ℕ) (left : IntervalStoreManager) (free : List (List ℕ)) (boxes′ : List (List (List Float))) → r ≡ rootOf d c 0 (forget S p t)
+          → (left ≡ managerOf (c - 1) (afterRelease u b)) × (free ≡ Rows.layout (afterRelease u b)) → RepairedAbove cap k (n - 2) d path point N points boxes boxes′
+          → Gone r left (lent N C K free boxes′)
+      removed r left free boxes′ x M B =
+          let repaired = (rw cap-is at B) d t p walks forgotten in
           rw (A .1) (leaves d c k (forget S p t) (afterRelease u b) _ _ _
           (x ∙ ap (rootOf d c 0) (lift .0) ∙ sym (ap (rootOf d c k) (lift .0))) (M .0) (A .0) (M .1)
-          (boxes .0 ∙ sym (ap (λ (o : Option (Tree S)). tab branchLimit (boxIn d c k (lowOf d c) o)) (lift .0)))
-          (boxes .1 ∙ sym (ap (λ (o : Option (Tree S)). tab branchLimit (boxIn d c k (highOf d c) o)) (lift .0))))
+          (repaired ∙ sym (ap (λ (o : Option (Tree S)). tab branchLimit (boxIn d c k o)) (lift .0))))

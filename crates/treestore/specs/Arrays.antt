@@ -11,7 +11,7 @@ use Rattle.intervalstoremanager.specs.declared.IntervalStoreManager.{IntervalSt
 use Rattle.intervalstoremanager.specs.Rows as Rows
 use Rattle.cuttree.specs.Tree.{Tree}
 use Rattle.wholetree.specs.Whole.{whole, tab}
-use Rattle.layout.specs.Slots.{rowOf, cutOf, lowOf, highOf}
+use Rattle.layout.specs.Slots.{rowOf, cutOf}
 use Rattle.layout.specs.Layout.{noRow, rootOf, slotIn, countIn, boxIn}
 use Rattle.treestore.specs.declared.Edited.{Edited}
 
@@ -21,11 +21,10 @@ pub record Lent : Type 0 where
   pub cuts : List Float
   pub copies : List ℕ
   pub free : List (List ℕ)
-  pub lows : List (List Float)
-  pub highs : List (List Float)
+  pub boxes : List (List (List Float))
 
-abbrev pub lent : List (List ℕ) → List Float → List ℕ → List (List ℕ) → List (List Float) → List (List Float) → Lent
-lent n x m f l h = record { nodes = n; cuts = x; copies = m; free = f; lows = l; highs = h }
+abbrev pub lent : List (List ℕ) → List Float → List ℕ → List (List ℕ) → List (List (List Float)) → Lent
+lent n x m f b = record { nodes = n; cuts = x; copies = m; free = f; boxes = b }
 
 -- the manager of `size` numbers with that stack of free ones
 abbrev pub managerOf : ℕ → List (ℕ × ℕ) → IntervalStoreManager
@@ -40,8 +39,7 @@ module _ (d c k : ℕ) where
     cuts = tab branchLimit (slotIn d c k (cutOf d c) nought o);
     copies = tab pointLimit (countIn d c k o);
     free = Rows.layout u;
-    lows = tab branchLimit (boxIn d c k (lowOf d c) o);
-    highs = tab branchLimit (boxIn d c k (highOf d c) o);
+    boxes = tab branchLimit (boxIn d c k o);
   }
 
   -- what its header has of it

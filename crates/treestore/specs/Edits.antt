@@ -29,7 +29,7 @@ pub record Walking (d c k : ℕ) (t : Tree (whole d)) (u : List (ℕ × ℕ)) (p
   pub manager-is : manager ≡ managerOf (c - 1) u
   pub arrays-are : a ≡ arraysOf d c k (some t) u
   pub stored : Stored d c (a .nodes) (a .cuts) (a .copies) t
-  pub boxed : Boxed d c k (a .nodes) points (a .lows) (a .highs) t
+  pub boxed : Boxed d c k (a .nodes) points (a .boxes) t
   pub once : Once d c t
   pub narrow : All (whole d) (λ i q n. Padded (q .row) d width) t
   pub proper : Proper (c - 1) u

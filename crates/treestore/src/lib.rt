@@ -3,7 +3,7 @@
 use intervalstoremanager::Got;
 use intervalstoremanager::IntervalStoreManager;
 use intervalstoremanager::Released;
-use limits::BRANCHES;
+use limits::Boxes;
 use limits::Copies;
 use limits::Cuts;
 use limits::Free;
@@ -83,26 +83,24 @@ fn remove_last(
     cuts: &mut Cuts,
     copies: &mut Copies,
     free: &mut Free,
-    lows: &mut [Row; BRANCHES],
-    highs: &mut [Row; BRANCHES],
+    boxes: &mut Boxes,
     points: &Points,
     path: &Path,
     n: usize,
     leaf: usize,
     point: &Row,
 ) -> Edited
-    requires held { ⌜ SomeHeld dimensions capacity cached root manager (lent (now nodes) (now cuts) (now copies) (now free) (now lows) (now highs)) (now points) (now path) n leaf (now point) ⌝ }
+    requires held { ⌜ SomeHeld dimensions capacity cached root manager (lent (now nodes) (now cuts) (now copies) (now free) (now boxes)) (now points) (now path) n leaf (now point) ⌝ }
     requires last { ⌜ getD (now copies) leaf 0 ≤ 1 ⌝ }
     requires below { ⌜ 2 ≤ n ⌝ }
-    ensures { λ r. ⌜ Forgets dimensions capacity cached root manager (lent (now (nodes .entry)) (now (cuts .entry)) (now (copies .entry)) (now (free .entry)) (now (lows .entry)) (now (highs .entry))) (now (points .entry)) (now (path .entry)) n leaf (now (point .entry)) r (lent (now (nodes .exit)) (now (cuts .exit)) (now (copies .exit)) (now (free .exit)) (now (lows .exit)) (now (highs .exit))) ⌝ }
+    ensures { λ r. ⌜ Forgets dimensions capacity cached root manager (lent (now (nodes .entry)) (now (cuts .entry)) (now (copies .entry)) (now (free .entry)) (now (boxes .entry))) (now (points .entry)) (now (path .entry)) n leaf (now (point .entry)) r (lent (now (nodes .exit)) (now (cuts .exit)) (now (copies .exit)) (now (free .exit)) (now (boxes .exit))) ⌝ }
 {
     let sibling = nodestore::lifted_root(root, path, n);
     let b = nodestore::remove_leaf(nodes, cuts, copies, path, n, leaf);
     let left = put_back(manager, free, b);
-    boxstore::clear_box(lows, highs, casts::wide16(b), cached);
+    boxstore::clear_box(boxes, casts::wide16(b), cached);
     boxstore::repair_ancestors(
-        lows,
-        highs,
+        boxes,
         nodes,
         points,
         path,
@@ -130,16 +128,15 @@ pub fn remove_copy(
     cuts: &mut Cuts,
     copies: &mut Copies,
     free: &mut Free,
-    lows: &mut [Row; BRANCHES],
-    highs: &mut [Row; BRANCHES],
+    boxes: &mut Boxes,
     points: &Points,
     path: &Path,
     n: usize,
     leaf: usize,
     point: &Row,
 ) -> Edited
-    requires held { ⌜ SomeHeld dimensions capacity cached root manager (lent (now nodes) (now cuts) (now copies) (now free) (now lows) (now highs)) (now points) (now path) n leaf (now point) ⌝ }
-    ensures { λ r. ⌜ Forgets dimensions capacity cached root manager (lent (now (nodes .entry)) (now (cuts .entry)) (now (copies .entry)) (now (free .entry)) (now (lows .entry)) (now (highs .entry))) (now (points .entry)) (now (path .entry)) n leaf (now (point .entry)) r (lent (now (nodes .exit)) (now (cuts .exit)) (now (copies .exit)) (now (free .exit)) (now (lows .exit)) (now (highs .exit))) ⌝ }
+    requires held { ⌜ SomeHeld dimensions capacity cached root manager (lent (now nodes) (now cuts) (now copies) (now free) (now boxes)) (now points) (now path) n leaf (now point) ⌝ }
+    ensures { λ r. ⌜ Forgets dimensions capacity cached root manager (lent (now (nodes .entry)) (now (cuts .entry)) (now (copies .entry)) (now (free .entry)) (now (boxes .entry))) (now (points .entry)) (now (path .entry)) n leaf (now (point .entry)) r (lent (now (nodes .exit)) (now (cuts .exit)) (now (copies .exit)) (now (free .exit)) (now (boxes .exit))) ⌝ }
 {
     if 1 < copies[leaf] {
         nodestore::drop_copy(nodes, copies, path, n, leaf);
@@ -162,8 +159,7 @@ pub fn remove_copy(
         cuts,
         copies,
         free,
-        lows,
-        highs,
+        boxes,
         points,
         path,
         n,
@@ -183,8 +179,7 @@ pub fn insert_leaf(
     cuts: &mut Cuts,
     copies: &mut Copies,
     free: &mut Free,
-    lows: &mut [Row; BRANCHES],
-    highs: &mut [Row; BRANCHES],
+    boxes: &mut Boxes,
     points: &Points,
     path: &Path,
     n: usize,
@@ -193,14 +188,13 @@ pub fn insert_leaf(
     words: &[u64],
     point: &Row,
 ) -> Edited
-    requires { ⌜ SomeEntering capacity cached root manager (lent (now nodes) (now cuts) (now copies) (now free) (now lows) (now highs)) (now points) (now path) n leaf index (now words) (now point) ⌝ }
-    ensures { λ r. ⌜ Enters capacity cached root manager (lent (now (nodes .entry)) (now (cuts .entry)) (now (copies .entry)) (now (free .entry)) (now (lows .entry)) (now (highs .entry))) (now (points .entry)) (now (path .entry)) n leaf index (now (words .entry)) (now (point .entry)) r (lent (now (nodes .exit)) (now (cuts .exit)) (now (copies .exit)) (now (free .exit)) (now (lows .exit)) (now (highs .exit))) ⌝ }
+    requires { ⌜ SomeEntering capacity cached root manager (lent (now nodes) (now cuts) (now copies) (now free) (now boxes)) (now points) (now path) n leaf index (now words) (now point) ⌝ }
+    ensures { λ r. ⌜ Enters capacity cached root manager (lent (now (nodes .entry)) (now (cuts .entry)) (now (copies .entry)) (now (free .entry)) (now (boxes .entry))) (now (points .entry)) (now (path .entry)) n leaf index (now (words .entry)) (now (point .entry)) r (lent (now (nodes .exit)) (now (cuts .exit)) (now (copies .exit)) (now (free .exit)) (now (boxes .exit))) ⌝ }
 {
     let highest = drawing::highest_cut(
         nodes,
         points,
-        lows,
-        highs,
+        boxes,
         path,
         n,
         leaf,
@@ -228,8 +222,8 @@ pub fn insert_leaf(
                 capacity,
             );
             let below = highest.bounding_box;
-            boxstore::copy_box_above(lows, highs, casts::wide16(b), below, point, cached);
-            boxstore::grow_ancestors(lows, highs, path, above, point, cached);
+            boxstore::copy_box_above(boxes, casts::wide16(b), below, point, cached);
+            boxstore::grow_ancestors(boxes, path, above, point, cached);
             let top = nodestore::placed_root(root, above, b);
             Edited {
                 root: top,

@@ -17,12 +17,12 @@ below : (p n m : ℕ) → p < n → n ≡ m → p < m
 below p n m h e = omega arith
 
 abbrev Inv-loop : tie.InvT-loop
-Inv-loop nodes₀ cuts₀ copies₀ free₀ lows₀ highs₀ points₀ written₀ run answers₀ n words₀ reply₀ current₀ p₀ out₀ nodes cuts copies free lows highs points written answers words reply current p out =
+Inv-loop nodes₀ cuts₀ copies₀ free₀ boxes₀ points₀ written₀ run answers₀ n words₀ reply₀ current₀ p₀ out₀ nodes cuts copies free boxes points written answers words reply current p out =
     (p ≤ size run) × (length answers ≡ length answers₀)
-    × ((final : List ℕ) (count : ℕ) → Running run 5 1 current₀ (lent nodes₀ cuts₀ copies₀ free₀ lows₀ highs₀) points₀ written₀ answers₀ final count → Running run p out current (lent nodes cuts copies free lows highs) points written answers final count)
+    × ((final : List ℕ) (count : ℕ) → Running run 5 1 current₀ (lent nodes₀ cuts₀ copies₀ free₀ boxes₀) points₀ written₀ answers₀ final count → Running run p out current (lent nodes cuts copies free boxes) points written answers final count)
 
 abbrev μ-loop : tie.MeasureT-loop
-μ-loop nodes₀ cuts₀ copies₀ free₀ lows₀ highs₀ points₀ written₀ run answers₀ n words₀ reply₀ current₀ p₀ out₀ nodes cuts copies free lows highs points written answers words reply current p out = size run - p
+μ-loop nodes₀ cuts₀ copies₀ free₀ boxes₀ points₀ written₀ run answers₀ n words₀ reply₀ current₀ p₀ out₀ nodes cuts copies free boxes points written answers words reply current p out = size run - p
 
 size-of-requires : tie.Need-size-of-requires Inv-loop μ-loop
 size-of-requires c κs = search needs

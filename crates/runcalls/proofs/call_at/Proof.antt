@@ -36,7 +36,7 @@ query-requires : tie.Need-query-requires
 query-requires c κs = readable _ _ _ _ (c .before .before .before .before .before .before .before .before .before .before .before .before .before .pre .1)
 
 returns-4 : tie.Need-returns-4
-returns-4 c = query-there (c .before .before .before .before .before .before .before .before .before .before .before .before .before .before .args .run .now) _ _ _ _ _ _ _ _ _ _ _ (c .before .before .before .before .before .before .before .before .before .before .before .before .number-at .ensures .0) (c .before .before .before .before .before .before .before .before .before .before .before .if1 .left) (c .before .before .before .before .before .before .before .before .before .before .if2 .left) (c .before .before .before .before .before .before .before .before .before .if3 .left) _ (c .before .before .before .before .before .before .before .before .number-at2 .ensures .0) (c .query .ensures _ _ (record { nodes-are = refl; lows-are = refl; highs-are = refl }) refl refl)
+returns-4 c = query-there (c .before .before .before .before .before .before .before .before .before .before .before .before .before .before .args .run .now) _ _ _ _ _ _ _ _ _ _ _ (c .before .before .before .before .before .before .before .before .before .before .before .before .number-at .ensures .0) (c .before .before .before .before .before .before .before .before .before .before .before .if1 .left) (c .before .before .before .before .before .before .before .before .before .before .if2 .left) (c .before .before .before .before .before .before .before .before .before .if3 .left) _ (c .before .before .before .before .before .before .before .before .number-at2 .ensures .0) (c .query .ensures _ _ (record { nodes-are = refl; boxes-are = refl }) refl refl)
 
 pub call-at-spec : {M : Type 1} → statement M
 call-at-spec =

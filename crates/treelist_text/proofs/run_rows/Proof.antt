@@ -18,12 +18,12 @@ use Rattle.treelist_text.proofs.run_rows.Statement.{statement}
 use Rattle.treelist_text.proofs.run_rows.Tie as tie
 
 abbrev Inv-loop : tie.InvT-loop
-Inv-loop nodes₀ cuts₀ copies₀ free₀ lows₀ highs₀ points₀ written₀ text start out₀ coordinates₀ words₀ reply₀ current₀ at₀ row₀ p₀ nodes cuts copies free lows highs points written out coordinates words reply current at row p =
+Inv-loop nodes₀ cuts₀ copies₀ free₀ boxes₀ points₀ written₀ text start out₀ coordinates₀ words₀ reply₀ current₀ at₀ row₀ p₀ nodes cuts copies free boxes points written out coordinates words reply current at row p =
     (at ≤ length text) × (row ≤ at) × (p ≤ 50 * row)
-    × ((d c : ℕ) (s : Float) (W : World (whole d)) (os : List Op) → Standing d c s W os text start 0 current₀ (lent nodes₀ cuts₀ copies₀ free₀ lows₀ highs₀) points₀ written₀ → Running d c s out₀ (outputFrom d c W 0 os) text at row current (lent nodes cuts copies free lows highs) points written p out)
+    × ((d c : ℕ) (s : Float) (W : World (whole d)) (os : List Op) → Standing d c s W os text start 0 current₀ (lent nodes₀ cuts₀ copies₀ free₀ boxes₀) points₀ written₀ → Running d c s out₀ (outputFrom d c W 0 os) text at row current (lent nodes cuts copies free boxes) points written p out)
 
 abbrev μ-loop : tie.MeasureT-loop
-μ-loop nodes₀ cuts₀ copies₀ free₀ lows₀ highs₀ points₀ written₀ text start out₀ coordinates₀ words₀ reply₀ current₀ at₀ row₀ p₀ nodes cuts copies free lows highs points written out coordinates words reply current at row p = length text - at
+μ-loop nodes₀ cuts₀ copies₀ free₀ boxes₀ points₀ written₀ text start out₀ coordinates₀ words₀ reply₀ current₀ at₀ row₀ p₀ nodes cuts copies free boxes points written out coordinates words reply current at row p = length text - at
 
 loop-holds : tie.Need-loop-holds Inv-loop μ-loop
 loop-holds c = let s = c .before .before in (s .pre .0 .0, omega arith, omega arith, λ d c s W os S. begin S)

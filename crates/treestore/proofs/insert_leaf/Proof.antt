@@ -1,7 +1,7 @@
 -- `insert_leaf` meets its contract: the calls leave the tree with the new branch and the new leaf in it. Assumes nothing.
 use mathlib.Core.Path.{refl}
 use native.Mathlib.Omega.{arith}
-use Rattle.treestore.proofs.Enterings.{cached-few, above-few, not-empty, some-drawing, height-low, dimension-low, some-graft, entered}
+use Rattle.treestore.proofs.Enterings.{cached-few, above-few, not-empty, some-drawing, height-low, dimension-low, some-graft, some-grafted, entered}
 use borrow.Author.Needs.{needs}
 use Rattle.treestore.proofs.insert_leaf.Statement.{statement}
 use Rattle.treestore.proofs.insert_leaf.Tie as tie
@@ -50,7 +50,7 @@ enum-told c = search needs
 
 returns : tie.Need-returns
 returns c = λ d t u p E. entered E _ (c .before .before .before .before .before .before .before .before .before .before .before .before .before .before .before .before .before .before .before .before .before .before .wide16 .ensures .0) _ (c .before .before .before .before .before .before .before .before .before .before .before .before .before .before .before .before .before .before .before .before .before .highest-cut .ensures) _ _ _ _ (c .before .before .before .before .before .before .before .before .before .before .before .before .before .before .before .before .before .before .get .ensures .0) (c .before .before .before .before .before .before .before .before .before .before .before .before .before .before .before .before .before .before .get .ensures .1) (c .before .before .before .before .before .before .before .before .before .before .before .before .before .before .before .before .got .given .1) _ refl
-    _ (c .before .before .before .before .before .wide162 .ensures .0) _ _ _ _ (c .before .before .before .before .copy-box-above .ensures .0) (c .before .before .before .before .copy-box-above .ensures .1) (c .before .grow-ancestors .ensures) _ _ _ _ (c .before .before .before .before .before .before .before .before .before .place-branch .ensures) (c .placed-root .ensures .1)
+    _ (c .before .before .before .before .before .wide162 .ensures .0) _ (c .before .before .before .before .copy-box-above .ensures) _ (c .before .grow-ancestors .ensures) _ _ _ _ (c .before .before .before .before .before .before .before .before .before .place-branch .ensures) (c .placed-root .ensures .1)
 
 returns-2 : tie.Need-returns-2
 returns-2 c = λ d t u p E. not-empty E _ (c .before .before .get .ensures .0) (c .enum-told .given .1)
