@@ -4,7 +4,8 @@ use mathlib.Core.Path.{_≡_, refl}
 use lib.Dec.{T}
 use lib.Ieee.{Float, binary32, binary64, fits, isNan, lt, sub, ofBits}
 use Rattle.readings.proofs.Numbers.{sub-cast}
-use Rattle.boundingbox.specs.Sides.{nought, gapOf}
+use Rattle.readings.specs.Number.{nought}
+use Rattle.boundingbox.specs.Sides.{gapOf}
 
 -- what a cast to f64 asks
 abbrev pub Casts : Float → Type 0

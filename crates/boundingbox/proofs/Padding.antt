@@ -11,7 +11,8 @@ use lib.Ieee.{Float, lt, binary64, ofInt}
 use Rattle.readings.specs.Coordinate.{isCoordinate, rank}
 use Rattle.readings.proofs.Tests.{split}
 use Rattle.boundingbox.specs.Ends.{channel}
-use Rattle.boundingbox.specs.Sides.{nought, rangeSum}
+use Rattle.readings.specs.Number.{nought}
+use Rattle.boundingbox.specs.Sides.{rangeSum}
 use Rattle.boundingbox.specs.Contained.{stays, contains}
 use Rattle.boundingbox.specs.Wholes.{Box, side, sumTo}
 use Rattle.boundingbox.specs.Padding.{Padded}

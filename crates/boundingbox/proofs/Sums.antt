@@ -15,7 +15,8 @@ use Rattle.readings.specs.Coordinate.{isCoordinate, rank}
 use Rattle.readings.proofs.Tests.{eqb-iff, cross-l, cross-r}
 use Rattle.readings.proofs.Wholes.{ofInt-value, ofInt-wide, ofInt-add}
 use Rattle.readings.proofs.Ranks.{rank-le, sub-rank}
-use Rattle.boundingbox.specs.Sides.{gapOf, nought, total}
+use Rattle.readings.specs.Number.{nought}
+use Rattle.boundingbox.specs.Sides.{gapOf, total}
 use Rattle.boundingbox.specs.Wholes.{Box, side, sumTo}
 use Rattle.boundingbox.proofs.Order.{by-rank, lt-places, not-lt-places}
 

@@ -4,7 +4,7 @@ use mathlib.Core.List.{List}
 use Prim.Native.Nat.{ℕ, _≤_, _<_}
 use lib.Ieee.{Float}
 use Rattle.boundingbox.specs.Ends.{channel}
-use Rattle.boundingbox.specs.Sides.{nought}
+use Rattle.readings.specs.Number.{nought}
 
 -- A box or a point has room for n channels, and a tree of d channels leaves +0.0 in the others.
 abbrev pub Padded : List Float → ℕ → ℕ → Type 0

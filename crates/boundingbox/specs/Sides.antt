@@ -1,14 +1,10 @@
 -- The sides of a box as floats, and their sum. Definitions.
 use Prim.Native.Nat.{ℕ, zero, suc}
-use mathlib.Core.Bool.{false, cond}
+use mathlib.Core.Bool.{cond}
 use mathlib.Core.List.{List}
-use lib.IntN.{pos}
-use lib.Ieee.{Float, fin, binary32, binary64, add, sub, lt}
+use lib.Ieee.{Float, binary32, binary64, add, sub, lt}
 use Rattle.boundingbox.specs.Ends.{channel}
-
--- +0.0, in either format
-abbrev pub nought : Float
-nought = fin false 0 (pos 0)
+use Rattle.readings.specs.Number.{nought}
 
 -- How far b lies above a, and 0 where it does not: boundingbox.rs's `(y - x) as f64` where x is below y, the f32 difference, which the cast keeps.
 unfoldable pub gapOf : Float → Float → Float

@@ -19,10 +19,10 @@ use Rattle.cuttree.proofs.Steps.{toward, rejoin, along}
 use Rattle.cuttree.proofs.Orders.{End, end-swap}
 use Rattle.cuttree.proofs.Boxes.{end-rejoin}
 use Rattle.cuttree.proofs.Heights.{sub-top, replace-top, sub-down, replace-down, by-height, end-up}
-use Rattle.wholetree.specs.Number.{Number}
+use Rattle.readings.specs.Number.{Number}
 use Rattle.wholetree.specs.Reading.{Reading, coordinate}
 use Rattle.wholetree.specs.Whole.{whole, tab, ends}
-use Rattle.wholetree.proofs.Numbers.{same-number}
+use Rattle.readings.proofs.Ordered.{same-number}
 use Rattle.wholetree.proofs.Readings.{tab-length, tab-at}
 use Rattle.layout.specs.Slots.{slot, lowOf, highOf, boxEnds}
 use Rattle.layout.specs.Layout.{boxIn, noBoxEnds}

@@ -19,10 +19,10 @@ use Rattle.boundingbox.proofs.Held.{contains-unchanged}
 use Rattle.cuttree.specs.Setting.{Cut}
 use Rattle.cuttree.specs.Tree.{Tree, height, lo}
 use Rattle.cuttree.specs.Walk.{sub, graft}
-use Rattle.wholetree.specs.Number.{isNumber, Number}
+use Rattle.readings.specs.Number.{isNumber, Number}
 use Rattle.wholetree.specs.Reading.{Reading, coordinate}
 use Rattle.wholetree.specs.Whole.{whole}
-use Rattle.wholetree.proofs.Numbers.{number-num, same-key}
+use Rattle.readings.proofs.Ordered.{number-num, same-key}
 use Rattle.wholetree.proofs.Readings.{tab-length, tab-at, coordinate-is}
 use Rattle.layout.specs.Slots.{lowOf, highOf, boxEnds}
 use Rattle.layout.proofs.Trails.{path-node}

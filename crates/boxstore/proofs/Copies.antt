@@ -12,7 +12,7 @@ use Rattle.cuttree.specs.Walk.{sub, replace}
 use Rattle.cuttree.proofs.Orders.{End}
 use Rattle.cuttree.proofs.Heights.{sub-sub, sub-leaf, sum-replace}
 use Rattle.cuttree.proofs.Edits.{leafWith, copy-replace, less-replace}
-use Rattle.wholetree.specs.Number.{Number}
+use Rattle.readings.specs.Number.{Number}
 use Rattle.wholetree.specs.Reading.{Reading}
 use Rattle.wholetree.specs.Whole.{whole}
 use Rattle.wholetree.proofs.Readings.{tab-length, tab-at}

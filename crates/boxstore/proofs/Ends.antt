@@ -9,10 +9,10 @@ use Rattle.boundingbox.specs.Ends.{joined, least as leastFloat, greatest as gre
 use Rattle.cuttree.specs.Tree.{Tree, lo, hi, least, most}
 use Rattle.cuttree.proofs.Tests.{clash}
 use Rattle.cuttree.proofs.Orders.{End, least-end as least-of, most-end as most-of}
-use Rattle.wholetree.specs.Number.{Number}
+use Rattle.readings.specs.Number.{Number}
 use Rattle.wholetree.specs.Reading.{Reading, coordinate}
 use Rattle.wholetree.specs.Whole.{whole, tab, ends}
-use Rattle.wholetree.proofs.Numbers.{not-le, le-total, le-antisym}
+use Rattle.readings.proofs.Ordered.{not-le, le-total, le-antisym}
 use Rattle.wholetree.proofs.Readings.{row-length, coordinate-is}
 use Rattle.wholetree.proofs.Laws.{whole-laws}
 use Rattle.layout.specs.Slots.{boxEnds}

@@ -14,7 +14,7 @@ use Rattle.cuttree.proofs.Intervals.{is-same}
 use Rattle.cuttree.proofs.Orders.{End, end-comm, end-swap, end-before-it}
 use Rattle.cuttree.proofs.Nodes.{here}
 use Rattle.cuttree.proofs.Heights.{height-sub, sub-sub, sub-leaf, sum-replace, end-up}
-use Rattle.wholetree.specs.Number.{Number}
+use Rattle.readings.specs.Number.{Number}
 use Rattle.wholetree.specs.Reading.{Reading, coordinate}
 use Rattle.wholetree.specs.Whole.{whole, tab}
 use Rattle.wholetree.proofs.Readings.{same-is}

@@ -20,7 +20,7 @@ use Rattle.cuttree.proofs.Orders.{End, end-swap}
 use Rattle.cuttree.proofs.Boxes.{end-above}
 use Rattle.cuttree.proofs.Heights.{height-sub, sub-sub, sum-replace}
 use Rattle.cuttree.proofs.Nodes.{In, here, left, right}
-use Rattle.wholetree.specs.Number.{Number}
+use Rattle.readings.specs.Number.{Number}
 use Rattle.wholetree.specs.Reading.{Reading, coordinate}
 use Rattle.wholetree.specs.Whole.{whole, tab}
 use Rattle.layout.specs.Slots.{uses, slot, lowOf, highOf, boxEnds}

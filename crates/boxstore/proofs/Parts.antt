@@ -12,7 +12,7 @@ use Rattle.boundingbox.specs.Ends.{joined, least as leastFloat, greatest as gre
 use Rattle.cuttree.specs.Setting.{Cut}
 use Rattle.cuttree.specs.Tree.{Tree, leaf, branch, id, least, most, lo, hi}
 use Rattle.cuttree.proofs.Orders.{end-assoc}
-use Rattle.wholetree.specs.Number.{Number}
+use Rattle.readings.specs.Number.{Number}
 use Rattle.wholetree.specs.Whole.{whole}
 use Rattle.layout.specs.Slots.{boxEnds}
 use Rattle.layout.specs.Stands.{Once}

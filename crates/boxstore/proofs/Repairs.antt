@@ -25,10 +25,10 @@ use Rattle.cuttree.proofs.Orders.{End, end-same}
 use Rattle.cuttree.proofs.Heights.{height-sub, sub-sub}
 use Rattle.cuttree.proofs.Edits.{last-lifted}
 use Rattle.cuttree.proofs.Nodes.{In, here, left, right, in-trans, all-in}
-use Rattle.wholetree.specs.Number.{Number, zero}
+use Rattle.readings.specs.Number.{Number, zero}
 use Rattle.wholetree.specs.Reading.{Reading, coordinate}
 use Rattle.wholetree.specs.Whole.{whole}
-use Rattle.wholetree.proofs.Numbers.{same-number, not-le}
+use Rattle.readings.proofs.Ordered.{same-number, not-le}
 use Rattle.wholetree.proofs.Readings.{tab-at, coordinate-is}
 use Rattle.layout.specs.Slots.{lowOf, highOf, boxEnds, uses, slot}
 use Rattle.layout.specs.Layout.{noBoxEnds}

@@ -9,7 +9,7 @@ use Rattle.limits.specs.Limits.{width, branchLimit}
 use Rattle.boundingbox.specs.Contained.{strictlyContains}
 use Rattle.boundingbox.specs.declared.BoundingBox.{BoundingBox}
 use Rattle.cuttree.specs.Tree.{Tree, id, least, most, lo, hi}
-use Rattle.wholetree.specs.Number.{Number}
+use Rattle.readings.specs.Number.{Number}
 use Rattle.wholetree.specs.Whole.{whole, ends}
 use Rattle.layout.specs.Slots.{lowOf, highOf}
 use Rattle.boxstore.specs.Boxed.{sideIn, Boxed, SomeBoxed}

@@ -19,7 +19,8 @@ use Rattle.readings.proofs.Values.{mul-value}
 use Rattle.readings.proofs.Wholes.{ofInt-value, ofInt-add}
 use Rattle.readings.proofs.Ranks.{lt-rank}
 use Rattle.boundingbox.specs.Ends.{channel}
-use Rattle.boundingbox.specs.Sides.{nought, rangeSum}
+use Rattle.readings.specs.Number.{nought}
+use Rattle.boundingbox.specs.Sides.{rangeSum}
 use Rattle.boundingbox.specs.Contained.{every, stays, contains}
 use Rattle.boundingbox.specs.Wholes.{side, sumTo}
 use Rattle.boundingbox.proofs.Sums.{nought-is, sum-fits, whole-eq}

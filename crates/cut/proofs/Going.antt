@@ -17,7 +17,7 @@ use Rattle.readings.proofs.Tests.{leb-iff, leb-yes, no, pow-le-back}
 use Rattle.readings.proofs.Keys.{value-unique}
 use Rattle.readings.proofs.Values.{scaled-exact, sum-minus, scale-up, lt-value, zero-value}
 use Rattle.readings.proofs.Wholes.{ofInt-value}
-use Rattle.boundingbox.specs.Sides.{nought}
+use Rattle.readings.specs.Number.{nought}
 use Rattle.boundingbox.specs.Wholes.{sumTo}
 use Rattle.boundingbox.proofs.Sums.{sumTo-next}
 use Rattle.cut.specs.declared.Side.the-variants.{At}

@@ -10,7 +10,7 @@ use lib.Ieee.Positive.{num, den}
 use borrow.Table.Steps.{cases as by-test}
 use Rattle.readings.specs.Coordinate.{rank}
 use Rattle.boundingbox.specs.Ends.{channel, least, greatest}
-use Rattle.boundingbox.specs.Sides.{nought}
+use Rattle.readings.specs.Number.{nought}
 use Rattle.boundingbox.specs.Contained.{every, stays, contains}
 use Rattle.boundingbox.specs.Wholes.{side, sumTo}
 use Rattle.cut.specs.declared.Cut.{Cut}

@@ -19,7 +19,7 @@ use lib.Ieee.Scale.{round-val}
 use Rattle.readings.proofs.Tests.{leb-no, split}
 use Rattle.readings.proofs.Values.{sub-value, sum-minus, sum-under, scaled-exact, scale-up, scale-down, le-value, zero-value, round-under}
 use Rattle.readings.proofs.Wholes.{ofInt-value}
-use Rattle.boundingbox.specs.Sides.{nought}
+use Rattle.readings.specs.Number.{nought}
 
 -- ---- the range: q / 2 ^ k
 pub record Range (r : Float) (q k : ℕ) : Type 0 where

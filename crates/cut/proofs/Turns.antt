@@ -8,7 +8,8 @@ use mathlib.Core.Bool.{Bool, true, false}
 use lib.Ieee.{Float, binary64, add, mul, eq}
 use borrow.Table.Steps.{cases as by-test}
 use Rattle.readings.specs.Word.{factorOf}
-use Rattle.boundingbox.specs.Sides.{nought, rangeSum}
+use Rattle.readings.specs.Number.{nought}
+use Rattle.boundingbox.specs.Sides.{rangeSum}
 use Rattle.cut.specs.declared.Cut.{Cut}
 use Rattle.cut.specs.declared.Separation.the-variants.{NoCut, Drawn}
 use Rattle.cut.specs.declared.Side.{Side}

@@ -7,7 +7,8 @@ use lib.Ieee.{Float, binary32, binary64, add, sub, mul, lt, le, eq}
 use Rattle.readings.specs.Word.{factorOf}
 use Rattle.readings.specs.Narrow.{narrowed}
 use Rattle.boundingbox.specs.Ends.{channel, least, greatest}
-use Rattle.boundingbox.specs.Sides.{nought, gapOf, total, rangeSum}
+use Rattle.readings.specs.Number.{nought}
+use Rattle.boundingbox.specs.Sides.{gapOf, total, rangeSum}
 use Rattle.cut.specs.declared.Cut.{Cut}
 use Rattle.cut.specs.declared.Separation.{Separation}
 use Rattle.cut.specs.declared.Separation.the-variants.{NoCut, Drawn}

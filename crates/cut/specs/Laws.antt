@@ -8,7 +8,8 @@ use lib.Ieee.{Float, lt, le, eq}
 use lib.Ieee.Exact.{HasValue}
 use Rattle.readings.specs.Coordinate.{isCoordinate}
 use Rattle.boundingbox.specs.Ends.{channel}
-use Rattle.boundingbox.specs.Sides.{nought, rangeSum}
+use Rattle.readings.specs.Number.{nought}
+use Rattle.boundingbox.specs.Sides.{rangeSum}
 use Rattle.boundingbox.specs.Contained.{contains}
 use Rattle.boundingbox.specs.Wholes.{Box, side, sumTo}
 use Rattle.cut.specs.declared.Cut.{Cut}

@@ -19,7 +19,7 @@ use Rattle.cut.specs.Draw.{separation}
 use Rattle.cut.specs.Laws.{Readings}
 use Rattle.cuttree.specs.Tree.{Tree}
 use Rattle.cuttree.specs.Walk.{sub}
-use Rattle.wholetree.specs.Number.{zero as zeroNumber}
+use Rattle.readings.specs.Number.{zero as zeroNumber}
 use Rattle.wholetree.specs.Reading.{Reading}
 use Rattle.wholetree.specs.Whole.{whole}
 use Rattle.wholetree.proofs.Boxes.{tree-box}

@@ -16,7 +16,7 @@ use Rattle.cuttree.specs.Tree.{Tree, lo, hi, height, walk, ending, parted, draw
 use Rattle.cuttree.specs.Walk.{sub, kept}
 use Rattle.cuttree.proofs.Heights.{sub-leaf}
 use Rattle.cuttree.proofs.Loop.{Inside, kept-inside}
-use Rattle.wholetree.specs.Number.{zero as zeroNumber, number}
+use Rattle.readings.specs.Number.{zero as zeroNumber, number}
 use Rattle.wholetree.specs.Reading.{Reading}
 use Rattle.wholetree.specs.Whole.{whole, cutIn}
 use Rattle.wholetree.specs.Box.{CoordinateBox, partedIn}

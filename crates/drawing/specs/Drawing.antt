@@ -8,7 +8,7 @@ use Rattle.limits.specs.Limits.{capacityLimit, pointLimit}
 use Rattle.cuttree.specs.Setting.{Cut}
 use Rattle.cuttree.specs.Tree.{Tree, walk, ending}
 use Rattle.cuttree.specs.Walk.{sub, kept}
-use Rattle.wholetree.specs.Number.{zero}
+use Rattle.readings.specs.Number.{zero}
 use Rattle.wholetree.specs.Reading.{Reading}
 use Rattle.wholetree.specs.Whole.{whole}
 use Rattle.layout.specs.Slots.{lowOf, highOf}

@@ -7,7 +7,7 @@ use lib.Dec.{ltb}
 use lib.ListN.{replicate}
 use lib.Ieee.{Float}
 use Rattle.limits.specs.Limits.{width, pointLimit}
-use Rattle.boundingbox.specs.Sides.{nought}
+use Rattle.readings.specs.Number.{nought}
 use Rattle.cuttree.specs.Tree.{Tree, id}
 use Rattle.wholetree.specs.Reading.{Reading}
 use Rattle.wholetree.specs.Whole.{whole, tab}

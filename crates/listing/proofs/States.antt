@@ -11,7 +11,7 @@ use lib.Ieee.{Float, nan, binary32, toBits}
 use borrow.Author.Tests.{eqb-true, eqb-false}
 use Rattle.limits.specs.Limits.{width, capacityLimit, branchLimit, pointLimit}
 use Rattle.readings.specs.Share.{isShare}
-use Rattle.boundingbox.specs.Sides.{nought}
+use Rattle.readings.specs.Number.{nought}
 use Rattle.lines.specs.Lines.{namesLine, Wrote}
 use Rattle.lines.proofs.Lengths.{branch-few, leaf-few}
 use Rattle.lines.proofs.Writes.{then}

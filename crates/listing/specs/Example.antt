@@ -13,7 +13,7 @@ use Rattle.cut.specs.Draw.{outsideOf, outsideSum, sideOf, rangeOf, reaches, lef
 use Rattle.intervalstoremanager.specs.Stack as Stack
 use Rattle.lines.specs.Lines.{digit, decimalIn, decimal, hex, branchLine, leafLine, namesLine}
 use Rattle.cuttree.specs.Run.{Call, put, add as addCall, fresh, worldAfter}
-use Rattle.wholetree.specs.Number.{isNumber, asNumber, zero, number}
+use Rattle.readings.specs.Number.{isNumber, asNumber, zero, number}
 use Rattle.wholetree.specs.Reading.{isCoordinate32, isRow, coordinate, sameRow, padded, origin, asReading, reading}
 use Rattle.wholetree.specs.Whole.{whole, tab}
 use Rattle.wholetree.specs.Listed.{floats}

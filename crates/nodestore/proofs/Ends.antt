@@ -11,7 +11,7 @@ use lib.ListN.{getD, take, set}
 use lib.Ieee.{Float}
 use borrow.Author.Tests.{lt-ltb, le-ltb, eq-eqb, ne-eqb}
 use Rattle.limits.specs.Limits.{branchLimit, pointLimit, totalLimit}
-use Rattle.boundingbox.specs.Sides.{nought}
+use Rattle.readings.specs.Number.{nought}
 use Rattle.cuttree.specs.Setting.{Setting}
 use Rattle.cuttree.specs.Tree.{Tree, leaf, branch, id, ending, height, total, addCopy, forget, freed}
 use Rattle.cuttree.specs.Walk.{sibling, replace}

@@ -10,7 +10,7 @@ use lib.ListN.{getD, take, set}
 use lib.Ieee.{Float}
 use borrow.Author.Tests.{eqb-true, lt-ltb, le-ltb}
 use Rattle.limits.specs.Limits.{branchLimit, pointLimit}
-use Rattle.boundingbox.specs.Sides.{nought}
+use Rattle.readings.specs.Number.{nought}
 use Rattle.cuttree.specs.Setting.{Setting, Cut, below}
 use Rattle.cuttree.specs.Tree.{Tree, leaf, branch, is, id, height, walk, total, lags, mass, above}
 use Rattle.cuttree.specs.Walk.{sub, replace, graft}

@@ -11,7 +11,7 @@ use lib.Seq.{getD-set-same, getD-set-other}
 use lib.Ieee.{Float, nan}
 use borrow.Author.Tests.{eqb-true, eqb-false, ltb-true, ltb-false}
 use Rattle.limits.specs.Limits.{capacityLimit, branchLimit}
-use Rattle.boundingbox.specs.Sides.{nought}
+use Rattle.readings.specs.Number.{nought}
 use Rattle.cuttree.specs.Setting.{Setting}
 use Rattle.cuttree.specs.Tree.{Tree, leaf, branch, id, height, walk, mass}
 use Rattle.cuttree.specs.Walk.{sub, replace}

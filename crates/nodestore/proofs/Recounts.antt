@@ -10,7 +10,7 @@ use lib.ListN.{take, set}
 use lib.Ieee.{Float}
 use borrow.Author.Tests.{ltb-true, ltb-false}
 use Rattle.limits.specs.Limits.{branchLimit, pointLimit}
-use Rattle.boundingbox.specs.Sides.{nought}
+use Rattle.readings.specs.Number.{nought}
 use Rattle.cuttree.specs.Setting.{Setting}
 use Rattle.cuttree.specs.Tree.{Tree, id, ending, height, walk}
 use Rattle.cuttree.specs.Walk.{sub, replace}

@@ -9,7 +9,7 @@ use lib.Dec.{eqb}
 use lib.ListN.{take, set}
 use lib.Ieee.{Float}
 use Rattle.limits.specs.Limits.{branchLimit, pointLimit, totalLimit}
-use Rattle.boundingbox.specs.Sides.{nought}
+use Rattle.readings.specs.Number.{nought}
 use Rattle.cuttree.specs.Setting.{Setting}
 use Rattle.cuttree.specs.Tree.{Tree, is, id, ending, height, walk}
 use Rattle.cuttree.specs.Walk.{sub, sibling, replace}

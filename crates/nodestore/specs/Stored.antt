@@ -6,7 +6,7 @@ use mathlib.Core.List.{List}
 use Prim.Native.Nat.{ℕ, _+_, _≤_, _<_, _-_}
 use lib.Ieee.{Float}
 use Rattle.limits.specs.Limits.{width, capacityLimit, branchLimit, pointLimit, totalLimit}
-use Rattle.boundingbox.specs.Sides.{nought}
+use Rattle.readings.specs.Number.{nought}
 use Rattle.cut.specs.declared.Cut.{Cut}
 use Rattle.cuttree.specs.Setting.{Cut as CutOf, below}
 use Rattle.cuttree.specs.Tree.{Tree, is, ending, height, walk, total, sum, All}

@@ -14,7 +14,7 @@ ghost use lib.Dec.{eqb};
 ghost use lib.ListN.{length, getD, set, take};
 ghost use lib.Ieee.{Float};
 ghost use Rattle.limits.specs.Limits.{width, capacityLimit, branchLimit, pointLimit, totalLimit};
-ghost use Rattle.boundingbox.specs.Sides.{nought};
+ghost use Rattle.readings.specs.Number.{nought};
 ghost use Rattle.cuttree.specs.Tree.{Tree, leaf, id, leafMass, addCopy, forget, freed};
 ghost use Rattle.cuttree.specs.Setting.{Cut as CutOf};
 ghost use Rattle.cuttree.specs.Walk.{graft};

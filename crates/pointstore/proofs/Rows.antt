@@ -15,7 +15,7 @@ use lib.Ieee.Bits.{is-true}
 use Rattle.limits.specs.Limits.{width}
 use Rattle.readings.specs.Coordinate.{isCoordinate}
 use Rattle.boundingbox.specs.Ends.{channel}
-use Rattle.boundingbox.specs.Sides.{nought}
+use Rattle.readings.specs.Number.{nought}
 use Rattle.wholetree.specs.Reading.{isCoordinate32, padded}
 use Rattle.wholetree.specs.Whole.{allCoordinates}
 use Rattle.wholetree.proofs.Readings.{padded-length, padded-at, padded-beyond}

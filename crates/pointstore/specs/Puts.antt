@@ -8,7 +8,7 @@ use lib.ListN.{length, getD, set}
 use lib.Ieee.{Float}
 use Rattle.limits.specs.Limits.{width, pointLimit}
 use Rattle.boundingbox.specs.Ends.{channel}
-use Rattle.boundingbox.specs.Sides.{nought}
+use Rattle.readings.specs.Number.{nought}
 use Rattle.cuttree.specs.Sound.{Sound}
 use Rattle.cuttree.specs.Run.{World, put, call, Answer, refused, written, added, deleted, copiesAre, branchIs, boxIs, numberOf}
 use Rattle.wholetree.specs.Reading.{padded}

@@ -8,7 +8,7 @@ use lib.ListN.{getD}
 use lib.Ieee.{Float, nan}
 use Rattle.limits.specs.Limits.{width, branchLimit, pointLimit}
 use Rattle.boundingbox.specs.Padding.{Padded}
-use Rattle.boundingbox.specs.Sides.{nought}
+use Rattle.readings.specs.Number.{nought}
 use Rattle.cuttree.specs.Tree.{Tree, leaf, branch, is, id, sum, All, OfTree, leaves}
 use Rattle.cuttree.specs.Run.{World}
 use Rattle.cuttree.specs.Sound.{Sound}

@@ -9,7 +9,7 @@ use lib.Ieee.{Float}
 use borrow.Author.Tests.{leb-true}
 use Rattle.limits.specs.Limits.{width, capacityLimit, branchLimit, pointLimit}
 use Rattle.readings.specs.Share.{isShare}
-use Rattle.boundingbox.specs.Sides.{nought}
+use Rattle.readings.specs.Number.{nought}
 use Rattle.cuttree.specs.Run.{fresh}
 use Rattle.cuttree.proofs.Tests.{by-test, by-cond, clash, nonsense}
 use Rattle.randomcuttree.proofs.Reaches.{reachable-fresh}

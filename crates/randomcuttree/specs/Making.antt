@@ -9,7 +9,7 @@ use lib.ListN.{replicate}
 use lib.Ieee.{Float}
 use Rattle.limits.specs.Limits.{width, capacityLimit, branchLimit, pointLimit}
 use Rattle.readings.specs.Share.{isShare}
-use Rattle.boundingbox.specs.Sides.{nought}
+use Rattle.readings.specs.Number.{nought}
 use Rattle.intervalstoremanager.specs.Stack as Stack
 use Rattle.intervalstoremanager.specs.Rows as Rows
 use Rattle.cuttree.specs.Run.{fresh}

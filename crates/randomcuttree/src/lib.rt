@@ -22,7 +22,7 @@ ghost use Prim.Native.Nat.{_<_};
 ghost use lib.Dec.{leb};
 ghost use lib.ListN.{getD, replicate};
 ghost use Rattle.limits.specs.Limits.{branchLimit, pointLimit};
-ghost use Rattle.boundingbox.specs.Sides.{nought};
+ghost use Rattle.readings.specs.Number.{nought};
 ghost use Rattle.layout.specs.Layout.{noRow, noEnds};
 ghost use Rattle.treestore.specs.Arrays.{lent};
 ghost use Rattle.randomcuttree.specs.State.{headed, SomeState};

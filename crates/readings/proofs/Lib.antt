@@ -11,3 +11,4 @@ pub mod Narrows
 pub mod CoordinateBits
 pub mod WeightBits
 pub mod NarrowBits
+pub mod Ordered

@@ -3,3 +3,4 @@ pub mod Weight
 pub mod Share
 pub mod Word
 pub mod Narrow
+pub mod Number

@@ -11,7 +11,7 @@ use Rattle.cuttree.specs.Setting.{Cut}
 use Rattle.cuttree.specs.Tree.{Tree, lo, hi, parted}
 use Rattle.cuttree.specs.Walk.{sub, kept}
 use Rattle.cuttree.proofs.Tests.{by-cond}
-use Rattle.wholetree.specs.Number.{Number}
+use Rattle.readings.specs.Number.{Number}
 use Rattle.wholetree.specs.Reading.{Reading}
 use Rattle.wholetree.specs.Whole.{whole, ends, cutIn}
 use Rattle.drawing.specs.Drawing.{noCut}

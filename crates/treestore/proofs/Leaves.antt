@@ -8,7 +8,7 @@ use native.Mathlib.Omega.{arith}
 use lib.Dec.{ltb}
 use lib.Ieee.{Float}
 use Rattle.limits.specs.Limits.{branchLimit, pointLimit}
-use Rattle.boundingbox.specs.Sides.{nought}
+use Rattle.readings.specs.Number.{nought}
 use Rattle.intervalstoremanager.specs.declared.IntervalStoreManager.{IntervalStoreManager}
 use Rattle.intervalstoremanager.specs.Rows as Rows
 use Rattle.cuttree.specs.Tree.{Tree, leaf, branch, height}

@@ -6,7 +6,7 @@ use Prim.Native.Nat.{ℕ, _-_}
 use lib.ListN.{length}
 use lib.Ieee.{Float}
 use Rattle.limits.specs.Limits.{branchLimit, pointLimit}
-use Rattle.boundingbox.specs.Sides.{nought}
+use Rattle.readings.specs.Number.{nought}
 use Rattle.intervalstoremanager.specs.declared.IntervalStoreManager.{IntervalStoreManager}
 use Rattle.intervalstoremanager.specs.Rows as Rows
 use Rattle.cuttree.specs.Tree.{Tree}

@@ -8,11 +8,11 @@ use lib.Ieee.{lt, le}
 use Rattle.boundingbox.specs.Ends.{least as leastFloat, greatest}
 use Rattle.cuttree.specs.Tree.{Tree, leaf, branch, least, most, end, lo, hi}
 use Rattle.cuttree.proofs.Orders.{End, least-end, most-end}
-use Rattle.wholetree.specs.Number.{Number, zero}
+use Rattle.readings.specs.Number.{Number, zero}
 use Rattle.wholetree.specs.Reading.{isCoordinate32, coordinate}
 use Rattle.wholetree.specs.Whole.{whole}
 use Rattle.wholetree.specs.Box.{CoordinateBox}
-use Rattle.wholetree.proofs.Numbers.{not-le, le-refl, le-trans, le-total, le-antisym}
+use Rattle.readings.proofs.Ordered.{not-le, le-refl, le-trans, le-total, le-antisym}
 use Rattle.wholetree.proofs.Readings.{coordinate-at, coordinate-beyond}
 use Rattle.wholetree.proofs.Laws.{whole-laws}
 

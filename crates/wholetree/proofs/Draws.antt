@@ -29,11 +29,11 @@ use Rattle.cut.proofs.AsDocument.{as-document, some-side}
 use Rattle.cut.proofs.Within.{within-side}
 use Rattle.cuttree.specs.Setting.{CutOf, parts}
 use Rattle.cuttree.proofs.Tests.{by-cond, by-test, nonsense}
-use Rattle.wholetree.specs.Number.{isNumber, Number, zero, number}
+use Rattle.readings.specs.Number.{isNumber, Number, zero, number}
 use Rattle.wholetree.specs.Reading.{isCoordinate32, Reading, coordinate}
 use Rattle.wholetree.specs.Whole.{ends, cutIn, whole}
 use Rattle.wholetree.specs.Box.{CoordinateBox, partedIn, TreeCut}
-use Rattle.wholetree.proofs.Numbers.{number-is, not-le, le-refl, le-trans}
+use Rattle.readings.proofs.Ordered.{number-is, not-le, le-refl, le-trans}
 use Rattle.wholetree.proofs.Readings.{every-at, tab-length, tab-at, of-coordinate, row-length, row-at, coordinate-is, coordinate-beyond}
 use Rattle.wholetree.proofs.Zeros.{round-sign, placed-number}
 

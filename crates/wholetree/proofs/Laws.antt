@@ -11,11 +11,11 @@ use Rattle.cut.proofs.AsDocument.{as-document}
 use Rattle.cut.proofs.Within.{leaf-parts}
 use Rattle.cuttree.specs.Setting.{Laws, parts}
 use Rattle.cuttree.proofs.Tests.{by-test, clash}
-use Rattle.wholetree.specs.Number.{Number}
+use Rattle.readings.specs.Number.{Number}
 use Rattle.wholetree.specs.Reading.{Reading, coordinate, sameRow}
 use Rattle.wholetree.specs.Whole.{ends, whole}
 use Rattle.wholetree.specs.Box.{CoordinateBox, partedIn}
-use Rattle.wholetree.proofs.Numbers.{le-refl, le-trans, le-total, le-antisym}
+use Rattle.readings.proofs.Ordered.{le-refl, le-trans, le-total, le-antisym}
 use Rattle.wholetree.proofs.Readings.{coordinate-at, coordinate-is, coordinate-beyond, same-channels, same-refl, same-cong, same-at}
 use Rattle.wholetree.proofs.Draws.{are-readings, held, parted-in}
 

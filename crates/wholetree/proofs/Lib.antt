@@ -1,4 +1,3 @@
-pub mod Numbers
 pub mod Readings
 pub mod Zeros
 pub mod Draws

@@ -15,15 +15,21 @@ use lib.Ieee.Fits.{and-i, and-l, and-r, eq→eqb}
 use Rattle.limits.specs.Limits.{width}
 use Rattle.readings.specs.Coordinate.{isCoordinate, rank}
 use Rattle.readings.proofs.Tests.{yes, no, leb-yes, leb-no}
-use Rattle.readings.proofs.Ranks.{eq-rank, eq-same}
+use Rattle.readings.proofs.Ranks.{eq-rank, eq-same, coordinate-finite, coordinate-not-minus-zero}
 use Rattle.boundingbox.specs.Ends.{channel}
-use Rattle.boundingbox.specs.Sides.{nought}
+use Rattle.readings.specs.Number.{nought, zero as zeroNumber, isNumber}
 use Rattle.boundingbox.specs.Contained.{every}
 use Rattle.cuttree.proofs.Tests.{by-test}
-use Rattle.wholetree.specs.Number.{zero as zeroNumber}
 use Rattle.wholetree.specs.Reading.{isCoordinate32, isRow, Reading, coordinate, sameRow, padded, asReading, reading}
 use Rattle.wholetree.specs.Whole.{tab, allCoordinates}
-use Rattle.wholetree.proofs.Numbers.{coordinate-number, number-is, same-number}
+use Rattle.readings.proofs.Ordered.{number-is, same-number, is-a-number}
+
+-- a coordinate is a number
+pub coordinate-number : (x : Float) → T (isCoordinate32 x) → T (isNumber x)
+unfolding isCoordinate32
+coordinate-number x t =
+    let c = and-l (isCoordinate x) (fits binary32 x) t in
+    is-a-number x (and-r (isCoordinate x) (fits binary32 x) t) (coordinate-finite x c) (coordinate-not-minus-zero x c)
 
 -- ---- a test of every channel
 pub every-at : (f : ℕ → Bool) (n i : ℕ) → T (every f n) → i < n → T (f i)

@@ -20,10 +20,10 @@ use Rattle.readings.proofs.Keys.{mag, sign, value, Num, NotMinusZero}
 use Rattle.readings.proofs.Values.{add-value}
 use Rattle.cut.specs.Draw.{moved, placed}
 use Rattle.cut.proofs.Within.{placed-num}
-use Rattle.wholetree.specs.Number.{isNumber}
+use Rattle.readings.specs.Number.{isNumber}
 use Rattle.wholetree.specs.Reading.{isCoordinate32}
-use Rattle.wholetree.proofs.Numbers.{is-a-number, coordinate-number}
-use Rattle.wholetree.proofs.Readings.{of-coordinate}
+use Rattle.readings.proofs.Ordered.{is-a-number}
+use Rattle.wholetree.proofs.Readings.{coordinate-number, of-coordinate}
 
 -- ---- rounding keeps the sign
 odd-sign-is : (d : ℕ) (s : Bool) (q k l : ℕ) → sign (odd d s q k l) ≡ s

@@ -9,7 +9,7 @@ use Rattle.cut.specs.declared.Cut.{Cut}
 use Rattle.cut.specs.declared.Separation.{Separation}
 use Rattle.cut.specs.declared.Separation.the-variants.{NoCut, Drawn}
 use Rattle.cuttree.specs.Setting.{parts}
-use Rattle.wholetree.specs.Number.{isNumber, Number, zero, number}
+use Rattle.readings.specs.Number.{isNumber, Number, zero, number}
 use Rattle.wholetree.specs.Reading.{isCoordinate32, Reading}
 use Rattle.wholetree.specs.Whole.{cutIn, whole}
 

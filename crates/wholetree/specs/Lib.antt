@@ -1,4 +1,3 @@
-pub mod Number
 pub mod Reading
 pub mod Whole
 pub mod Box

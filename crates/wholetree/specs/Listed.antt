@@ -15,7 +15,7 @@ use Rattle.cut.specs.Draw.{outsideOf, outsideSum, sideOf, rangeOf, reaches, lef
 use Rattle.intervalstoremanager.specs.Stack as Stack
 use Rattle.cuttree.specs.Tree.{Tree, leaf, branch, id, mass}
 use Rattle.cuttree.specs.Run.{Answer, refused, written, added, deleted, copiesAre, branchIs, boxIs, Call, add as addCall, call, fresh, worldAfter}
-use Rattle.wholetree.specs.Number.{isNumber, asNumber, zero, number}
+use Rattle.readings.specs.Number.{isNumber, asNumber, zero, number}
 use Rattle.wholetree.specs.Reading.{isCoordinate32, isRow, coordinate, sameRow, padded, origin, asReading, reading}
 use Rattle.wholetree.specs.Whole.{tab, whole}
 

@@ -8,9 +8,8 @@ use lib.Ieee.{Float, binary32, fits, eq}
 use Rattle.limits.specs.Limits.{width}
 use Rattle.readings.specs.Coordinate.{isCoordinate}
 use Rattle.boundingbox.specs.Ends.{channel}
-use Rattle.boundingbox.specs.Sides.{nought}
+use Rattle.readings.specs.Number.{nought, Number, number}
 use Rattle.boundingbox.specs.Contained.{every}
-use Rattle.wholetree.specs.Number.{Number, number}
 
 -- an f32 that is one of document 01's coordinates
 unfoldable pub isCoordinate32 : Float → Bool

@@ -10,7 +10,7 @@ use Rattle.cut.specs.declared.Separation.{Separation}
 use Rattle.cut.specs.declared.Separation.the-variants.{NoCut, Drawn}
 use Rattle.cut.specs.Draw.{separation}
 use Rattle.cuttree.specs.Setting.{Setting, CutOf}
-use Rattle.wholetree.specs.Number.{Number, zero as zeroNumber, number}
+use Rattle.readings.specs.Number.{Number, zero as zeroNumber, number}
 use Rattle.wholetree.specs.Reading.{isCoordinate32, Reading, coordinate, sameRow, reading}
 
 -- f of 0 to n − 1

@@ -4,7 +4,7 @@ use mathlib.Core.Path.{refl}
 use mathlib.Core.Logic.{⊎-elim}
 use Prim.Native.Nat.{_-_}
 use lib.Ieee.{ofBits}
-use Rattle.wholetree.specs.Number.{zero}
+use Rattle.readings.specs.Number.{zero}
 use Rattle.drawing.proofs.Going.{Going, going-starts, going-readings, going-numbers, kept-held, kept-last, some-side, going-on}
 use borrow.Author.Needs.{needs}
 use Rattle.drawing.proofs.highest_cut.Statement.{statement}

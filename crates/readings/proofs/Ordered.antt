@@ -1,4 +1,4 @@
--- The numbers of a tree: one is known by its value, and they are ordered as the keys of their values are, so in a total order.
+-- Numbers: one is known by its value, and they are ordered as the keys of their values are, so in a total order.
 use mathlib.Core.Path.{_≡_, refl, sym, ap, _∙_, subst}
 use mathlib.Core.HLevel.{isProp→PathP}
 use mathlib.Core.Bool.{Bool, true, false, not, _&&_, false≢true}
@@ -9,12 +9,9 @@ use lib.Dec.{T, T-prop, leb, ltb, eqb, leb→le, nleb→lt, ltb→lt, lt→ltb, 
 use lib.Ieee.{Float, nan, inf, fin, binary32, up, down, fits, lt, le}
 use lib.Ieee.Fits.{up-pos, fits-widens, and-i, and-l, and-r}
 use lib.Ieee.Scale.{finite}
-use Rattle.readings.specs.Coordinate.{isCoordinate}
 use Rattle.readings.proofs.Tests.{yes, no, same-test, leb-yes, leb-no}
 use Rattle.readings.proofs.Keys.{mag, key, value, Num, NotMinusZero, num-of-fits, key-same, le-key, lt-key}
-use Rattle.readings.proofs.Ranks.{coordinate-finite, coordinate-not-minus-zero}
-use Rattle.wholetree.specs.Number.{isNumber, Number, asNumber, number}
-use Rattle.wholetree.specs.Reading.{isCoordinate32}
+use Rattle.readings.specs.Number.{isNumber, Number, asNumber, number}
 
 -- ---- which floats are numbers: the finite f32s that are not minus zero
 pub number-fits : (x : Float) → T (isNumber x) → T (fits binary32 x)
@@ -52,13 +49,6 @@ is-a-number (fin s m e) f t n = and-i (fits binary32 (fin s m e)) (not (s && eqb
     go : (s : Bool) (m : ℕ) → NotMinusZero (fin s m e) → T (s && eqb m 0) → ⊥
     go true m n z = n refl (ap (λ (i : ℕ). i * up e * 2 ^ 1074 / down e) (eqb→eq m 0 z) ∙ ap (λ (i : ℕ). i * 2 ^ 1074 / down e) (zero-mul (up e)) ∙ zero-div (down e))
     go false m n z = z
-
--- a coordinate is a number
-pub coordinate-number : (x : Float) → T (isCoordinate32 x) → T (isNumber x)
-unfolding isCoordinate32
-coordinate-number x t =
-    let c = and-l (isCoordinate x) (fits binary32 x) t in
-    is-a-number x (and-r (isCoordinate x) (fits binary32 x) t) (coordinate-finite x c) (coordinate-not-minus-zero x c)
 
 -- ---- a number by its value
 pub same-number : (a b : Number) → a .value ≡ b .value → a ≡ b

@@ -1,8 +1,12 @@
--- A number that can stand in a tree: a coordinate of a point, an end of a box, or the value of a cut. Definitions.
+-- A number: an f32 that is finite and not minus zero. Coordinates, ends of boxes, values of cuts and weights are numbers. Definitions.
 use mathlib.Core.Bool.{Bool, true, false, not, _&&_}
 use lib.Dec.{T, eqb}
+use lib.IntN.{pos}
 use lib.Ieee.{Float, nan, inf, fin, binary32, fits}
-use Rattle.boundingbox.specs.Sides.{nought}
+
+-- +0.0, in either format
+abbrev pub nought : Float
+nought = fin false 0 (pos 0)
 
 -- finite, an f32, and not minus zero: on these the order of the floats is that of the numbers, and equal numbers are the same float
 unfoldable pub isNumber : Float → Bool
