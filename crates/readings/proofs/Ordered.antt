@@ -63,9 +63,6 @@ number-is x t = go (isNumber x) (λ t. t) t
     go true f t = refl
     go false f t = absurd t
 
-pub number-value : (a : Number) → number (a .value) ≡ a
-number-value a = same-number (number (a .value)) a (number-is (a .value) (a .is-number))
-
 pub value-fits : (a : Number) → T (fits binary32 (a .value))
 value-fits a = number-fits (a .value) (a .is-number)
 

@@ -1,4 +1,4 @@
-// The walk of a point through a cut tree's rows, from the root to its leaf, and whether the point is that leaf's. After nodestore.rs and randomcuttree.rs.
+// The walk of a point through a cut tree's rows, from the root to its leaf, and whether two readings are the same. After nodestore.rs, and `is_equal` of pointstore.rs.
 // A path is lent, as the Rust's vector of node and sibling is.
 use casts::wide16;
 use limits::CHANNELS;
