@@ -20,8 +20,6 @@ use Rattle.cuttree.proofs.Room.{full-is, next-free, index-absent, at-none}
 use Rattle.wholetree.specs.Reading.{Reading}
 use Rattle.wholetree.specs.Whole.{whole, tab}
 use Rattle.wholetree.proofs.Laws.{whole-laws}
-use Rattle.layout.specs.Slots.{lowOf, highOf}
-use Rattle.layout.specs.Layout.{boxIn}
 use Rattle.nodestore.specs.Stored.{Arrays, Reached, SomeReached}
 use Rattle.boxstore.proofs.Copies.{copy-boxes}
 use Rattle.treestore.specs.declared.Edited.{Edited}

@@ -18,7 +18,7 @@ use Rattle.cuttree.proofs.Room.{uses-in, number-below, index-below}
 use Rattle.wholetree.specs.Reading.{Reading}
 use Rattle.wholetree.specs.Whole.{whole, tab}
 use Rattle.wholetree.proofs.Laws.{whole-laws}
-use Rattle.layout.specs.Slots.{slot, rowOf, cutOf, lowOf, highOf}
+use Rattle.layout.specs.Slots.{slot, rowOf, cutOf}
 use Rattle.layout.specs.Layout.{noRow, rootOf, slotIn, countIn, boxIn, pointRow, tableOf, Table}
 use Rattle.layout.specs.Stands.{Laid, Once, InRange}
 use Rattle.layout.proofs.Tabs.{entry-of}

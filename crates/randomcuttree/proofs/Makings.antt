@@ -14,7 +14,7 @@ use Rattle.cuttree.specs.Run.{fresh}
 use Rattle.cuttree.proofs.Tests.{by-test, by-cond, clash, nonsense}
 use Rattle.randomcuttree.proofs.Reaches.{reachable-fresh}
 use Rattle.wholetree.specs.Whole.{whole}
-use Rattle.layout.specs.Layout.{noRow, noEnds, tableOf}
+use Rattle.layout.specs.Layout.{noRow, noBoxEnds, tableOf}
 use Rattle.layout.proofs.Tabs.{constant}
 use Rattle.treestore.specs.Arrays.{Lent}
 use Rattle.treestore.proofs.Leaves.{lent-is}

@@ -8,7 +8,7 @@ use Rattle.limits.specs.Limits.{branchLimit, pointLimit}
 use Rattle.readings.specs.Number.{nought}
 use Rattle.cuttree.specs.Run.{World, totalOf}
 use Rattle.wholetree.specs.Whole.{whole, tab}
-use Rattle.layout.specs.Slots.{rowOf, cutOf, lowOf, highOf}
+use Rattle.layout.specs.Slots.{rowOf, cutOf}
 use Rattle.layout.specs.Layout.{noRow, rootOf, slotIn, countIn, boxIn}
 use Rattle.treestore.specs.Arrays.{Lent}
 use Rattle.randomcuttree.specs.declared.RCFTree.{RCFTree}

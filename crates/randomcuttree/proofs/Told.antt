@@ -133,7 +133,7 @@ module _ (tree : RCFTree) (nodes : List (List ℕ)) (points : List (List Float))
       pub node : Cut (whole d) × Bool × Tree (whole d) × Tree (whole d)
       pub found : lookIn (whole d) c o x ≡ some (branch x (node .0) (node .1) (node .2) (node .3))
       pub singly : Once d c (branch x (node .0) (node .1) (node .2) (node .3))
-      pub boxes : Boxed d c k nodes points boxes (branch x (node .0) (node .1) (node .2) (node .3))
+      pub boxed-there : Boxed d c k nodes points boxes (branch x (node .0) (node .1) (node .2) (node .3))
 
     box-at : (d c : ℕ) (s : Float) (W : World (whole d)) (a : Lent) (marks : List ℕ) → State d c s W tree a points marks → BoxRead a nodes boxes → BoxAt d c (cachedBy s c) (W .tree)
     box-at d c s W a marks S e = go (W .tree) refl
@@ -151,19 +151,19 @@ module _ (tree : RCFTree) (nodes : List (List ℕ)) (points : List (List Float))
               node = (B .cut, B .lag, B .low, B .high);
               found = branch-found d c (W .table) t (W .free) H x B;
               singly = once-in d c (B .inside) (once d c (W .table) t (W .free) H);
-              boxes = boxed-in d c (cachedBy s c) nodes points boxes (B .inside) b;
+              boxed-there = boxed-in d c (cachedBy s c) nodes points boxes (B .inside) b;
             }
 
     pub some-boxed : SomeBoxRead tree nodes points boxes → (tree .capacity ≤ capacityLimit) × SomeBoxed (tree .capacity) (tree .cached) x nodes points boxes
     some-boxed w =
         let S = w .state .state in
         let B = box-at (w .state .channels) (w .state .capacity) (w .state .share) (w .state .world) (w .lent) (w .marks) S (w .read) in
-        rw (capacity-is S, cached-is S) (S .limits .3, record { channels = w .state .channels; tree = branch x (B .node .0) (B .node .1) (B .node .2) (B .node .3); at-node = refl; once = B .singly; boxed = B .boxes })
+        rw (capacity-is S, cached-is S) (S .limits .3, record { channels = w .state .channels; tree = branch x (B .node .0) (B .node .1) (B .node .2) (B .node .3); at-node = refl; once = B .singly; boxed = B .boxed-there })
 
     pub box-told : (b : BoundingBox) → BoxOf (tree .capacity) (tree .cached) x nodes points boxes b → BoxTold tree nodes points boxes x (record { refusal = 0; «bounding_box» = b })
     box-told b F d c s W a marks S e =
         let B = box-at d c s W a marks S e in
-        let w = (rw (capacity-is S, cached-is S) at F) d (branch x (B .node .0) (B .node .1) (B .node .2) (B .node .3)) refl (B .boxes) in
+        let w = (rw (capacity-is S, cached-is S) at F) d (branch x (B .node .0) (B .node .1) (B .node .2) (B .node .3)) refl (B .boxed-there) in
         rw (B .found) (answered _ _ (w .0) (w .1))
       where
         answered : (p q : List Float) → b .«min_values» ≡ p → b .«max_values» ≡ q → _≡_ {A = BoxAnswer} (record { refusal = 0; «bounding_box» = b }) (record { refusal = 0; «bounding_box» = record { «min_values» = p; «max_values» = q } })

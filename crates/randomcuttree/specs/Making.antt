@@ -14,7 +14,7 @@ use Rattle.intervalstoremanager.specs.Stack as Stack
 use Rattle.intervalstoremanager.specs.Rows as Rows
 use Rattle.cuttree.specs.Run.{fresh}
 use Rattle.wholetree.specs.Whole.{whole}
-use Rattle.layout.specs.Layout.{noRow, noEnds, tableOf}
+use Rattle.layout.specs.Layout.{noRow, noBoxEnds, tableOf}
 use Rattle.treestore.specs.Arrays.{Lent, managerOf}
 use Rattle.randomcuttree.specs.declared.RCFTree.{RCFTree}
 use Rattle.randomcuttree.specs.declared.Made.{Made}

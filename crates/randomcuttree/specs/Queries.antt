@@ -70,7 +70,7 @@ pub record BoxRead (a : Lent) (nodes : List (List ℕ)) (boxes : List (List (Lis
   pub nodes-are : a .nodes ≡ nodes
   pub boxes-are : a .boxes ≡ boxes
 
-abbrev pub BoxTold : RCFTree → List (List ℕ) → List (List Float) → List (List Float) → List (List Float) → ℕ → BoxAnswer → Type 0
+abbrev pub BoxTold : RCFTree → List (List ℕ) → List (List Float) → List (List (List Float)) → ℕ → BoxAnswer → Type 0
 BoxTold tree nodes points boxes x r =
     (d c : ℕ) (s : Float) (W : World (whole d)) (a : Lent) (marks : List ℕ) → State d c s W tree a points marks
     → BoxRead a nodes boxes → r ≡ boxSays d (ask (whole d) c W (boxOf x))

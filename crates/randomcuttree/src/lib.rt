@@ -23,7 +23,7 @@ ghost use lib.Dec.{leb};
 ghost use lib.ListN.{getD, replicate};
 ghost use Rattle.limits.specs.Limits.{branchLimit, pointLimit};
 ghost use Rattle.readings.specs.Number.{nought};
-ghost use Rattle.layout.specs.Layout.{noRow, noEnds};
+ghost use Rattle.layout.specs.Layout.{noRow, noBoxEnds};
 ghost use Rattle.treestore.specs.Arrays.{lent};
 ghost use Rattle.randomcuttree.specs.State.{headed, SomeState};
 ghost use Rattle.randomcuttree.specs.Answers.{AddDone, DeleteDone};

@@ -8,7 +8,7 @@ use native.Mathlib.Omega.{arith}
 use lib.ListN.{getD, take}
 use lib.Ieee.{Float, le}
 use Rattle.limits.specs.Limits.{width, capacityLimit, branchLimit, pointLimit}
-use Rattle.boundingbox.specs.Ends.{channel, joined, least, greatest}
+use Rattle.boundingbox.specs.Ends.{channel}
 use Rattle.intervalstoremanager.specs.declared.IntervalStoreManager.{IntervalStoreManager}
 use Rattle.intervalstoremanager.specs.declared.Got.{Got}
 use Rattle.intervalstoremanager.specs.declared.Got.the-variants.{Index, Empty}
@@ -23,12 +23,11 @@ use Rattle.wholetree.specs.Reading.{Reading, coordinate}
 use Rattle.wholetree.specs.Whole.{whole}
 use Rattle.wholetree.proofs.Readings.{coordinate-is}
 use Rattle.wholetree.proofs.Laws.{whole-laws}
-use Rattle.layout.specs.Slots.{lowOf, highOf}
+use Rattle.layout.specs.Slots.{boxEnds}
 use Rattle.layout.proofs.Ranges.{range-ending}
 use Rattle.nodestore.specs.Stored.{Arrays, Graft, SomeGraft}
-use Rattle.boxstore.specs.Edited.{Walked, Grafted, SomeGrafted, GrownAbove, boxesOf}
-use Rattle.boxstore.specs.Written.{written}
-use Rattle.boxstore.proofs.Ends.{least-end, most-end, least-ends, most-ends}
+use Rattle.boxstore.specs.Edited.{Walked, Grafted, SomeGrafted, GrownAbove}
+use Rattle.boxstore.specs.Written.{boxWith, written}
 use Rattle.boxstore.proofs.Grafts.{box-above}
 use Rattle.cut.specs.declared.Cut.{Cut as FloatCut}
 use Rattle.drawing.specs.declared.Highest.{Highest}

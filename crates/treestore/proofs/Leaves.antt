@@ -14,8 +14,8 @@ use Rattle.intervalstoremanager.specs.Rows as Rows
 use Rattle.cuttree.specs.Tree.{Tree, leaf, branch, height}
 use Rattle.wholetree.specs.Reading.{Reading}
 use Rattle.wholetree.specs.Whole.{whole, tab}
-use Rattle.layout.specs.Slots.{rowOf, cutOf, lowOf, highOf}
-use Rattle.layout.specs.Layout.{noRow, noEnds, rootOf, slotIn, countIn, boxIn}
+use Rattle.layout.specs.Slots.{rowOf, cutOf, boxEnds}
+use Rattle.layout.specs.Layout.{noRow, noBoxEnds, rootOf, slotIn, countIn, boxIn}
 use Rattle.layout.proofs.Tabs.{same-tab}
 use Rattle.layout.proofs.Slots.{slot-none}
 use Rattle.nodestore.specs.Stored.{Arrays}

@@ -22,8 +22,8 @@ use Rattle.cuttree.proofs.Leaves.{all-forget}
 use Rattle.cuttree.proofs.Edits.{leafWith, less-replace, last-alone, last-lifted, Lifted}
 use Rattle.wholetree.specs.Reading.{Reading}
 use Rattle.wholetree.specs.Whole.{whole, tab}
-use Rattle.layout.specs.Slots.{rowOf, lowOf, highOf}
-use Rattle.layout.specs.Layout.{noRow, noEnds, rootOf, boxIn}
+use Rattle.layout.specs.Slots.{rowOf}
+use Rattle.layout.specs.Layout.{noRow, noBoxEnds, rootOf, boxIn}
 use Rattle.layout.specs.Stands.{InRange}
 use Rattle.layout.proofs.Slots.{tab-laid}
 use Rattle.layout.proofs.Ranges.{range-forget}

@@ -6,7 +6,7 @@ use Rattle.randomcuttree.proofs.clear.Tie as tie
 
 returns : tie.Need-returns
 unfolding ofBits
-returns c = (refl, (refl, (refl, (refl, refl))))
+returns c = (refl, (refl, (refl, refl)))
 
 pub clear-spec : {M : Type 1} → statement M
 clear-spec = tie.close (tie.spec returns)

@@ -21,14 +21,14 @@ returns c = λ t u p G held. dropped G _ _ (c .before .before .before .if1 .take
 remove-root-requires : tie.Need-remove-root-requires
 remove-root-requires c κs = (index-low (reached (c .before .before .before .before .pre .walking)), one-copy (c .before .before .before .before .pre .walking) (c .before .before .if1 .left))
 
-sub-t27 : tie.Need-sub-t27
-sub-t27 c = omega (arith, c .before .before .before .before .before .pre .walking .some-room)
+sub-t26 : tie.Need-sub-t26
+sub-t26 c = omega (arith, c .before .before .before .before .before .pre .walking .some-room)
 
 returns-2 : tie.Need-returns-2
 returns-2 c = λ t u p G held. alone G _ (c .before .before .before .if1 .left) (c .before .before .if2 .taken) (c .remove-root .ensures .1 _ _ _ _ _ _ _ (one-row G (c .before .before .if2 .taken)))
 
 remove-last-requires : tie.Need-remove-last-requires
-remove-last-requires c κs = (c .before .before .before .before .before .before .before .before .before .pre, (c .before .before .before .before .before .before .before .if1 .left, c .before .before .before .before .before .before .if2 .left))
+remove-last-requires c κs = (c .before .before .before .before .before .before .before .before .pre, (c .before .before .before .before .before .before .if1 .left, c .before .before .before .before .before .if2 .left))
 
 returns-3 : tie.Need-returns-3
 returns-3 c = c .remove-last .ensures
@@ -42,7 +42,7 @@ remove-copy-spec =
     drop-copy-requires
     returns
     remove-root-requires
-    sub-t27
+    sub-t26
     returns-2
     remove-last-requires
     returns-3)

@@ -28,16 +28,16 @@ wide16-requires-2 c κs = search needs
 
 repair-ancestors-requires : tie.Need-repair-ancestors-requires
 repair-ancestors-requires c κs = (
-  (omega (arith, c .before .before .before .before .before .before .before .before .before .before .before .before .before .before .before .pre .0 .walking .walked .most), omega (arith, c .before .before .before .before .before .before .before .before .before .before .before .before .before .before .before .pre .0 .walking .small, c .before .before .before .before .before .before .before .before .before .before .before .before .before .before .before .pre .0 .walking .cached-few), omega (arith, c .wide162 .ensures .0, c .before .before .before .before .before .before .before .before .before .before .before .before .before .before .before .pre .0 .walking .small)),
-  some-forgotten (c .before .before .before .before .before .before .before .before .before .before .before .before .before .before .before .pre .0 .walking) (c .before .before .before .before .before .before .before .before .before .before .before .before .before .before .before .pre .0 .held) (c .before .before .before .before .before .before .before .before .before .before .before .before .before .before .before .pre .1 .0) (c .before .before .before .before .before .before .before .before .before .before .before .before .before .before .before .pre .1 .1) _ _ _ _ (c .before .before .before .before .before .before .before .before .before .before .remove-leaf .ensures _ _ _ _ (reached (c .before .before .before .before .before .before .before .before .before .before .before .before .before .before .before .pre .0 .walking)))
-      _ _ _ (c .wide162 .ensures .0) (c .before .before .before .before .before .wide16 .ensures .0) (c .before .before .before .before .clear-box .ensures),
+  (omega (arith, c .before .before .before .before .before .before .before .before .before .before .before .before .before .pre .0 .walking .walked .most), omega (arith, c .before .before .before .before .before .before .before .before .before .before .before .before .before .pre .0 .walking .small, c .before .before .before .before .before .before .before .before .before .before .before .before .before .pre .0 .walking .cached-few), omega (arith, c .wide162 .ensures .0, c .before .before .before .before .before .before .before .before .before .before .before .before .before .pre .0 .walking .small)),
+  some-forgotten (c .before .before .before .before .before .before .before .before .before .before .before .before .before .pre .0 .walking) (c .before .before .before .before .before .before .before .before .before .before .before .before .before .pre .0 .held) (c .before .before .before .before .before .before .before .before .before .before .before .before .before .pre .1 .0) (c .before .before .before .before .before .before .before .before .before .before .before .before .before .pre .1 .1) _ _ _ _ (c .before .before .before .before .before .before .before .before .remove-leaf .ensures _ _ _ _ (reached (c .before .before .before .before .before .before .before .before .before .before .before .before .before .pre .0 .walking)))
+      _ _ _ (c .wide162 .ensures .0) (c .before .before .before .before .wide16 .ensures .0) (c .before .before .before .clear-box .ensures),
 )
 
 returns : tie.Need-returns
 returns c = λ t u p G held.
-    let A = c .before .before .before .before .before .before .before .before .before .before .before .remove-leaf .ensures _ _ _ _ (reached G) in
-    removed G held (c .before .before .before .before .before .before .before .before .before .before .before .before .before .before .before .before .pre .1 .0) (c .before .before .before .before .before .before .before .before .before .before .before .before .before .before .before .before .pre .1 .1) _ _ _ _ A _ _ _ (c .before .wide162 .ensures .0) (c .before .before .before .before .before .before .wide16 .ensures .0) (c .before .before .before .before .before .clear-box .ensures) _ _ _ _
-    (c .before .before .before .before .before .before .before .before .before .before .before .before .before .before .before .lifted-root .ensures .1 _ _ _ _ _ _ _ _ (reached G) (one-copy G (c .before .before .before .before .before .before .before .before .before .before .before .before .before .before .before .before .pre .1 .0)) (G .root-is)) (back G _ (A .1) _ _ (c .before .before .before .before .before .before .before .before .before .put-back .ensures)) (c .repair-ancestors .ensures)
+    let A = c .before .before .before .before .before .before .before .before .before .remove-leaf .ensures _ _ _ _ (reached G) in
+    removed G held (c .before .before .before .before .before .before .before .before .before .before .before .before .before .before .pre .1 .0) (c .before .before .before .before .before .before .before .before .before .before .before .before .before .before .pre .1 .1) _ _ _ _ A _ _ _ (c .before .wide162 .ensures .0) (c .before .before .before .before .before .wide16 .ensures .0) (c .before .before .before .before .clear-box .ensures) _ _ _ _
+    (c .before .before .before .before .before .before .before .before .before .before .before .before .before .lifted-root .ensures .1 _ _ _ _ _ _ _ _ (reached G) (one-copy G (c .before .before .before .before .before .before .before .before .before .before .before .before .before .before .pre .1 .0)) (G .root-is)) (back G _ (A .1) _ _ (c .before .before .before .before .before .before .before .put-back .ensures)) (c .repair-ancestors .ensures)
 
 pub remove-last-spec : {M : Type 1} → statement M
 remove-last-spec =

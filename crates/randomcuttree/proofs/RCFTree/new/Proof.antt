@@ -30,31 +30,31 @@ clear-requires : tie.Need-clear-requires
 clear-requires c κs = search needs
 
 cast-c : tie.Need-cast-c
-cast-c c = let w = in-bounds 2 capacityLimit (c .before .before .before .before .before .before .before .before .before .before .before .before .args .capacity) (sym (c .before .before .before .before .before .before .before .before .before .within2 .ensures) ∙ not-false _ (c .before .before .before .before .before .before .before .before .if2 .left)) in omega arith
+cast-c c = let w = in-bounds 2 capacityLimit (c .before .before .before .before .before .before .before .before .before .before .before .args .capacity) (sym (c .before .before .before .before .before .before .before .before .within2 .ensures) ∙ not-false _ (c .before .before .before .before .before .before .before .if2 .left)) in omega arith
 
 cached-part-requires : tie.Need-cached-part-requires
 cached-part-requires c κs = search needs
 
 sub-at-most : tie.Need-sub-at-most
-sub-at-most c = let w = in-bounds 2 capacityLimit (c .before .before .before .before .before .before .before .before .before .before .before .before .before .args .capacity) (sym (c .before .before .before .before .before .before .before .before .before .before .within2 .ensures) ∙ not-false _ (c .before .before .before .before .before .before .before .before .before .if2 .left)) in omega arith
+sub-at-most c = let w = in-bounds 2 capacityLimit (c .before .before .before .before .before .before .before .before .before .before .before .before .args .capacity) (sym (c .before .before .before .before .before .before .before .before .before .within2 .ensures) ∙ not-false _ (c .before .before .before .before .before .before .before .before .if2 .left)) in omega arith
 
 at-most-requires : tie.Need-at-most-requires
 at-most-requires c κs = search needs
 
 sub-new : tie.Need-sub-new
-sub-new c = let w = in-bounds 2 capacityLimit (c .before .before .before .before .before .before .before .before .before .before .before .before .before .before .args .capacity) (sym (c .before .before .before .before .before .before .before .before .before .before .before .within2 .ensures) ∙ not-false _ (c .before .before .before .before .before .before .before .before .before .before .if2 .left)) in omega arith
+sub-new c = let w = in-bounds 2 capacityLimit (c .before .before .before .before .before .before .before .before .before .before .before .before .before .args .capacity) (sym (c .before .before .before .before .before .before .before .before .before .before .within2 .ensures) ∙ not-false _ (c .before .before .before .before .before .before .before .before .before .if2 .left)) in omega arith
 
 new-requires : tie.Need-new-requires
 new-requires c κs = search needs
 
-sub-t23 : tie.Need-sub-t23
-sub-t23 c = let w = in-bounds 2 capacityLimit (c .before .before .before .before .before .before .before .before .before .before .before .before .before .before .before .before .args .capacity) (sym (c .before .before .before .before .before .before .before .before .before .before .before .before .before .within2 .ensures) ∙ not-false _ (c .before .before .before .before .before .before .before .before .before .before .before .before .if2 .left)) in omega arith
+sub-t22 : tie.Need-sub-t22
+sub-t22 c = let w = in-bounds 2 capacityLimit (c .before .before .before .before .before .before .before .before .before .before .before .before .before .before .before .before .args .capacity) (sym (c .before .before .before .before .before .before .before .before .before .before .before .before .before .within2 .ensures) ∙ not-false _ (c .before .before .before .before .before .before .before .before .before .before .before .before .if2 .left)) in omega arith
 
 returns-4 : tie.Need-returns-4
 returns-4 c =
-    made _ _ _ _ (sym (c .before .before .before .before .before .before .before .before .before .before .before .before .before .before .before .within .ensures) ∙ not-false _ (c .before .before .before .before .before .before .before .before .before .before .before .before .before .before .if1 .left)) (sym (c .before .before .before .before .before .before .before .before .before .before .before .before .before .within2 .ensures) ∙ not-false _ (c .before .before .before .before .before .before .before .before .before .before .before .before .if2 .left)) (sym (c .before .before .before .before .before .before .before .before .before .before .before .is-share .ensures) ∙ not-false _ (c .before .before .before .before .before .before .before .before .before .before .if3 .left)) _ _
+    made _ _ _ _ (sym (c .before .before .before .before .before .before .before .before .before .before .before .before .before .before .within .ensures) ∙ not-false _ (c .before .before .before .before .before .before .before .before .before .before .before .before .before .if1 .left)) (sym (c .before .before .before .before .before .before .before .before .before .before .before .before .within2 .ensures) ∙ not-false _ (c .before .before .before .before .before .before .before .before .before .before .before .if2 .left)) (sym (c .before .before .before .before .before .before .before .before .before .before .is-share .ensures) ∙ not-false _ (c .before .before .before .before .before .before .before .before .before .if3 .left)) _ _
     (rw (c .before .before .at-most .ensures, c .before .before .before .cached-part .ensures, c .new .ensures .0) refl)
-    (let e = c .before .before .before .before .clear .ensures in rw (e .0, e .1 .0, e .1 .1 .0, c .new .ensures .1, e .1 .1 .1 .0, e .1 .1 .1 .1) refl)
+    (let e = c .before .before .before .before .clear .ensures in rw (e .0, e .1 .0, e .1 .1 .0, c .new .ensures .1, e .1 .1 .1) refl)
 
 pub new-spec : {M : Type 1} → statement M
 new-spec =
@@ -73,5 +73,5 @@ new-spec =
     at-most-requires
     sub-new
     new-requires
-    sub-t23
+    sub-t22
     returns-4)
