@@ -11,7 +11,7 @@ use lib.Ieee.{Float}
 use borrow.Author.Tests.{le-leb, lt-leb, eq-eqb, ne-eqb, lt-ltb, le-ltb, leb-false, eqb-false}
 use Rattle.limits.specs.Limits.{branchLimit, pointLimit, totalLimit}
 use Rattle.intervalstoremanager.specs.Stack.{next}
-use Rattle.cuttree.specs.Tree.{Tree, leaf, branch, id, ending, found, walk, leaves, total, insert, addCopy}
+use Rattle.cuttree.specs.Tree.{Tree, leaf, branch, id, ending, found, walk, leaves, total, addCopy}
 use Rattle.cuttree.specs.Setting.{below}
 use Rattle.cuttree.specs.Run.{World, add, call, refuse, withPoint, enter, withTree, totalOf, Answer, refused, added, indexAbove, neverWritten, full, fewWords}
 use Rattle.cuttree.proofs.Tests.{by-cond, cond-true, cond-false}

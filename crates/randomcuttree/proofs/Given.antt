@@ -9,7 +9,7 @@ use lib.Ieee.{Float, nan}
 use Rattle.limits.specs.Limits.{width, branchLimit, pointLimit}
 use Rattle.boundingbox.specs.Padding.{Padded}
 use Rattle.readings.specs.Number.{nought}
-use Rattle.cuttree.specs.Tree.{Tree, leaf, branch, is, id, sum, All, OfTree, leaves}
+use Rattle.cuttree.specs.Tree.{Tree, leaf, branch, is, sum, All, OfTree, leaves}
 use Rattle.cuttree.specs.Run.{World}
 use Rattle.cuttree.specs.Sound.{Sound}
 use Rattle.cuttree.proofs.Nodes.{In, here, left, right, in-trans, nodes-one}

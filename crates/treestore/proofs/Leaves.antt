@@ -27,7 +27,7 @@ lent-is b n x m f g N X M F G = rw (← N, ← X, ← M, ← F, ← G) refl
 
 module _ (d c k : ℕ) where
   -- rows, cuts and copies do not depend on how many branches are cached
-  pub any-cached : {B : Type 0} (f : Tree (whole d) → B) (z : B) (o : Option (Tree (whole d))) → tab branchLimit (slotIn d c 0 f z o) ≡ tab branchLimit (slotIn d c k f z o)
+  any-cached : {B : Type 0} (f : Tree (whole d) → B) (z : B) (o : Option (Tree (whole d))) → tab branchLimit (slotIn d c 0 f z o) ≡ tab branchLimit (slotIn d c k f z o)
   any-cached f z none = refl
   any-cached f z (some s) = refl
 

@@ -2,7 +2,6 @@
 use native.Mathlib.Omega.{arith}
 use Rattle.nodestore.proofs.Ends.{index-low}
 use Rattle.treestore.proofs.Removes.{reached, some-reached, one-copy, dropped, alone, one-row}
-use borrow.Author.Needs.{needs}
 use Rattle.treestore.proofs.remove_copy.Statement.{statement}
 use Rattle.treestore.proofs.remove_copy.Tie as tie
 
