@@ -286,10 +286,11 @@ impl RCFTree {
         if written[index] == 0 {
             return AddAnswer::NotAdded(9);
         }
-        if self.total == Self::TOTAL {
+        let total = self.total;
+        if total == Self::TOTAL {
             return AddAnswer::NotAdded(10);
         }
-        if self.total == 0 {
+        if total == 0 {
             nodestore::add_root(copies, index);
             let root = index as u16 + self.capacity;
             let tree = headed_by(self, root, 1, self.manager);
@@ -309,7 +310,7 @@ impl RCFTree {
         let leaf = found.leaf;
         if found.held {
             nodestore::add_copy(nodes, copies, &path, n, leaf);
-            let tree = headed_by(self, self.root, self.total + 1, self.manager);
+            let tree = headed_by(self, self.root, total + 1, self.manager);
             return AddAnswer::Added(tree, leaf, 0);
         }
         if self.manager.is_empty() {
@@ -336,7 +337,7 @@ impl RCFTree {
             words,
             &points[index],
         );
-        let tree = headed_by(self, edited.root, self.total + 1, edited.manager);
+        let tree = headed_by(self, edited.root, total + 1, edited.manager);
         AddAnswer::Added(tree, index, n)
     }
 
@@ -362,7 +363,8 @@ impl RCFTree {
         if written[index] == 0 {
             return DeleteAnswer::NotDeleted(9);
         }
-        if self.total == 0 {
+        let total = self.total;
+        if total == 0 {
             return DeleteAnswer::NotDeleted(12);
         }
         let mut path = [[0u16; 2]; CAPACITY];
@@ -397,7 +399,7 @@ impl RCFTree {
             leaf,
             &points[index],
         );
-        let tree = headed_by(self, edited.root, self.total - 1, edited.manager);
+        let tree = headed_by(self, edited.root, total - 1, edited.manager);
         DeleteAnswer::Deleted(tree, leaf)
     }
 }

@@ -15,13 +15,13 @@ returns-2 : tie.Need-returns-2
 returns-2 c = λ d e s W H. blank H _ (c .before .before .if1 .left) (c .if2 .taken)
 
 returns-3 : tie.Need-returns-3
-returns-3 c = λ d e s W H. empty H _ (c .before .before .before .before .if1 .left) (c .before .before .if2 .left) (c .if3 .taken)
+returns-3 c = λ d e s W H. empty H _ (c .before .before .before .if1 .left) (c .before .if2 .left) (c .if3 .taken)
 
 find-requires : tie.Need-find-requires
-find-requires c κs = sought (c .before .before .before .before .before .before .before .before .pre .state) _ (c .before .before .before .before .before .before .before .if1 .left) (c .before .before .before .before .before .if2 .left) (c .before .before .before .if3 .left)
+find-requires c κs = sought (c .before .before .before .before .before .before .before .pre .state) _ (c .before .before .before .before .before .before .if1 .left) (c .before .before .before .before .if2 .left) (c .before .before .before .if3 .left)
 
 returns-4 : tie.Need-returns-4
-returns-4 c = λ d e s W H. not-held H _ (c .before .before .before .before .before .before .before .before .before .before .if1 .left) (c .before .before .before .before .before .before .before .before .if2 .left) (c .before .before .before .before .before .before .if3 .left) (c .before .before .find .ensures) (not-true _ (c .if4 .taken))
+returns-4 c = λ d e s W H. not-held H _ (c .before .before .before .before .before .before .before .before .before .if1 .left) (c .before .before .before .before .before .before .before .if2 .left) (c .before .before .before .before .before .before .if3 .left) (c .before .before .find .ensures) (not-true _ (c .if4 .taken))
 
 mul-remove-copy : tie.Need-mul-remove-copy
 mul-remove-copy c = search needs
@@ -30,16 +30,16 @@ index-1-remove-copy : tie.Need-index-1-remove-copy
 index-1-remove-copy c = search needs
 
 remove-copy-requires : tie.Need-remove-copy-requires
-remove-copy-requires c κs = held (c .before .before .before .before .before .before .before .before .before .before .before .before .before .before .before .before .before .before .pre .state) _ (c .before .before .before .before .before .before .before .before .before .before .before .before .before .before .before .before .before .if1 .left) (c .before .before .before .before .before .before .before .before .before .before .before .before .before .before .before .if2 .left) (c .before .before .before .before .before .before .before .before .before .before .before .before .before .if3 .left) (c .before .before .before .before .before .before .before .before .before .find .ensures) (not-false _ (c .before .before .before .before .before .before .before .if4 .left))
+remove-copy-requires c κs = held (c .before .before .before .before .before .before .before .before .before .before .before .before .before .before .before .before .before .before .pre .state) _ (c .before .before .before .before .before .before .before .before .before .before .before .before .before .before .before .before .before .if1 .left) (c .before .before .before .before .before .before .before .before .before .before .before .before .before .before .before .if2 .left) (c .before .before .before .before .before .before .before .before .before .before .before .before .before .before .if3 .left) (c .before .before .before .before .before .before .before .before .before .before .find .ensures) (not-false _ (c .before .before .before .before .before .before .before .before .if4 .left))
 
 sub-headed-by : tie.Need-sub-headed-by
-sub-headed-by c = some-total (c .before .before .before .before .before .before .before .before .before .before .before .before .before .before .before .before .before .before .before .before .pre .state) _ (c .before .before .before .before .before .before .before .before .before .before .before .before .before .before .before .before .before .before .before .if1 .left) (c .before .before .before .before .before .before .before .before .before .before .before .before .before .before .before .before .before .if2 .left) (c .before .before .before .before .before .before .before .before .before .before .before .before .before .before .before .if3 .left) (c .before .before .before .before .before .before .before .before .before .before .before .find .ensures)
+sub-headed-by c = some-total (c .before .before .before .before .before .before .before .before .before .before .before .before .before .before .before .before .before .before .before .pre .state) _ (c .before .before .before .before .before .before .before .before .before .before .before .before .before .before .before .before .before .before .if1 .left) (c .before .before .before .before .before .before .before .before .before .before .before .before .before .before .before .before .if2 .left) (c .before .before .before .before .before .before .before .before .before .before .before .before .before .before .before .if3 .left) (c .before .before .before .before .before .before .before .before .before .before .before .find .ensures)
 
 headed-by-requires : tie.Need-headed-by-requires
 headed-by-requires c κs = search needs
 
 returns-5 : tie.Need-returns-5
-returns-5 c = λ d e s W H. one-less H _ (c .before .before .before .before .before .before .before .before .before .before .before .before .before .before .before .before .before .before .before .before .if1 .left) (c .before .before .before .before .before .before .before .before .before .before .before .before .before .before .before .before .before .before .if2 .left) (c .before .before .before .before .before .before .before .before .before .before .before .before .before .before .before .before .if3 .left) (c .before .before .before .before .before .before .before .before .before .before .before .before .find .ensures) (not-false _ (c .before .before .before .before .before .before .before .before .before .before .if4 .left)) _ _ (c .before .before .remove-copy .ensures) _ (c .headed-by .ensures)
+returns-5 c = λ d e s W H. one-less H _ (c .before .before .before .before .before .before .before .before .before .before .before .before .before .before .before .before .before .before .before .if1 .left) (c .before .before .before .before .before .before .before .before .before .before .before .before .before .before .before .before .before .if2 .left) (c .before .before .before .before .before .before .before .before .before .before .before .before .before .before .before .before .if3 .left) (c .before .before .before .before .before .before .before .before .before .before .before .before .find .ensures) (not-false _ (c .before .before .before .before .before .before .before .before .before .before .if4 .left)) _ _ (c .before .remove-copy .ensures) _ (c .headed-by .ensures)
 
 pub delete-spec : {M : Type 1} → statement M
 delete-spec =
