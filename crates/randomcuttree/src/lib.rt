@@ -105,12 +105,13 @@ fn clear(nodes: &mut Nodes, cuts: &mut Cuts, copies: &mut Copies, boxes: &mut Bo
     *boxes = [[[0.0; CHANNELS]; 2]; BRANCHES];
 }
 
-// The mass in a branch's row. A branch has one of at least 1, and a row of no branch is zero.
-fn mass_at(nodes: &Nodes, node: usize) -> usize
+// A field of a branch's row. A branch has a mass of at least 1, and a row of no branch is zero.
+fn field_at(nodes: &Nodes, node: usize, i: usize) -> usize
     requires { ⌜ node < branchLimit ⌝ }
-    ensures { λ r. ⌜ r ≡ getD (getD (now (nodes .entry)) node []) 2 0 ⌝ }
+    requires { ⌜ i < 4 ⌝ }
+    ensures { λ r. ⌜ r ≡ getD (getD (now (nodes .entry)) node []) i 0 ⌝ }
 {
-    wide16(nodes[node][2])
+    wide16(nodes[node][i])
 }
 
 // Document 01's 16, with no box.
@@ -220,18 +221,18 @@ impl RCFTree {
         if BRANCHES <= id {
             return BranchAnswer::NoBranch(16);
         }
-        let mass = mass_at(nodes, id);
+        let mass = field_at(nodes, id, 2);
         if mass == 0 {
             return BranchAnswer::NoBranch(16);
         }
         let cut = Cut {
-            dimension: wide16(nodes[id][3]),
+            dimension: field_at(nodes, id, 3),
             value: cuts[id],
         };
         BranchAnswer::Branch(BranchRow {
             cut,
-            left: wide16(nodes[id][0]),
-            right: wide16(nodes[id][1]),
+            left: field_at(nodes, id, 0),
+            right: field_at(nodes, id, 1),
             mass,
         })
     }
@@ -245,7 +246,7 @@ impl RCFTree {
         if BRANCHES <= id {
             return no_box();
         }
-        if mass_at(nodes, id) == 0 {
+        if field_at(nodes, id, 2) == 0 {
             return no_box();
         }
         let bounding_box = boxstore::bounding_box(

@@ -30,16 +30,16 @@ index-1-remove-copy : tie.Need-index-1-remove-copy
 index-1-remove-copy c = search needs
 
 remove-copy-requires : tie.Need-remove-copy-requires
-remove-copy-requires c κs = held (c .before .before .before .before .before .before .before .before .before .before .before .before .before .before .before .before .before .before .pre .state) _ (c .before .before .before .before .before .before .before .before .before .before .before .before .before .before .before .before .before .if1 .left) (c .before .before .before .before .before .before .before .before .before .before .before .before .before .before .before .if2 .left) (c .before .before .before .before .before .before .before .before .before .before .before .before .before .before .if3 .left) (c .before .before .before .before .before .before .before .before .before .before .find .ensures) (not-false _ (c .before .before .before .before .before .before .before .before .if4 .left))
+remove-copy-requires c κs = held (c .before .before .before .before .before .before .before .before .before .before .before .before .before .before .before .before .before .pre .state) _ (c .before .before .before .before .before .before .before .before .before .before .before .before .before .before .before .before .if1 .left) (c .before .before .before .before .before .before .before .before .before .before .before .before .before .before .if2 .left) (c .before .before .before .before .before .before .before .before .before .before .before .before .before .if3 .left) (c .before .before .before .before .before .before .before .before .before .find .ensures) (not-false _ (c .before .before .before .before .before .before .before .if4 .left))
 
 sub-headed-by : tie.Need-sub-headed-by
-sub-headed-by c = some-total (c .before .before .before .before .before .before .before .before .before .before .before .before .before .before .before .before .before .before .before .pre .state) _ (c .before .before .before .before .before .before .before .before .before .before .before .before .before .before .before .before .before .before .if1 .left) (c .before .before .before .before .before .before .before .before .before .before .before .before .before .before .before .before .if2 .left) (c .before .before .before .before .before .before .before .before .before .before .before .before .before .before .before .if3 .left) (c .before .before .before .before .before .before .before .before .before .before .before .find .ensures)
+sub-headed-by c = some-total (c .before .before .before .before .before .before .before .before .before .before .before .before .before .before .before .before .before .before .pre .state) _ (c .before .before .before .before .before .before .before .before .before .before .before .before .before .before .before .before .before .if1 .left) (c .before .before .before .before .before .before .before .before .before .before .before .before .before .before .before .if2 .left) (c .before .before .before .before .before .before .before .before .before .before .before .before .before .before .if3 .left) (c .before .before .before .before .before .before .before .before .before .before .find .ensures)
 
 headed-by-requires : tie.Need-headed-by-requires
 headed-by-requires c κs = search needs
 
 returns-5 : tie.Need-returns-5
-returns-5 c = λ d e s W H. one-less H _ (c .before .before .before .before .before .before .before .before .before .before .before .before .before .before .before .before .before .before .before .if1 .left) (c .before .before .before .before .before .before .before .before .before .before .before .before .before .before .before .before .before .if2 .left) (c .before .before .before .before .before .before .before .before .before .before .before .before .before .before .before .before .if3 .left) (c .before .before .before .before .before .before .before .before .before .before .before .before .find .ensures) (not-false _ (c .before .before .before .before .before .before .before .before .before .before .if4 .left)) _ _ (c .before .remove-copy .ensures) _ (c .headed-by .ensures)
+returns-5 c = λ d e s W H. one-less H _ (c .before .before .before .before .before .before .before .before .before .before .before .before .before .before .before .before .before .before .if1 .left) (c .before .before .before .before .before .before .before .before .before .before .before .before .before .before .before .before .if2 .left) (c .before .before .before .before .before .before .before .before .before .before .before .before .before .before .before .if3 .left) (c .before .before .before .before .before .before .before .before .before .before .before .find .ensures) (not-false _ (c .before .before .before .before .before .before .before .before .before .if4 .left)) _ _ (c .before .remove-copy .ensures) _ (c .headed-by .ensures)
 
 pub delete-spec : {M : Type 1} → statement M
 delete-spec =

@@ -47,8 +47,8 @@ sub-new c = let w = in-bounds 2 capacityLimit (c .before .before .before .before
 new-requires : tie.Need-new-requires
 new-requires c κs = search needs
 
-sub-t22 : tie.Need-sub-t22
-sub-t22 c = let w = in-bounds 2 capacityLimit (c .before .before .before .before .before .before .before .before .before .before .before .before .before .before .before .before .args .capacity) (sym (c .before .before .before .before .before .before .before .before .before .before .before .before .before .within2 .ensures) ∙ not-false _ (c .before .before .before .before .before .before .before .before .before .before .before .before .if2 .left)) in omega arith
+sub-t21 : tie.Need-sub-t21
+sub-t21 c = let w = in-bounds 2 capacityLimit (c .before .before .before .before .before .before .before .before .before .before .before .before .before .before .before .before .args .capacity) (sym (c .before .before .before .before .before .before .before .before .before .before .before .before .before .within2 .ensures) ∙ not-false _ (c .before .before .before .before .before .before .before .before .before .before .before .before .if2 .left)) in omega arith
 
 returns-4 : tie.Need-returns-4
 returns-4 c =
@@ -73,5 +73,5 @@ new-spec =
     at-most-requires
     sub-new
     new-requires
-    sub-t22
+    sub-t21
     returns-4)
