@@ -24,11 +24,11 @@ use Rattle.nodestore.specs.Stored.{Arrays, Reached, SomeReached}
 use Rattle.boxstore.proofs.Copies.{copy-boxes}
 use Rattle.treestore.specs.declared.Edited.{Edited}
 use Rattle.treestore.specs.declared.Found.{Found}
-use Rattle.treestore.specs.Arrays.{Lent, lent, arraysOf, Leaves}
+use Rattle.treestore.specs.Arrays.{Lent, lent, arraysOf, EditDone}
 use Rattle.treestore.specs.Finds.{SomeSought, Finds, FoundIn}
 use Rattle.treestore.specs.Edits.{Walking}
 use Rattle.treestore.specs.Enters.{Entering, SomeEntering, Enters}
-use Rattle.treestore.proofs.Leaves as Left
+use Rattle.treestore.proofs.Parts.{edit-done, no-boxes}
 use Rattle.treestore.proofs.Removes.{reached, free-are, boxes-are}
 use Rattle.randomcuttree.specs.declared.RCFTree.{RCFTree}
 use Rattle.randomcuttree.specs.declared.AddAnswer.{AddAnswer}
@@ -57,7 +57,7 @@ module _ {d c : ℕ} {s : Float} {W : World (whole d)} {tree : RCFTree} {a : Len
   not-done ws = Calls.unchanged H (addSays d) (call (whole d) c W (add i ws))
 
   done : (ws : List ℕ) (y : Answer (whole d)) (o : Option (Tree (whole d))) (v : List (ℕ × ℕ)) (e : Edited) (n : ℕ) (header : RCFTree) (b : Lent) (r : AddAnswer) → call (whole d) c W (add i ws) ≡ (y, withTree (whole d) W o v) → r ≡ addSays d header y
-      → header ≡ headed tree (e .root) n (e .manager) → n ≡ totalOf (whole d) o → Leaves d c k o v e b → Done ws r b
+      → header ≡ headed tree (e .root) n (e .manager) → n ≡ totalOf (whole d) o → EditDone d c k o v e b → Done ws r b
   done ws y o v e n header b r f g h N L = Calls.changed H (addSays d) (call (whole d) c W (add i ws)) y (withTree (whole d) W o v) e n header b r f g h N L refl (reachable-call d c W (add i ws) (H .reachable))
 
   pub above : (ws : List ℕ) → pointLimit ≤ i → Done ws (NotAdded 5) a
@@ -95,9 +95,9 @@ module _ {d c : ℕ} {s : Float} {W : World (whole d)} {tree : RCFTree} {a : Len
             let N : W .tree ≡ none = Calls.no-tree H z in
             let A : a ≡ arraysOf d c k none (W .free) = subst (λ o. a ≡ arraysOf d c k o (W .free)) N (H .arrays-are) in
             done ws (added i 0) (some (leaf i p 1)) (W .free) (record { root = root; manager = tree .manager }) 1 header _ (Added header i 0) (entered ws none N) refl e refl
-            (Left.leaves d c k (some (leaf i p 1)) (W .free) root (tree .manager) _ (f ∙ ap (λ x. i + x) (Parts.capacity-is H)) (ap (λ (x : RCFTree). x .manager) (H .header-is))
+            (edit-done d c k (some (leaf i p 1)) (W .free) root (tree .manager) _ (f ∙ ap (λ x. i + x) (Parts.capacity-is H)) (ap (λ (x : RCFTree). x .manager) (H .header-is))
             (h d c (a .nodes) (a .cuts) p (record { rows = ap (λ (x : Lent). x .nodes) A; values = ap (λ (x : Lent). x .cuts) A; counts = ap (λ (x : Lent). x .copies) A })) (ap (λ (x : Lent). x .free) A)
-            (ap (λ (x : Lent). x .boxes) A ∙ sym (Left.no-boxes d c k p (leaf i p 1) refl)))
+            (ap (λ (x : Lent). x .boxes) A ∙ sym (no-boxes d c k p (leaf i p 1) refl)))
 
         -- ---- a tree that holds something
         module _ (some-held : tree .total ≡ 0 → ⊥) where
@@ -137,7 +137,7 @@ module _ {d c : ℕ} {s : Float} {W : World (whole d)} {tree : RCFTree} {a : Len
                 let boxes = copy-boxes d c k t p (walking .once) in
                 done ws (added (ending (whole d) t p .index) 0) (some (addCopy (whole d) p t)) (W .free) (record { root = tree .root; manager = tree .manager }) (tree .total + 1) header _ (Added header (f .leaf) 0)
                 (entered ws (some t) T ∙ cond-true _ _ _ (sym (found-in .held-is) ∙ g)) (ap (λ j. Added header j 0) (found-in .leaf-is)) e (omega (arith, total-of, total-copy (whole d) p t))
-                (Left.leaves d c k (some (addCopy (whole d) p t)) (W .free) (tree .root) (tree .manager) _
+                (edit-done d c k (some (addCopy (whole d) p t)) (W .free) (tree .root) (tree .manager) _
                 (ap (λ (x : RCFTree). x .root) (H .header-is) ∙ walking .root-is ∙ sym (copy-root d c p t)) (ap (λ (x : RCFTree). x .manager) (H .header-is)) (h d c (a .cuts) t p (reached walking)) (free-are walking)
                 (boxes-are walking ∙ sym boxes))
 

@@ -19,7 +19,7 @@ use Rattle.layout.specs.Layout.{Table, tableOf, mark}
 use Rattle.layout.proofs.Tabs.{entry-of}
 use Rattle.treestore.specs.declared.Edited.{Edited}
 use Rattle.treestore.specs.declared.Found.{Found}
-use Rattle.treestore.specs.Arrays.{Lent, arraysOf, Leaves}
+use Rattle.treestore.specs.Arrays.{Lent, arraysOf, EditDone}
 use Rattle.treestore.specs.Finds.{Sought, SomeSought, Finds, FoundIn}
 use Rattle.treestore.specs.Edits.{Walking}
 use Rattle.randomcuttree.specs.declared.RCFTree.{RCFTree}
@@ -46,7 +46,7 @@ module _ {d c : ℕ} {s : Float} {W : World (whole d)} {tree : RCFTree} {a : Len
 
   -- an accepted call: from what an edit answers and leaves
   pub changed : {R : Type 0} (says : RCFTree → Answer (whole d) → R) (x : Answer (whole d) × World (whole d)) (y : Answer (whole d)) (W′ : World (whole d)) (e : Edited) (n : ℕ) (header : RCFTree) (b : Lent) (r : R) → x ≡ (y, W′) → r ≡ says header y
-      → header ≡ headed tree (e .root) n (e .manager) → n ≡ totalOf (whole d) (W′ .tree) → Leaves d c k (W′ .tree) (W′ .free) e b → W′ .table ≡ W .table → Reachable d c (x .1) → Called d c s says x r b points marks
+      → header ≡ headed tree (e .root) n (e .manager) → n ≡ totalOf (whole d) (W′ .tree) → EditDone d c k (W′ .tree) (W′ .free) e b → W′ .table ≡ W .table → Reachable d c (x .1) → Called d c s says x r b points marks
   changed says x y W′ e n header b r E f h N L t R =
       let same : header ≡ headerOf d c s W′ = h ∙ ap (λ z. headed z (e .root) n (e .manager)) (H .header-is) ∙ ap (λ (z : Edited). headed (headerOf d c s W) (z .root) n (z .manager)) (L .answer)
       ∙ ap (λ z. headed (headerOf d c s W) (headerOf d c s W′ .root) z (headerOf d c s W′ .manager)) N in

@@ -17,7 +17,7 @@ use Rattle.wholetree.specs.Whole.{whole}
 use Rattle.layout.specs.Layout.{noRow, noBoxEnds, tableOf}
 use Rattle.layout.proofs.Tabs.{constant}
 use Rattle.treestore.specs.Arrays.{Lent}
-use Rattle.treestore.proofs.Leaves.{lent-is}
+use Rattle.treestore.proofs.Parts.{lent-is}
 use Rattle.randomcuttree.specs.declared.RCFTree.{RCFTree}
 use Rattle.randomcuttree.specs.declared.Made.{Made}
 use Rattle.randomcuttree.specs.State.{cachedBy, State}

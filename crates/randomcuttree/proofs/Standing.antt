@@ -11,7 +11,7 @@ use Rattle.cuttree.proofs.Tests.{by-cond}
 use Rattle.wholetree.specs.Whole.{whole}
 use Rattle.pointstore.specs.declared.PutAnswer.{PutAnswer}
 use Rattle.pointstore.specs.Puts.{PutDone}
-use Rattle.treestore.proofs.Leaves.{counts-cached}
+use Rattle.treestore.proofs.Parts.{counts-cached}
 use Rattle.randomcuttree.specs.State.{cachedBy, State, Reachable}
 use Rattle.randomcuttree.specs.Standing.{StatesStand, PutsKeep}
 use Rattle.randomcuttree.proofs.Reaches.{reachable-call, reachable-fresh}

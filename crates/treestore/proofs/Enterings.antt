@@ -32,11 +32,11 @@ use Rattle.boxstore.proofs.Grafts.{box-above}
 use Rattle.cut.specs.declared.Cut.{Cut as FloatCut}
 use Rattle.drawing.specs.declared.Highest.{Highest}
 use Rattle.drawing.specs.Drawing.{Drawing, SomeDrawing, Kept, noCut, wordAt}
-use Rattle.treestore.specs.Arrays.{Lent, lent, managerOf, Leaves}
+use Rattle.treestore.specs.Arrays.{Lent, lent, managerOf, EditDone}
 use Rattle.treestore.specs.Edits.{Walking}
 use Rattle.treestore.specs.Enters.{Entering}
 use Rattle.treestore.proofs.Channels.{kept-channel}
-use Rattle.treestore.proofs.Leaves.{leaves}
+use Rattle.treestore.proofs.Parts.{edit-done}
 use Rattle.treestore.proofs.Manager.{get-done, get-empty}
 use Rattle.treestore.proofs.Removes.{free-are, boxes-are}
 
@@ -178,7 +178,7 @@ module _ {d c k : ℕ} {t : Tree (whole d)} {u : List (ℕ × ℕ)} {p : Reading
                 (P : (e m : ℕ) (t : Tree (whole e)) (p : Reading) (h : ℕ) (x : Cut (whole e)) → Graft e c (a .nodes) (a .cuts) (a .copies) path (n - 1 - r .height) b index (r .cut) left m t p h x → Arrays e c nodes′ cuts′ copies′ (some (graft (whole e) b index p (h, x) t)))
                 (R : (e c : ℕ) (nodes : List (List ℕ)) (cuts : List Float) (copies : List ℕ) (path : List (List ℕ)) (i : ℕ) (cut : FloatCut) (left : Bool) (m : ℕ) (t : Tree (whole e)) (p : Reading) (h : ℕ) (x : Cut (whole e))
                 → Graft e c nodes cuts copies path (n - 1 - r .height) b i cut left m t p h x → root ≡ id (whole e) c t → root′ ≡ id (whole e) c (graft (whole e) b i p (h, x) t)) where
-              pub entered : Leaves d c k (some (insert (whole d) (next u) index p (wordAt words) t)) (afterGet u) (record { root = root′; manager = left-over }) (lent nodes′ cuts′ copies′ free′ boxes′)
-              entered = subst (λ o. Leaves d c k (some o) (afterGet u) (record { root = root′; manager = left-over }) (lent nodes′ cuts′ copies′ free′ boxes′)) after-is
-                  (leaves d c k (some after) (afterGet u) root′ left-over _
+              pub entered : EditDone d c k (some (insert (whole d) (next u) index p (wordAt words) t)) (afterGet u) (record { root = root′; manager = left-over }) (lent nodes′ cuts′ copies′ free′ boxes′)
+              entered = subst (λ o. EditDone d c k (some o) (afterGet u) (record { root = root′; manager = left-over }) (lent nodes′ cuts′ copies′ free′ boxes′)) after-is
+                  (edit-done d c k (some after) (afterGet u) root′ left-over _
                   (R d c (a .nodes) (a .cuts) (a .copies) path index (r .cut) left n t p (r .height) cut grafting (W .root-is)) (taken .1) (P d n t p (r .height) cut grafting) (taken .2) (A d c t p b index (r .height) cut walked grafted))

@@ -1,6 +1,6 @@
 pub mod Links
 pub mod Channels
-pub mod Leaves
+pub mod Parts
 pub mod Manager
 pub mod Findings
 pub mod Removes

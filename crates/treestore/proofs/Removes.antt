@@ -35,10 +35,10 @@ use Rattle.boxstore.specs.Written.{written}
 use Rattle.boxstore.specs.Edited.{Walked, boxesOf, lifted, Forgotten, SomeForgotten, RepairedAbove}
 use Rattle.boxstore.proofs.Copies.{less-boxes}
 use Rattle.boxstore.proofs.Forgets.{forget-once}
-use Rattle.treestore.specs.Arrays.{Lent, lent, managerOf, Leaves}
+use Rattle.treestore.specs.Arrays.{Lent, lent, managerOf, EditDone}
 use Rattle.treestore.specs.Edits.{Walking}
 use Rattle.treestore.proofs.Links.{linked}
-use Rattle.treestore.proofs.Leaves.{leaves, no-boxes}
+use Rattle.treestore.proofs.Parts.{edit-done, no-boxes}
 
 module _ {d c k : ℕ} {t : Tree (whole d)} {u : List (ℕ × ℕ)} {p : Reading} {root : ℕ} {manager : IntervalStoreManager} {a : Lent} {points : List (List Float)} {path : List (List ℕ)} {n index : ℕ} {point : List Float} (G : Walking d c k t u p root manager a points path n index point) where
   abbrev S : Setting
@@ -61,7 +61,7 @@ module _ {d c k : ℕ} {t : Tree (whole d)} {u : List (ℕ × ℕ)} {p : Reading
 
   -- the tree after, and its free numbers
   abbrev Gone : ℕ → IntervalStoreManager → Lent → Type 0
-  Gone r m b = Leaves d c k (forget S p t) (afterFreed S u (freed S p t)) (record { root = r; manager = m }) b
+  Gone r m b = EditDone d c k (forget S p t) (afterFreed S u (freed S p t)) (record { root = r; manager = m }) b
 
   -- ---- copies are left
   less-root : (m : ℕ) (s : Tree S) → id S c (replace S s 0 p (leafWith S s p m)) ≡ id S c s
@@ -73,7 +73,7 @@ module _ {d c k : ℕ} {t : Tree (whole d)} {u : List (ℕ × ℕ)} {p : Reading
       let more : ltb 1 (ending S t p .copies) ≡ true = lt-ltb 1 (ending S t p .copies) (omega (arith, copies-are reached)) in
       let z = less-replace S p t more .0 in
       let boxes = less-boxes d c k t p (G .once) more _ z in
-      rw (A .1) (leaves d c k (forget S p t) u _ _ _
+      rw (A .1) (edit-done d c k (forget S p t) u _ _ _
       (G .root-is ∙ sym (ap (rootOf d c k) z ∙ less-root _ t)) (G .manager-is) (A .0) free-are
       (boxes-are ∙ sym (ap (λ (o : Option (Tree S)). tab branchLimit (boxIn d c k o)) z ∙ boxes)))
 
@@ -88,7 +88,7 @@ module _ {d c k : ℕ} {t : Tree (whole d)} {u : List (ℕ × ℕ)} {p : Reading
   alone K m low A =
       let flat : height S t p ≡ 0 = omega (arith, G .walked .count) in
       let z = last-alone S p t flat (last-copy m) .0 in
-      rw (A .1) (leaves d c k (forget S p t) u _ _ _
+      rw (A .1) (edit-done d c k (forget S p t) u _ _ _
       (sym (ap (rootOf d c k) z)) (G .manager-is) (A .0) free-are
       (boxes-are ∙ no-boxes d c k p t flat ∙ sym (ap (λ (o : Option (Tree S)). tab branchLimit (boxIn d c k o)) z)))
 
@@ -138,6 +138,6 @@ module _ {d c k : ℕ} {t : Tree (whole d)} {u : List (ℕ × ℕ)} {p : Reading
           → Gone r left (lent N C K free boxes′)
       removed r left free boxes′ x M B =
           let repaired = (rw cap-is at B) d t p walks forgotten in
-          rw (A .1) (leaves d c k (forget S p t) (afterRelease u b) _ _ _
+          rw (A .1) (edit-done d c k (forget S p t) (afterRelease u b) _ _ _
           (x ∙ ap (rootOf d c 0) (lift .0) ∙ sym (ap (rootOf d c k) (lift .0))) (M .0) (A .0) (M .1)
           (repaired ∙ sym (ap (λ (o : Option (Tree S)). tab branchLimit (boxIn d c k o)) (lift .0))))

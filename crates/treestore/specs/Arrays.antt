@@ -47,6 +47,6 @@ module _ (d c k : ℕ) where
   editedOf o u = record { root = rootOf d c k o; manager = managerOf (c - 1) u }
 
   -- what an edit answers and leaves
-  pub record Leaves (o : Option (Tree (whole d))) (u : List (ℕ × ℕ)) (r : Edited) (b : Lent) : Type 0 where
+  pub record EditDone (o : Option (Tree (whole d))) (u : List (ℕ × ℕ)) (r : Edited) (b : Lent) : Type 0 where
     pub answer : r ≡ editedOf o u
     pub arrays : b ≡ arraysOf o u

@@ -18,7 +18,7 @@ use Rattle.walk.specs.Walks.{Walked}
 use Rattle.nodestore.specs.Stored.{Stored}
 use Rattle.boxstore.specs.Boxed.{Boxed}
 use Rattle.treestore.specs.declared.Edited.{Edited}
-use Rattle.treestore.specs.Arrays.{Lent, managerOf, arraysOf, Leaves}
+use Rattle.treestore.specs.Arrays.{Lent, managerOf, arraysOf, EditDone}
 
 -- p's walk in the tree t, which ends in the leaf of that index. d channels, capacity c, k cached branches, and the free numbers u
 pub record Walking (d c k : ℕ) (t : Tree (whole d)) (u : List (ℕ × ℕ)) (p : Reading) (root : ℕ) (manager : IntervalStoreManager) (a : Lent) (points : List (List Float)) (path : List (List ℕ)) (n leaf : ℕ) (point : List Float) : Type 0 where
@@ -50,4 +50,4 @@ pub record SomeHeld (d c k root : ℕ) (manager : IntervalStoreManager) (a : Len
 -- Forgetting: one copy of p less, whichever tree it is.
 abbrev pub Forgets : (d c k root : ℕ) → IntervalStoreManager → Lent → List (List Float) → List (List ℕ) → (n leaf : ℕ) → List Float → Edited → Lent → Type 0
 Forgets d c k root manager a points path n leaf point r b = (t : Tree (whole d)) (u : List (ℕ × ℕ)) (p : Reading) → Walking d c k t u p root manager a points path n leaf point → found (whole d) t p ≡ true
-    → Leaves d c k (forget (whole d) p t) (afterFreed (whole d) u (freed (whole d) p t)) r b
+    → EditDone d c k (forget (whole d) p t) (afterFreed (whole d) u (freed (whole d) p t)) r b

@@ -14,7 +14,7 @@ use Rattle.wholetree.specs.Reading.{Reading}
 use Rattle.wholetree.specs.Whole.{whole}
 use Rattle.layout.specs.Slots.{uses, countAt}
 use Rattle.treestore.specs.declared.Edited.{Edited}
-use Rattle.treestore.specs.Arrays.{Lent, Leaves}
+use Rattle.treestore.specs.Arrays.{Lent, EditDone}
 use Rattle.treestore.specs.Edits.{Walking}
 
 -- p's walk ends in another value's leaf; there is a free number for the branch, a free index for the leaf and a word for each node
@@ -40,4 +40,4 @@ pub record SomeEntering (c k root : ℕ) (manager : IntervalStoreManager) (a : L
 -- Entering: one leaf and one branch more, whichever tree it is.
 abbrev pub Enters : (c k root : ℕ) → IntervalStoreManager → Lent → List (List Float) → List (List ℕ) → (n leaf index : ℕ) → List ℕ → List Float → Edited → Lent → Type 0
 Enters c k root manager a points path n leaf index words point r b = (d : ℕ) (t : Tree (whole d)) (u : List (ℕ × ℕ)) (p : Reading) → Entering d c k t u p root manager a points path n leaf index words point
-    → Leaves d c k (some (insert (whole d) (next u) index p (λ m. getD words m 0) t)) (afterGet u) r b
+    → EditDone d c k (some (insert (whole d) (next u) index p (λ m. getD words m 0) t)) (afterGet u) r b

@@ -48,7 +48,7 @@ new-requires : tie.Need-new-requires
 new-requires c κs = search needs
 
 sub-t21 : tie.Need-sub-t21
-sub-t21 c = let w = in-bounds 2 capacityLimit (c .before .before .before .before .before .before .before .before .before .before .before .before .before .before .before .before .args .capacity) (sym (c .before .before .before .before .before .before .before .before .before .before .before .before .before .within2 .ensures) ∙ not-false _ (c .before .before .before .before .before .before .before .before .before .before .before .before .if2 .left)) in omega arith
+sub-t21 c = let w = in-bounds 2 capacityLimit (c .before .before .before .before .before .before .before .before .before .before .before .before .before .before .before .args .capacity) (sym (c .before .before .before .before .before .before .before .before .before .before .before .before .within2 .ensures) ∙ not-false _ (c .before .before .before .before .before .before .before .before .before .before .before .if2 .left)) in omega arith
 
 returns-4 : tie.Need-returns-4
 returns-4 c =

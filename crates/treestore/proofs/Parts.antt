@@ -20,7 +20,7 @@ use Rattle.layout.proofs.Tabs.{same-tab}
 use Rattle.layout.proofs.Slots.{slot-none}
 use Rattle.nodestore.specs.Stored.{Arrays}
 use Rattle.treestore.specs.declared.Edited.{Edited}
-use Rattle.treestore.specs.Arrays.{Lent, lent, managerOf, editedOf, Leaves}
+use Rattle.treestore.specs.Arrays.{Lent, lent, managerOf, editedOf, EditDone}
 
 pub lent-is : (b : Lent) (n : List (List ℕ)) (x : List Float) (m : List ℕ) (f : List (List ℕ)) (g : List (List (List Float))) → b .nodes ≡ n → b .cuts ≡ x → b .copies ≡ m → b .free ≡ f → b .boxes ≡ g → b ≡ lent n x m f g
 lent-is b n x m f g N X M F G = rw (← N, ← X, ← M, ← F, ← G) refl
@@ -35,10 +35,10 @@ module _ (d c k : ℕ) where
   counts-cached none = refl
   counts-cached (some s) = refl
 
-  pub leaves : (o : Option (Tree (whole d))) (v : List (ℕ × ℕ)) (root : ℕ) (m : IntervalStoreManager) (b : Lent) → root ≡ rootOf d c k o → m ≡ managerOf (c - 1) v
+  pub edit-done : (o : Option (Tree (whole d))) (v : List (ℕ × ℕ)) (root : ℕ) (m : IntervalStoreManager) (b : Lent) → root ≡ rootOf d c k o → m ≡ managerOf (c - 1) v
       → Arrays d c (b .nodes) (b .cuts) (b .copies) o → b .free ≡ Rows.layout v → b .boxes ≡ tab branchLimit (boxIn d c k o)
-      → Leaves d c k o v (record { root = root; manager = m }) b
-  leaves o v root m b x y A f g = record { answer = answered; arrays = lent-is b _ _ _ _ _ (A .rows ∙ any-cached (rowOf d c) noRow o) (A .values ∙ any-cached (cutOf d c) nought o) (A .counts ∙ counts-cached o) f g }
+      → EditDone d c k o v (record { root = root; manager = m }) b
+  edit-done o v root m b x y A f g = record { answer = answered; arrays = lent-is b _ _ _ _ _ (A .rows ∙ any-cached (rowOf d c) noRow o) (A .values ∙ any-cached (cutOf d c) nought o) (A .counts ∙ counts-cached o) f g }
     where
       answered : _≡_ {A = Edited} (record { root = root; manager = m }) (editedOf d c k o v)
       answered = ap (λ (z : ℕ). record { root = z; manager = m }) x ∙ ap (λ (z : IntervalStoreManager). record { root = rootOf d c k o; manager = z }) y
