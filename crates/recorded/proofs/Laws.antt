@@ -1,5 +1,5 @@
 -- Words written one after another, floats tested channel by channel, and the cases of the answers. Laws.
-use mathlib.Core.Path.{_≡_, refl, sym, ap, _∙_, subst}
+use mathlib.Core.Path.{_≡_, refl, sym, _∙_, subst}
 use mathlib.Core.Logic.{⊎-elim}
 use mathlib.Core.Bool.{Bool, true, false, _&&_, cond, false≢true}
 use mathlib.Core.List.{List, [], _∷_, _++_}
@@ -8,10 +8,10 @@ use native.Mathlib.Nat.{eq-or-lt-of-le}
 use native.Mathlib.Numerals.{add-one}
 use native.Mathlib.Omega.{arith}
 use borrow.Author.Tests.{eq-eqb, ne-eqb, lt-ltb, lt-leb, le-leb}
-use lib.Dec.{T, eqb, ltb, leb, leb→le}
+use lib.Dec.{T, ltb, leb, leb→le}
 use lib.ListN.{length, getD}
 use lib.Seq.{sets}
-use lib.Ieee.{Float, nan, binary32, binary64, ofBits, toBits, le}
+use lib.Ieee.{Float, binary32, binary64, toBits, le}
 use Rattle.readings.specs.Coordinate.{isCoordinate}
 use Rattle.readings.specs.Weight.{isWeight}
 use Rattle.readings.specs.Share.{isShare, cachedPart}

@@ -1,12 +1,12 @@
 -- The answer at each kind, one more record counted, and how far the report goes. Laws.
-use mathlib.Core.Path.{_≡_, refl, sym, ap, _∙_}
+use mathlib.Core.Path.{_≡_, ap, _∙_}
 use mathlib.Core.Bool.{Bool, true, false, cond, false≢true}
 use mathlib.Core.List.{List, _++_}
-use Prim.Native.Nat.{ℕ, _+_, _*_, _≤_}
+use Prim.Native.Nat.{ℕ, _+_, _≤_}
 use native.Mathlib.Omega.{arith}
-use borrow.Author.Tests.{eq-eqb, ne-eqb}
+use borrow.Author.Tests.{ne-eqb}
 use lib.ListN.{length, getD, set, drop}
-use lib.Seq.{sets, drop-at}
+use lib.Seq.{drop-at}
 use Rattle.lines.specs.Lines.{Wrote}
 use Rattle.run.specs.Outcome.{outcome}
 use Rattle.treelist_text.specs.Output.{output}

@@ -1,6 +1,5 @@
 -- `agrees` meets its contract. Assumes nothing.
 use borrow.Author.Tests.{eq-eqb, ne-eqb}
-use borrow.Author.Needs.{needs}
 use Rattle.replay.proofs.agrees.Statement.{statement}
 use Rattle.replay.proofs.agrees.Tie as tie
 

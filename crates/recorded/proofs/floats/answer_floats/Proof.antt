@@ -1,7 +1,6 @@
 -- `answer_floats` meets its contract: after i turns the first i answers stand. Assumes nothing.
 use mathlib.Core.Path.{_∙_}
 use Prim.Native.Nat.{_-_}
-use native.Mathlib.Omega.{arith}
 use Rattle.lines.proofs.Writes.{long}
 use Rattle.recorded.proofs.Laws.{Valued, valued-none, valued-next, valued-all, value-same}
 use borrow.Author.Needs.{needs}
