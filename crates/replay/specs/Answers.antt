@@ -1,19 +1,29 @@
--- When two answers are the same, and a tally with one pair of answers more. Definitions.
-use mathlib.Core.Bool.{Bool, _&&_, cond}
+-- What the port answers to what a record gives, and one more record counted. Definitions.
+use mathlib.Core.Bool.{cond}
+use mathlib.Core.List.{List}
 use Prim.Native.Nat.{ℕ, _+_, _%_, _^_}
 use lib.Dec.{eqb}
-use Rattle.replay.specs.declared.Answer.{Answer}
-use Rattle.replay.specs.declared.Tally.{Tally}
+use lib.ListN.{length}
+use lib.Seq.{sets}
+use Rattle.run.specs.Outcome.{outcome}
+use Rattle.treelist_text.specs.Output.{output}
+use Rattle.recorded.specs.Cuts.{cutAnswer}
+use Rattle.recorded.specs.Sequences.{sequenceAnswer}
+use Rattle.recorded.specs.Floats.{floatsAnswer}
 
-abbrev pub same : Answer → Answer → Bool
-same x y = eqb (x .a) (y .a) && (eqb (x .b) (y .b) && eqb (x .c) (y .c))
+-- bytes written from the start of what is lent, as far as it goes, and how many they are
+abbrev pub written : List ℕ → List ℕ → ℕ × List ℕ
+written bytes lent = (length bytes, sets lent 0 bytes)
+
+-- 0 a cut choice, 1 a sequence of an interval manager, 2 a byte run, 3 a text, any other a function of floats
+unfoldable pub answered : ℕ → List ℕ → List ℕ → ℕ × List ℕ
+answered kind given lent =
+    cond (eqb kind 0) (written (cutAnswer given) lent)
+    (cond (eqb kind 1) (written (sequenceAnswer given) lent)
+    (cond (eqb kind 2) (outcome given lent)
+    (cond (eqb kind 3) (written (output given) lent)
+    (written (floatsAnswer kind given) lent))))
 
 -- One more, as a u64 has it: no input has so many records that it starts again at 0.
 abbrev pub more : ℕ → ℕ
 more n = (n + 1) % 2 ^ 64
-
-unfoldable pub tallied : Tally → Bool → Tally
-tallied t agrees =
-    cond agrees
-    (record { agree = more (t .agree); differ = t .differ })
-    (record { agree = t .agree; differ = more (t .differ) })

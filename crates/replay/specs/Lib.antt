@@ -1,2 +1,4 @@
-pub mod Answers
 pub mod Agreeing
+pub mod Answers
+pub mod Lines
+pub mod States

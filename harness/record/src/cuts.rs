@@ -1,9 +1,9 @@
-//! Recorded cut choices of `Cut::random_cut_and_separation`. The layout of a record stands in
-//! replay_cut/RECORDED.md.
+//! Recorded cut choices of `Cut::random_cut_and_separation`.
+use crate::record::Record;
 use oracle::{cut_choice, feed, Choice, Words};
 use runs::aimed::{self, Aim};
 
-const RECORD_BYTES: usize = 112;
+pub const KIND: u32 = 0;
 const RECORDS: usize = 6000;
 const SEED: u64 = 0x0123_4567_89AB_CDEF;
 /// A record has room for this many channels.
@@ -62,13 +62,13 @@ enum Kind {
     Aimed(Aim),
 }
 
-pub fn make() -> Vec<Vec<u8>> {
+pub fn records() -> Vec<Record> {
     let mut words = Words::new(SEED);
     let mut cases = examples();
     for n in cases.len()..RECORDS {
         cases.push(random_case(n, &mut words));
     }
-    let records = cases.iter().map(|case| record(case).to_vec()).collect();
+    let records = cases.iter().map(record).collect();
     assert!(
         feed::seed17_draws() == 0,
         "the branch seeded with 17 was reached"
@@ -238,25 +238,31 @@ fn as_f32(whole: &[i32]) -> Vec<f32> {
     whole.iter().map(|&x| x as f32).collect()
 }
 
-fn record(case: &Case) -> [u8; RECORD_BYTES] {
-    let channels = case.point.len();
+/// Lower ends, upper ends, point and word are given; the cut is written once for each of the port's
+/// two ways to draw it.
+fn record(case: &Case) -> Record {
     let (low, high, point) = (as_f32(&case.low), as_f32(&case.high), as_f32(&case.point));
-    let (kind, dimension, bits) = match cut_choice(&low, &high, &point, case.word) {
-        Choice::NoCut => (0, 0, 0),
+    let numbers = match cut_choice(&low, &high, &point, case.word) {
+        Choice::NoCut => [0, 0, 0],
         Choice::Cut {
             dimension,
             value,
             parts,
-        } => (1 + u8::from(parts), dimension as u8, value.to_bits()),
+        } => [1 + u32::from(parts), dimension as u32, value.to_bits()],
     };
-    let mut bytes = [0; RECORD_BYTES];
-    for i in 0..channels {
-        for (place, x) in [(0, low[i]), (32, high[i]), (64, point[i])] {
-            bytes[place + 4 * i..][..4].copy_from_slice(&x.to_le_bytes());
+    let mut given = Vec::new();
+    for values in [low, high, point] {
+        for i in 0..WIDTH {
+            let x = values.get(i).copied().unwrap_or(0.0);
+            given.extend_from_slice(&x.to_le_bytes());
         }
     }
-    bytes[96..104].copy_from_slice(&case.word.to_le_bytes());
-    bytes[104..108].copy_from_slice(&[kind, dimension, channels as u8, 0]);
-    bytes[108..112].copy_from_slice(&bits.to_le_bytes());
-    bytes
+    given.extend_from_slice(&case.word.to_le_bytes());
+    let cut = numbers.map(u32::to_le_bytes).concat();
+    Record::new(KIND, given, cut.repeat(2))
+}
+
+/// How many records have no cut, a cut that does not part, and one that parts.
+pub fn counted(records: &[Record]) -> [usize; 3] {
+    [0, 1, 2].map(|n| records.iter().filter(|r| r.written[0] == n).count())
 }

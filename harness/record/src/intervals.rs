@@ -1,22 +1,21 @@
-//! Recorded sequences of `IntervalStoreManager<usize>`, the type that the node store uses. The
-//! layout of a record stands in replay_intervals/RECORDED.md.
+//! Recorded sequences of `IntervalStoreManager<usize>`, the type that the node store uses.
+use crate::record::Record;
 use oracle::{IntervalStoreManager, Words};
 
-const RECORD_BYTES: usize = 8;
+pub const KIND: u32 = 1;
 const SEQUENCES: usize = 260;
 const SEED: u64 = 0xFEDC_BA98_7654_3210;
 /// Largest number of branches, and so of numbers handed out.
 const LARGEST: usize = 255;
 const FEWEST_CALLS: usize = 40;
 const MOST_CALLS: usize = 600;
+const CALLS_BETWEEN_LOOKS: usize = 30;
 /// The answer that stands for the error "no more indices".
 const NONE_LEFT: usize = 65535;
 
-const NEW: u8 = 1;
-const GET: u8 = 2;
-const RELEASE: u8 = 3;
-const TOP: u8 = 4;
-const INTERVAL: u8 = 5;
+/// What is given for a `get`, and for a look at all rows; any other number is released.
+const GET: usize = 65535;
+const ROWS: usize = 65534;
 
 /// In which order numbers are got and released.
 #[derive(Clone, Copy)]
@@ -29,65 +28,81 @@ enum Order {
     OnEmpty,
 }
 
-pub fn make() -> Vec<Vec<u8>> {
+pub fn records() -> Vec<Record> {
     use Order::*;
     let orders = [Stack, Queue, Random, AllThenNone, EverySecond, OnEmpty];
     let mut words = Words::new(SEED);
-    let mut bytes = Vec::new();
-    for n in 0..SEQUENCES {
+    let sequence = |n: usize| {
         // each size once, then the smallest and the largest again
         let size = *[1, 2, 3, LARGEST - 1, LARGEST]
             .get(n.wrapping_sub(LARGEST))
             .unwrap_or(&(n + 1));
-        let mut sequence = Sequence::start(size, &mut bytes);
+        let mut sequence = Sequence::start(size);
         sequence.run(orders[n % orders.len()], &mut words);
-        sequence.intervals();
-    }
-    bytes.chunks(RECORD_BYTES).map(<[u8]>::to_vec).collect()
+        sequence.rows();
+        Record::new(KIND, sequence.given, sequence.written)
+    };
+    (0..SEQUENCES).map(sequence).collect()
 }
 
-/// A manager, the numbers in use in the order they were got, and the records so far.
-struct Sequence<'a> {
+/// A manager, the numbers in use in the order they were got, and the record so far.
+struct Sequence {
     manager: IntervalStoreManager<usize>,
     size: usize,
     used: Vec<usize>,
     calls: usize,
-    bytes: &'a mut Vec<u8>,
+    /// How many calls there were at the last look at the rows.
+    looked: usize,
+    given: Vec<u8>,
+    written: Vec<u8>,
 }
 
-impl<'a> Sequence<'a> {
-    fn start(size: usize, bytes: &'a mut Vec<u8>) -> Self {
+fn put(bytes: &mut Vec<u8>, number: usize) {
+    let number = u16::try_from(number).expect("below 65,536");
+    bytes.extend_from_slice(&number.to_le_bytes());
+}
+
+impl Sequence {
+    fn start(size: usize) -> Self {
         let mut sequence = Sequence {
             manager: IntervalStoreManager::new(size),
             size,
             used: Vec::new(),
             calls: 0,
-            bytes,
+            looked: 0,
+            given: Vec::new(),
+            written: Vec::new(),
         };
-        sequence.row(NEW, size, 0, 0);
-        sequence.top();
+        sequence.called(size, size);
         sequence
     }
 
-    fn row(&mut self, kind: u8, a: usize, b: usize, c: usize) {
-        self.bytes.extend_from_slice(&[kind, 0]);
-        for number in [a, b, c] {
-            let number = u16::try_from(number).expect("below 65,536");
-            self.bytes.extend_from_slice(&number.to_le_bytes());
+    /// A call and its answer, how many intervals stand after it, and the top one.
+    fn called(&mut self, call: usize, answer: usize) {
+        put(&mut self.given, call);
+        let standing = self.manager.oracle_last_in_use();
+        let (start, end) = *self.manager.oracle_intervals().last().unwrap_or(&(0, 0));
+        for number in [answer, standing, start, end] {
+            put(&mut self.written, number);
         }
     }
 
-    /// The state after a call: how many intervals stand, and the top one.
-    fn top(&mut self) {
-        let standing = self.manager.oracle_last_in_use();
-        let (start, end) = *self.manager.oracle_intervals().last().unwrap_or(&(0, 0));
-        self.row(TOP, standing, start, end);
+    /// All intervals from the bottom, and zeros for the rows above them.
+    fn rows(&mut self) {
+        put(&mut self.given, ROWS);
+        let mut rows = self.manager.oracle_intervals();
+        rows.resize(LARGEST, (0, 0));
+        for (start, end) in rows {
+            put(&mut self.written, start);
+            put(&mut self.written, end);
+        }
     }
 
-    /// All intervals from the bottom.
-    fn intervals(&mut self) {
-        for (n, (start, end)) in self.manager.oracle_intervals().into_iter().enumerate() {
-            self.row(INTERVAL, n, start, end);
+    /// All rows, if there were calls enough since the last look.
+    fn look(&mut self) {
+        if self.calls >= self.looked + CALLS_BETWEEN_LOOKS {
+            self.looked = self.calls;
+            self.rows();
         }
     }
 
@@ -96,15 +111,14 @@ impl<'a> Sequence<'a> {
         match self.manager.get() {
             Ok(number) => {
                 self.used.push(number);
-                self.row(GET, number, 0, 0);
+                self.called(GET, number);
             }
             Err(error) => {
                 assert!(error.to_string() == "no more indices left in interval manager");
                 assert!(self.used.len() == self.size);
-                self.row(GET, NONE_LEFT, 0, 0);
+                self.called(GET, NONE_LEFT);
             }
         }
-        self.top();
     }
 
     /// Releases the number that is in use at a place of the list.
@@ -114,8 +128,7 @@ impl<'a> Sequence<'a> {
         self.manager
             .release(number)
             .expect("release gives no error");
-        self.row(RELEASE, number, 0, 0);
-        self.top();
+        self.called(number, number);
     }
 
     fn run(&mut self, order: Order, words: &mut Words) {
@@ -152,7 +165,7 @@ impl<'a> Sequence<'a> {
                 _ => words.below(held),
             });
         }
-        self.intervals();
+        self.look();
     }
 
     /// Every number is got and then released: last first, first first or in any order.
@@ -162,7 +175,7 @@ impl<'a> Sequence<'a> {
         while let Some(last) = self.used.len().checked_sub(1) {
             self.release([last, 0, words.below(last + 1)][order]);
         }
-        self.intervals();
+        self.look();
         for _ in 0..words.below(4) {
             self.get();
         }
@@ -177,14 +190,14 @@ impl<'a> Sequence<'a> {
             self.release(place);
             place += 1;
         }
-        self.intervals();
+        self.look();
         for _ in 0..words.below(self.size / 4 + 2) {
             self.get();
         }
         for _ in 0..words.below(self.used.len() / 4 + 1) {
             self.release(words.below(self.used.len()));
         }
-        self.intervals();
+        self.look();
     }
 
     /// Gets where nothing is left, between releases of a few.
@@ -198,4 +211,48 @@ impl<'a> Sequence<'a> {
             self.get_all();
         }
     }
+}
+
+/// What the sequences hold.
+pub struct Counted {
+    pub gets: usize,
+    pub none_left: usize,
+    pub releases: usize,
+    pub looks: usize,
+    pub fewest_calls: usize,
+    pub most_calls: usize,
+}
+
+pub fn counted(records: &[Record]) -> Counted {
+    let mut counted = Counted {
+        gets: 0,
+        none_left: 0,
+        releases: 0,
+        looks: 0,
+        fewest_calls: usize::MAX,
+        most_calls: 0,
+    };
+    for record in records {
+        let numbers = |bytes: &[u8]| -> Vec<usize> {
+            let two = |pair: &[u8]| usize::from(u16::from_le_bytes([pair[0], pair[1]]));
+            bytes.chunks(2).map(two).collect()
+        };
+        let (given, written) = (numbers(&record.given), numbers(&record.written));
+        let (mut place, mut calls) = (4, 0);
+        for &call in &given[1..] {
+            match call {
+                ROWS => counted.looks += 1,
+                GET => counted.gets += 1,
+                _ => counted.releases += 1,
+            }
+            if call == GET && written[place] == NONE_LEFT {
+                counted.none_left += 1;
+            }
+            calls += usize::from(call != ROWS);
+            place += if call == ROWS { 2 * LARGEST } else { 4 };
+        }
+        counted.fewest_calls = counted.fewest_calls.min(calls);
+        counted.most_calls = counted.most_calls.max(calls);
+    }
+    counted
 }

@@ -1,65 +1,30 @@
-//! Records answers of the unchanged Rust, for the port's own tests to replay.
+//! Records answers of the unchanged Rust, for the port's own test to replay.
 //!
-//!   record cuts OUT        writes the recorded cut choices
-//!   record intervals OUT   writes the recorded sequences of the interval manager
-//!   record runs OUT        writes the recorded byte runs, and the page beside them
-//!   record texts OUT       writes the recorded texts, and the page beside them
-//!   record check CRATES    makes each recording again and compares it with the committed file
-//!                          below the folder CRATES, byte for byte
+//!   record write CRATES    writes the recorded file below the folder CRATES, and the page beside it
+//!   record check CRATES    makes both again and compares them with the committed ones, byte for
+//!                          byte
 #![forbid(unsafe_code)]
 
 mod cuts;
+mod floats;
 mod intervals;
 mod page;
+mod record;
+mod run_page;
 mod runs;
 mod text_page;
 mod texts;
 
+use record::Record;
 use std::path::{Path, PathBuf};
 use std::process::ExitCode;
-
-/// A recorded file: how it is called, where it lies, and its records.
-struct Recording {
-    name: &'static str,
-    file: &'static str,
-    make: fn() -> Vec<Vec<u8>>,
-    /// A page beside it that is made too.
-    page: Option<fn() -> String>,
-}
-
-const RECORDINGS: [Recording; 4] = [
-    Recording {
-        name: "cuts",
-        file: "replay_cut/stdin",
-        make: cuts::make,
-        page: None,
-    },
-    Recording {
-        name: "intervals",
-        file: "replay_intervals/stdin",
-        make: intervals::make,
-        page: None,
-    },
-    Recording {
-        name: "runs",
-        file: "replay_run/stdin",
-        make: runs::make,
-        page: Some(page::make),
-    },
-    Recording {
-        name: "texts",
-        file: "replay_text/stdin",
-        make: texts::make,
-        page: Some(text_page::make),
-    },
-];
 
 fn main() -> ExitCode {
     let arguments: Vec<String> = std::env::args().skip(1).collect();
     let done = match arguments.iter().map(String::as_str).collect::<Vec<_>>()[..] {
+        ["write", crates] => write(Path::new(crates)),
         ["check", crates] => check(Path::new(crates)),
-        [name, out] => write(name, Path::new(out)),
-        _ => Err("usage: record cuts|intervals|runs|texts OUT | record check CRATES".into()),
+        _ => Err("usage: record write CRATES | record check CRATES".into()),
     };
     match done {
         Ok(()) => ExitCode::SUCCESS,
@@ -70,48 +35,72 @@ fn main() -> ExitCode {
     }
 }
 
-/// Makes a recording and writes it, and its page if it has one.
-fn write(name: &str, out: &Path) -> Result<(), String> {
-    let recording = RECORDINGS.iter().find(|r| r.name == name);
-    let recording = recording.ok_or(format!("no recording is called {name}"))?;
-    let records = (recording.make)();
-    let failed = |path: &Path, e| format!("{}: {e}", path.display());
-    std::fs::write(out, records.concat()).map_err(|e| failed(out, e))?;
-    if let Some(page) = recording.page {
-        let beside = page_beside(out);
-        std::fs::write(&beside, page()).map_err(|e| failed(&beside, e))?;
+/// All that is recorded, by its kinds.
+struct Recorded {
+    cuts: Vec<Record>,
+    intervals: Vec<Record>,
+    runs: Vec<runs::Entry>,
+    texts: Vec<texts::Entry>,
+    floats: Vec<Record>,
+}
+
+impl Recorded {
+    fn new() -> Self {
+        Recorded {
+            cuts: cuts::records(),
+            intervals: intervals::records(),
+            runs: runs::entries(),
+            texts: texts::entries(),
+            floats: floats::records(),
+        }
     }
-    println!("recorded {name}: {} records written", records.len());
-    Ok(())
+
+    /// The records in the order of the file.
+    fn bytes(&self) -> Vec<Vec<u8>> {
+        let before = self.cuts.iter().chain(&self.intervals).map(Record::bytes);
+        let runs = self.runs.iter().map(|run| run.record().bytes());
+        let texts = self.texts.iter().map(|text| text.record().bytes());
+        let floats = self.floats.iter().map(Record::bytes);
+        before.chain(runs).chain(texts).chain(floats).collect()
+    }
+}
+
+fn file(crates: &Path) -> PathBuf {
+    crates.join("replay/stdin")
 }
 
 fn page_beside(file: &Path) -> PathBuf {
     file.with_file_name("RECORDED.md")
 }
 
-/// Compares every committed recording with one made now.
+fn write(crates: &Path) -> Result<(), String> {
+    let recorded = Recorded::new();
+    let records = recorded.bytes();
+    let put = |path: &Path, bytes: &[u8]| {
+        std::fs::write(path, bytes).map_err(|e| format!("{}: {e}", path.display()))
+    };
+    let file = file(crates);
+    put(&file, &records.concat())?;
+    put(&page_beside(&file), page::make(&recorded).as_bytes())?;
+    println!("recorded: {} records written", records.len());
+    Ok(())
+}
+
+/// Compares the committed file and page with those made now.
 fn check(crates: &Path) -> Result<(), String> {
-    let (mut records, mut differing) = (0, 0);
-    for recording in &RECORDINGS {
-        let path = crates.join(recording.file);
-        let committed = read(&path)?;
-        let compared = compare(&(recording.make)(), &committed);
-        let (name, all, differ) = (recording.name, compared.records, compared.differing);
-        println!(
-            "recorded {name}: {all} records, {differ} differ{}",
-            compared.first
-        );
-        records += all;
-        differing += differ;
-        if let Some(page) = recording.page {
-            if read(&page_beside(&path))? != page().into_bytes() {
-                return Err(format!("{name}: its page is not what is recorded"));
-            }
-        }
+    let recorded = Recorded::new();
+    let file = file(crates);
+    let compared = compare(&recorded.bytes(), &read(&file)?);
+    let (all, differ) = (compared.records, compared.differing);
+    println!(
+        "harness: {all} records compared, {differ} differ{}",
+        compared.first
+    );
+    if differ > 0 {
+        return Err("the recorded file is not what the Rust answers".into());
     }
-    println!("harness: {records} records compared, {differing} differ");
-    if differing > 0 {
-        return Err("a recorded file is not what the Rust answers".into());
+    if read(&page_beside(&file))? != page::make(&recorded).into_bytes() {
+        return Err("the page is not what is recorded".into());
     }
     Ok(())
 }

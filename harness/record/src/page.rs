@@ -1,113 +1,51 @@
-//! The page beside the recorded runs: what an entry is, and what the runs hold, counted.
-use crate::runs::{entries, Entry, MOST_BYTES};
-use runs::{decode, Call, Outcome};
-use std::collections::BTreeMap;
+//! The page beside the recorded file: what a record is, and what the records hold, counted.
+use crate::{cuts, floats, intervals, record, run_page, text_page, Recorded};
 
-/// How often a kind of call was answered with each refusal, 0 for none.
-type Table = BTreeMap<(u32, u32), usize>;
-
-pub fn make() -> String {
-    let entries = entries();
-    let table = count(&entries);
-    let calls: usize = calls_of(&table, |kind| kind != 1).sum();
-    let out = refused(&entries);
-    let refused_makings: usize = table
-        .iter()
-        .filter(|((kind, refusal), _)| *kind == 1 && *refusal > 0)
-        .map(|(_, n)| n)
-        .sum();
+pub fn make(recorded: &Recorded) -> String {
+    let [held, whole, parting] = cuts::counted(&recorded.cuts);
+    let sequences = intervals::counted(&recorded.intervals);
     let numbers = [
-        ("@ENTRIES", entries.len()),
-        ("@CALLS", calls),
-        ("@OUT", out),
-        ("@MAKINGS", refused_makings),
-        ("@MOST", MOST_BYTES),
-        ("@RUN", largest(&entries, |e| e.run.len())),
-        ("@ANSWERS", largest(&entries, |e| e.outcome.returned())),
-        ("@FULL", full_capacity(&entries)),
+        ("@RECORDS", recorded.bytes().len()),
+        ("@ROOM", record::ROOM),
+        ("@CUTS", recorded.cuts.len()),
+        ("@CUTS_DRAWN", 2 * recorded.cuts.len()),
+        ("@NO_CUT", held),
+        ("@NOT_PARTING", whole),
+        ("@PARTING", parting),
+        ("@SEQUENCES", recorded.intervals.len()),
+        ("@GETS", sequences.gets),
+        ("@NONE_LEFT", sequences.none_left),
+        ("@RELEASES", sequences.releases),
+        ("@LOOKS", sequences.looks),
+        ("@FEWEST_CALLS", sequences.fewest_calls),
+        ("@MOST_CALLS", sequences.most_calls),
     ];
-    let mut page = include_str!("page.md").replace("@TABLE\n", &rows(&table));
-    for (name, number) in numbers {
-        page = page.replace(name, &grouped(number));
-    }
-    page
+    let page = include_str!("page.md").replace("@FLOAT_TABLE\n", &float_rows(recorded));
+    let page = run_page::fill(page, &recorded.runs);
+    put(text_page::fill(page, &recorded.texts), &numbers)
 }
 
-fn largest(entries: &[Entry], size: fn(&Entry) -> usize) -> usize {
-    entries.iter().map(size).max().unwrap_or(0)
-}
-
-fn refused(entries: &[Entry]) -> usize {
-    let is = |e: &&Entry| matches!(e.outcome, Outcome::Refused(_));
-    entries.iter().filter(is).count()
-}
-
-fn calls_of(table: &Table, of: fn(u32) -> bool) -> impl Iterator<Item = usize> + '_ {
-    let these = move |entry: &(&(u32, u32), &usize)| of(entry.0 .0);
-    table.iter().filter(these).map(|(_, n)| *n)
-}
-
-/// The refusals of an entry's making and calls, each with the call, if it is one.
-fn answered(entry: &Entry) -> Vec<(Option<Call>, u32)> {
-    let (Some(run), Outcome::Answered(bytes)) = (decode(&entry.run), &entry.outcome) else {
-        return vec![];
+/// A row for each function of floats: how many inputs, in how many records.
+fn float_rows(recorded: &Recorded) -> String {
+    let row = |function: &floats::Function| {
+        let of = recorded.floats.iter().filter(|r| r.kind == function.kind);
+        let inputs: usize = of.clone().map(|r| r.given.len() / 12).sum();
+        let (kind, name) = (function.kind, function.name);
+        format!(
+            "| {kind} | `{name}` | {} | {} |\n",
+            grouped(inputs),
+            of.count()
+        )
     };
-    let number = |place: usize| {
-        let four = bytes.get(place..place + 4)?;
-        Some(u32::from_le_bytes(four.try_into().expect("four bytes")))
-    };
-    let mut place = 4;
-    let mut found = vec![(None, number(0).expect("the making's answer"))];
-    for call in run.calls {
-        // a refused making leaves its calls unanswered
-        let Some(refusal) = number(place) else { break };
-        place += 4 * call.answer_numbers(run.making.channels);
-        found.push((Some(call), refusal));
-    }
-    found
+    floats::FUNCTIONS.iter().map(row).collect()
 }
 
-fn count(entries: &[Entry]) -> Table {
-    let mut table = Table::new();
-    for (call, refusal) in entries.iter().flat_map(answered) {
-        let kind = call.map_or(1, |call| call.kind());
-        *table.entry((kind, refusal)).or_insert(0) += 1;
-    }
-    table
-}
-
-/// The largest capacity of a run in which an add is refused because the tree is full.
-fn full_capacity(entries: &[Entry]) -> usize {
-    let full = |e: &&Entry| answered(e).iter().any(|(_, refusal)| *refusal == 10);
-    let capacity = |e: &Entry| decode(&e.run).map_or(0, |run| run.making.capacity as usize);
-    entries.iter().filter(full).map(capacity).max().unwrap_or(0)
-}
-
-/// A row for each kind: how many, how many accepted, and the refusals.
-fn rows(table: &Table) -> String {
-    let names = [
-        (1, "make"),
-        (3, "put"),
-        (4, "add"),
-        (5, "delete"),
-        (8, "copies"),
-        (9, "branch"),
-        (10, "box"),
-    ];
-    let mut text = String::new();
-    for (kind, name) in names {
-        let of = table.iter().filter(|((k, _), _)| *k == kind);
-        let all: usize = of.clone().map(|(_, n)| n).sum();
-        let accepted = table.get(&(kind, 0)).copied().unwrap_or(0);
-        let refused: Vec<String> = of
-            .filter(|((_, refusal), _)| *refusal > 0)
-            .map(|((_, refusal), n)| format!("{refusal}: {}", grouped(*n)))
-            .collect();
-        let (all, accepted) = (grouped(all), grouped(accepted));
-        let refused = refused.join(", ");
-        text += &format!("| {kind} | {name} | {all} | {accepted} | {refused} |\n");
-    }
-    text
+/// The page with each number in the place of its name. Longer names go first, as one may begin another.
+pub fn put(page: String, numbers: &[(&str, usize)]) -> String {
+    let mut sorted = numbers.to_vec();
+    sorted.sort_by_key(|(name, _)| std::cmp::Reverse(name.len()));
+    let fill = |page: String, (name, number): &(&str, usize)| page.replace(name, &grouped(*number));
+    sorted.iter().fold(page, fill)
 }
 
 /// A number with a comma before every three digits.

@@ -1,31 +1,25 @@
-//! The page beside the recorded texts: what an entry is, and what the texts hold, counted.
+//! What the recorded texts hold, counted for the page.
 use crate::page::grouped;
-use crate::texts::{entries, Entry, MOST_OUTPUT, MOST_TEXT};
+use crate::texts::{Entry, MOST_TEXT};
 use std::collections::BTreeMap;
 use texts::{form, Outcome};
 
-pub fn make() -> String {
-    let entries = entries();
+pub fn fill(page: String, entries: &[Entry]) -> String {
     let of = |count: fn(&Entry) -> usize| entries.iter().map(count);
     let numbers = [
-        ("@ENTRIES", entries.len()),
-        ("@IN", of(in_form).sum()),
-        ("@ROWS", of(rows).sum()),
-        ("@MAKINGS", of(unmade).sum()),
-        ("@TEXTROOM", MOST_TEXT),
-        ("@OUTPUTROOM", MOST_OUTPUT),
-        ("@TEXT", of(|e| e.text.len()).max().unwrap_or(0)),
-        ("@OUTPUT", of(|e| e.output().len()).max().unwrap_or(0)),
-        ("@LARGEST", of(nodes).max().unwrap_or(0)),
+        ("@TEXTS", entries.len()),
+        ("@TEXTS_IN_FORM", of(in_form).sum()),
+        ("@OP_ROWS", of(rows).sum()),
+        ("@TEXTS_UNMADE", of(unmade).sum()),
+        ("@MOST_TEXT", MOST_TEXT),
+        ("@LONGEST_OUTPUT", of(|e| e.output().len()).max().unwrap_or(0)),
+        ("@LARGEST_TREE", of(nodes).max().unwrap_or(0)),
         ("@NODES", of(nodes).sum()),
     ];
-    let mut page = include_str!("text_page.md")
-        .replace("@KINDS\n", &kinds(&entries))
-        .replace("@REFUSALS\n", &refusals(&entries));
-    for (name, number) in numbers {
-        page = page.replace(name, &grouped(number));
-    }
-    page
+    let page = page
+        .replace("@TEXT_TABLE\n", &kinds(entries))
+        .replace("@REFUSALS\n", &refusals(entries));
+    crate::page::put(page, &numbers)
 }
 
 fn in_form(entry: &Entry) -> usize {

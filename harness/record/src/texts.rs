@@ -1,13 +1,13 @@
-//! Recorded texts with what `treelist` prints for them. The layout of an entry and what the texts
-//! are stand in replay_text/RECORDED.md, which `text_page` writes.
+//! Recorded texts with what `treelist` prints for them.
+use crate::record::Record;
 use oracle::{feed, Words};
 use texts::form::MOST_BYTES;
 use texts::generate::{self, Given, BREAKS, LONGS, MAKINGS};
 use texts::{outcome, Outcome};
 
-/// A replaying program has this much room for a text, and this much for its output.
+pub const KIND: u32 = 3;
+/// No recorded text is longer.
 pub const MOST_TEXT: usize = 4_096;
-pub const MOST_OUTPUT: usize = 16_384;
 const SEED: u64 = 0x1E57_0A5C_1187_60D4;
 const WHOLE: usize = 60;
 const FULL: usize = 8;
@@ -28,7 +28,7 @@ impl Entry {
             outcome: outcome(&given.bytes),
             text: given.bytes,
         };
-        assert!(entry.text.len() <= MOST_TEXT && entry.output().len() <= MOST_OUTPUT);
+        assert!(entry.text.len() <= MOST_TEXT);
         entry
     }
 
@@ -36,13 +36,8 @@ impl Entry {
         self.outcome.bytes()
     }
 
-    fn bytes(&self) -> Vec<u8> {
-        let output = self.output();
-        let mut bytes = Vec::new();
-        for length in [self.text.len(), output.len()] {
-            bytes.extend_from_slice(&(length as u32).to_le_bytes());
-        }
-        [bytes, self.text.clone(), output].concat()
+    pub fn record(&self) -> Record {
+        Record::new(KIND, self.text.clone(), self.output())
     }
 }
 
@@ -70,8 +65,4 @@ pub fn entries() -> Vec<Entry> {
         "the branch seeded with 17 was reached"
     );
     entries
-}
-
-pub fn make() -> Vec<Vec<u8>> {
-    entries().iter().map(Entry::bytes).collect()
 }

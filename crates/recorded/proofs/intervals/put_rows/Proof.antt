@@ -1,0 +1,72 @@
+-- `put_rows` meets its contract: after k turns the first k rows stand. Assumes nothing.
+use Prim.Native.Nat.{_-_}
+use Rattle.lines.proofs.Writes.{long}
+use Rattle.recorded.proofs.Laws.{Rowed, rowed-none, rowed-next, rowed-all}
+use borrow.Author.Needs.{needs}
+use Rattle.recorded.proofs.intervals.put_rows.Statement.{statement}
+use Rattle.recorded.proofs.intervals.put_rows.Tie as tie
+
+abbrev Inv-loop : tie.InvT-loop
+Inv-loop out₀ at rows p₀ k₀ out p k = Rowed rows out₀ out at p k
+
+abbrev μ-loop : tie.MeasureT-loop
+μ-loop out₀ at rows p₀ k₀ out p k = 255 - k
+
+loop-holds : tie.Need-loop-holds Inv-loop μ-loop
+loop-holds c = rowed-none _ _ _
+
+mul-put-pair : tie.Need-mul-put-pair Inv-loop μ-loop
+mul-put-pair c = search needs
+
+index-1-put-pair : tie.Need-index-1-put-pair Inv-loop μ-loop
+index-1-put-pair c = search needs
+
+index-2-put-pair : tie.Need-index-2-put-pair Inv-loop μ-loop
+index-2-put-pair c = search needs
+
+mul-put-pair-2 : tie.Need-mul-put-pair-2 Inv-loop μ-loop
+mul-put-pair-2 c = search needs
+
+index-1-put-pair-2 : tie.Need-index-1-put-pair-2 Inv-loop μ-loop
+index-1-put-pair-2 c = search needs
+
+index-2-put-pair-2 : tie.Need-index-2-put-pair-2 Inv-loop μ-loop
+index-2-put-pair-2 c = search needs
+
+put-pair-requires : tie.Need-put-pair-requires Inv-loop μ-loop
+put-pair-requires c κs = search needs
+
+add-k : tie.Need-add-k Inv-loop μ-loop
+add-k c = search needs
+
+loop-less : tie.Need-loop-less Inv-loop μ-loop
+loop-less c = search needs
+
+loop-again : tie.Need-loop-again Inv-loop μ-loop
+loop-again c = rowed-next (c .before .before .before .before .before .before .before .loop .inv) (c .before .before .before .before .before .before .loop-test .taken) (c .before .before .put-pair .ensures .0) (c .before .before .put-pair .ensures .1)
+
+same-length : tie.Need-same-length Inv-loop μ-loop
+same-length c = long (c .before .loop .inv .wrote)
+
+returns : tie.Need-returns Inv-loop μ-loop
+returns c = rowed-all (c .before .loop .inv) (c .loop-test .left)
+
+pub put-rows-spec : {M : Type 1} → statement M
+put-rows-spec =
+    tie.close
+    (tie.spec
+    Inv-loop
+    μ-loop
+    loop-holds
+    mul-put-pair
+    index-1-put-pair
+    index-2-put-pair
+    mul-put-pair-2
+    index-1-put-pair-2
+    index-2-put-pair-2
+    put-pair-requires
+    add-k
+    loop-less
+    loop-again
+    same-length
+    returns)

@@ -1,0 +1,88 @@
+-- What is answered to a recorded sequence of an interval manager. Definitions.
+use mathlib.Core.Path.{_≡_}
+use mathlib.Core.Bool.{cond}
+use mathlib.Core.List.{List, [], _++_}
+use Prim.Native.Nat.{ℕ, zero, suc, _+_, _-_, _*_, _/_, _≤_}
+use lib.Dec.{eqb}
+use lib.ListN.{length, getD}
+use Rattle.little.specs.Little.{little16, bytes32}
+use Rattle.intervalstoremanager.specs.declared.IntervalStoreManager.{IntervalStoreManager}
+use Rattle.intervalstoremanager.specs.declared.Got.{Got}
+use Rattle.intervalstoremanager.specs.declared.Got.the-variants.{Index, Empty}
+use Rattle.intervalstoremanager.specs.declared.Released.{Released}
+use Rattle.intervalstoremanager.specs.declared.Released.the-variants.{Done, Full}
+use Rattle.intervalstoremanager.specs.Stack.{fresh}
+use Rattle.intervalstoremanager.specs.Rows.{layout, topped, start, end, gotOf, rowsGot, releasedOf, rowsReleased}
+use Rattle.lines.specs.Lines.{Wrote}
+use Rattle.recorded.specs.declared.intervals.Called.{Called}
+use Rattle.recorded.specs.declared.intervals.Reached.{Reached}
+
+-- two numbers of 16 bits
+abbrev pub pair : ℕ → ℕ → List ℕ
+pair x y = bytes32 (x + 65536 * y)
+
+-- an answer, the rows in use after it, and the top one, zeros where there is none
+unfoldable pub toldTop : ℕ → IntervalStoreManager → List (List ℕ) → List ℕ
+toldTop answer m rows = pair answer (m .«last_in_use») ++ cond (topped m) (pair (start m rows) (end m rows)) (bytes32 0)
+
+-- the first n rows
+unfoldable pub rowsTo : List (List ℕ) → ℕ → List ℕ
+rowsTo rows zero = []
+rowsTo rows (suc n) = rowsTo rows n ++ pair (getD (getD rows n []) 0 0) (getD (getD rows n []) 1 0)
+
+-- what a call answers, 65535 where it is refused, and the manager after it
+abbrev pub gotten : IntervalStoreManager → Got → Called
+gotten m (Index i after) = record { answer = i; manager = after }
+gotten m Empty = record { answer = 65535; manager = m }
+
+abbrev pub taken : IntervalStoreManager → ℕ → Released → Called
+taken m i (Done after) = record { answer = i; manager = after }
+taken m i Full = record { answer = 65535; manager = m }
+
+-- 65535 is a `get`, any other number is released
+unfoldable pub called : IntervalStoreManager → List (List ℕ) → ℕ → Called
+called m rows i = cond (eqb i 65535) (gotten m (gotOf m rows)) (taken m i (releasedOf m rows i))
+
+unfoldable pub rowsCalled : IntervalStoreManager → List (List ℕ) → ℕ → List (List ℕ)
+rowsCalled m rows i = cond (eqb i 65535) (rowsGot m rows) (rowsReleased m rows i)
+
+-- one number more: at 65534 all rows are looked at, any other is a call. What is written, and the manager and the rows after it.
+unfoldable pub toldNext : IntervalStoreManager → List (List ℕ) → ℕ → List ℕ
+toldNext m rows i = cond (eqb i 65534) (rowsTo rows 255) (toldTop (called m rows i .answer) (called m rows i .manager) (rowsCalled m rows i))
+
+unfoldable pub managerNext : IntervalStoreManager → List (List ℕ) → ℕ → IntervalStoreManager
+managerNext m rows i = cond (eqb i 65534) m (called m rows i .manager)
+
+unfoldable pub rowsNext : IntervalStoreManager → List (List ℕ) → ℕ → List (List ℕ)
+rowsNext m rows i = cond (eqb i 65534) rows (rowsCalled m rows i)
+
+-- what a turn gives and leaves
+pub record Turned (m : IntervalStoreManager) (rows : List (List ℕ)) (i at : ℕ) (lent : List ℕ) (t : Reached) (rows′ : List (List ℕ)) (out : List ℕ) : Type 0 where
+  pub manager-is : t .manager ≡ managerNext m rows i
+  pub rows-are : rows′ ≡ rowsNext m rows i
+  pub wrote : Wrote lent at (toldNext m rows i) (t .place) out
+  pub few : t .place ≤ at + 1020
+
+-- where a sequence stands
+pub record Standing : Type 0 where
+  pub manager : IntervalStoreManager
+  pub rows : List (List ℕ)
+  pub written : List ℕ
+
+abbrev pub new : ℕ → IntervalStoreManager
+new size = record { capacity = size; «last_in_use» = length (fresh size) }
+
+-- a new manager answers its size
+abbrev pub begun : ℕ → Standing
+begun size = record { manager = new size; rows = layout (fresh size); written = toldTop size (new size) (layout (fresh size)) }
+
+abbrev pub stepped : Standing → ℕ → Standing
+stepped s i = record { manager = managerNext (s .manager) (s .rows) i; rows = rowsNext (s .manager) (s .rows) i; written = s .written ++ toldNext (s .manager) (s .rows) i }
+
+-- the size and the n numbers after it
+unfoldable pub after : List ℕ → ℕ → Standing
+after given zero = begun (little16 given 0)
+after given (suc n) = stepped (after given n) (little16 given (2 * suc n))
+
+unfoldable pub sequenceAnswer : List ℕ → List ℕ
+sequenceAnswer given = cond (eqb (length given / 2) 0) [] (after given (length given / 2 - 1) .written)

@@ -1,0 +1,165 @@
+// A recorded sequence of an interval manager: a size, then calls, each answered with how many rows are in use after it and the top one; at some places all
+// 255 rows are looked at.
+use intervalstoremanager::Got;
+use intervalstoremanager::IntervalStoreManager;
+use intervalstoremanager::Released;
+ghost use mathlib.Core.Path.{_≡_};
+ghost use Prim.Native.Nat.{_+_, _*_, _≤_, _<_};
+ghost use lib.ListN.{length};
+ghost use Rattle.lines.specs.Lines.{Wrote};
+ghost use Rattle.recorded.specs.Sequences.{toldTop, rowsTo, gotten, taken, called, rowsCalled, Turned, sequenceAnswer};
+
+type Rows = [[u16; 2]; IntervalStoreManager::INTERVALS];
+
+// What is given for a `get`, and for a look at all rows; any other number is released.
+const GET: u16 = 65535;
+
+const ROWS: u16 = 65534;
+
+// The answer where nothing is left, or a number is not taken back.
+const NONE: u16 = 65535;
+
+// What a call answers, and the manager after it.
+pub struct Called {
+    pub answer: u16,
+    pub manager: IntervalStoreManager,
+}
+
+// The manager after a number of the sequence, and the next place to write to.
+pub struct Reached {
+    pub manager: IntervalStoreManager,
+    pub place: usize,
+}
+
+fn index(x: u16) -> usize
+    ensures { λ r. ⌜ r ≡ x ⌝ }
+{
+    x as usize
+}
+
+fn after_get(manager: IntervalStoreManager, got: Got) -> Called
+    ensures { λ r. ⌜ r ≡ gotten manager got ⌝ }
+{
+    match got {
+        Got::Index(index, after) => Called {
+            answer: index,
+            manager: after,
+        },
+        Got::Empty => Called {
+            answer: NONE,
+            manager,
+        },
+    }
+}
+
+// A number that is taken back is its own answer.
+fn after_release(manager: IntervalStoreManager, number: u16, released: Released) -> Called
+    ensures { λ r. ⌜ r ≡ taken manager number released ⌝ }
+{
+    match released {
+        Released::Done(after) => Called {
+            answer: number,
+            manager: after,
+        },
+        Released::Full => Called {
+            answer: NONE,
+            manager,
+        },
+    }
+}
+
+fn call(manager: IntervalStoreManager, number: u16, rows: &mut Rows) -> Called
+    ensures { λ r. ⌜ r ≡ called manager (now (rows .entry)) number ⌝ ∗ ⌜ now (rows .exit) ≡ rowsCalled manager (now (rows .entry)) number ⌝ }
+{
+    if number == GET {
+        return after_get(manager, manager.get(rows));
+    }
+    after_release(manager, number, manager.release(rows, number))
+}
+
+// Writes the answer, the rows in use and the top one, or zeros where there is none.
+fn put_top(
+    out: &mut [u8],
+    at: usize,
+    answer: u16,
+    manager: IntervalStoreManager,
+    rows: &Rows,
+) -> usize
+    requires { ⌜ at < 10000000000 ⌝ }
+    ensures wrote { λ r. ⌜ Wrote (now (out .entry)) at (toldTop answer manager (now (rows .entry))) r (now (out .exit)) ⌝ }
+    ensures next { λ r. ⌜ r ≡ at + 8 ⌝ }
+{
+    let p = crate::words::put_pair(out, at, answer, manager.last_in_use);
+    let n = index(manager.last_in_use);
+    if n == 0 {
+        return crate::words::put_word(out, p, 0);
+    }
+    if IntervalStoreManager::INTERVALS < n {
+        return crate::words::put_word(out, p, 0);
+    }
+    crate::words::put_pair(out, p, rows[n - 1][0], rows[n - 1][1])
+}
+
+// Writes all rows, those that are not in use too.
+fn put_rows(out: &mut [u8], at: usize, rows: &Rows) -> usize
+    requires { ⌜ at < 10000000000 ⌝ }
+    ensures wrote { λ r. ⌜ Wrote (now (out .entry)) at (rowsTo (now (rows .entry)) 255) r (now (out .exit)) ⌝ }
+    ensures next { λ r. ⌜ r ≡ at + 1020 ⌝ }
+{
+    let mut p = at;
+    let mut k: usize = 0;
+    while k < IntervalStoreManager::INTERVALS {
+        p = crate::words::put_pair(out, p, rows[k][0], rows[k][1]);
+        k += 1;
+    }
+    p
+}
+
+// One number more of a sequence: a look at all rows, or a call.
+fn turn(
+    out: &mut [u8],
+    at: usize,
+    number: u16,
+    manager: IntervalStoreManager,
+    rows: &mut Rows,
+) -> Reached
+    requires { ⌜ at < 10000000000 ⌝ }
+    ensures { λ r. ⌜ Turned manager (now (rows .entry)) number at (now (out .entry)) r (now (rows .exit)) (now (out .exit)) ⌝ }
+{
+    if number == ROWS {
+        let p = put_rows(out, at, rows);
+        return Reached { manager, place: p };
+    }
+    let done = call(manager, number, rows);
+    let after = done.manager;
+    let p = put_top(out, at, done.answer, after, rows);
+    Reached {
+        manager: after,
+        place: p,
+    }
+}
+
+// The whole sequence: the size, then its calls in turn.
+// Rules out rows that are not in use left out, and a refused call that changes the manager.
+pub fn answer_sequence(given: &[u8], out: &mut [u8]) -> usize
+    requires { ⌜ length (now given) ≤ 1048576 ⌝ }
+    ensures { λ r. ⌜ Wrote (now (out .entry)) 0 (sequenceAnswer (now (given .entry))) r (now (out .exit)) ⌝ }
+{
+    let n = given.len() / 2;
+    if n == 0 {
+        return 0;
+    }
+    let mut rows = [[0u16; 2]; IntervalStoreManager::INTERVALS];
+    let manager = IntervalStoreManager::new(little::u16_at(given, 0), &mut rows);
+    let mut state = Reached {
+        manager,
+        place: put_top(out, 0, manager.get_capacity(), manager, &rows),
+    };
+    let mut i: usize = 1;
+    while i < n {
+        let number = little::u16_at(given, 2 * i);
+        state = turn(out, state.place, number, state.manager, &mut rows);
+        i += 1;
+    }
+    state.place
+}

@@ -1,0 +1,39 @@
+// Numbers of 32 and 64 bits written to a lent buffer. What lies beyond its end is counted and not stored.
+ghost use mathlib.Core.Path.{_≡_};
+ghost use Prim.Native.Nat.{_+_, _*_, _<_};
+ghost use Rattle.lines.specs.Lines.{Wrote};
+ghost use Rattle.little.specs.Little.{bytes32};
+ghost use Rattle.recorded.specs.Words.{bytes64};
+
+// Writes the lowest 32 bits of a number, and gives the next place.
+// Rules out a byte of them left out, and a place that the next number overlaps.
+pub fn put_word(out: &mut [u8], at: usize, x: usize) -> usize
+    requires { ⌜ at < 1000000000000 ⌝ }
+    ensures wrote { λ r. ⌜ Wrote (now (out .entry)) at (bytes32 x) r (now (out .exit)) ⌝ }
+    ensures next { λ r. ⌜ r ≡ at + 4 ⌝ }
+{
+    let mut word = [0u8; 4];
+    little::put_u32(&mut word, 0, x);
+    lines::put_bytes(out, at, &word)
+}
+
+// Writes a number of 64 bits, its lower half first.
+// Rules out the halves swapped.
+pub fn put_double(out: &mut [u8], at: usize, x: usize) -> usize
+    requires { ⌜ at < 100000000000 ⌝ }
+    ensures wrote { λ r. ⌜ Wrote (now (out .entry)) at (bytes64 x) r (now (out .exit)) ⌝ }
+    ensures next { λ r. ⌜ r ≡ at + 8 ⌝ }
+{
+    let p = put_word(out, at, x);
+    put_word(out, p, x / 4294967296)
+}
+
+// Writes two numbers of 16 bits.
+// Rules out the numbers swapped.
+pub fn put_pair(out: &mut [u8], at: usize, x: u16, y: u16) -> usize
+    requires { ⌜ at < 100000000000 ⌝ }
+    ensures wrote { λ r. ⌜ Wrote (now (out .entry)) at (bytes32 (x + 65536 * y)) r (now (out .exit)) ⌝ }
+    ensures next { λ r. ⌜ r ≡ at + 4 ⌝ }
+{
+    put_word(out, at, (x as usize) + 65536 * (y as usize))
+}
