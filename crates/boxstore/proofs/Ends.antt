@@ -13,6 +13,7 @@ use Rattle.readings.specs.Number.{Number}
 use Rattle.wholetree.specs.Reading.{Reading, coordinate}
 use Rattle.wholetree.specs.Whole.{whole, tab, ends}
 use Rattle.readings.proofs.Ordered.{not-le, le-total, le-antisym}
+use Rattle.wholetree.proofs.Boxes.{least-is, most-is}
 use Rattle.wholetree.proofs.Readings.{row-length, coordinate-is}
 use Rattle.wholetree.proofs.Laws.{whole-laws}
 use Rattle.layout.specs.Slots.{boxEnds}
@@ -41,32 +42,11 @@ module _ (d : ℕ) where
   pub most-end : End (whole d) (most (whole d)) (λ a b. le (b .value) (a .value))
   most-end = most-of (whole d) (whole-laws d)
 
-  -- on numbers a test for below and one for at or below pick the same
-  least-value : (a b : Number) → leastFloat (a .value) (b .value) ≡ least (whole d) a b .value
-  unfolding leastFloat
-  least-value a b = rw (← not-le b a) (go (le (a .value) (b .value)) (le (b .value) (a .value)) refl refl)
-    where
-      go : (x y : Bool) → le (a .value) (b .value) ≡ x → le (b .value) (a .value) ≡ y → cond (not y) (a .value) (b .value) ≡ cond x a b .value
-      go true true p q = ap (λ (z : Number). z .value) (le-antisym b a q p)
-      go true false p q = refl
-      go false true p q = refl
-      go false false p q = clash (le (b .value) (a .value)) (le-total a b p) q
-
-  most-value : (a b : Number) → greatestFloat (a .value) (b .value) ≡ most (whole d) a b .value
-  unfolding greatestFloat
-  most-value a b = rw (← not-le b a) (go (le (a .value) (b .value)) (le (b .value) (a .value)) refl refl)
-    where
-      go : (x y : Bool) → le (a .value) (b .value) ≡ x → le (b .value) (a .value) ≡ y → cond (not y) (b .value) (a .value) ≡ cond x b a .value
-      go true true p q = ap (λ (z : Number). z .value) (le-antisym a b p q)
-      go true false p q = refl
-      go false true p q = refl
-      go false false p q = clash (le (b .value) (a .value)) (le-total a b p) q
-
   pub least-ends : (f g : ℕ → Number) → joined leastFloat (ends f) (ends g) ≡ ends (λ (i : ℕ). least (whole d) (f i) (g i))
-  least-ends f g = joined-tab leastFloat width (λ (i : ℕ). f i .value) (λ (i : ℕ). g i .value) ∙ tab-same width _ _ (λ i _. least-value (f i) (g i))
+  least-ends f g = joined-tab leastFloat width (λ (i : ℕ). f i .value) (λ (i : ℕ). g i .value) ∙ tab-same width _ _ (λ i _. sym (least-is d (f i) (g i)))
 
   pub most-ends : (f g : ℕ → Number) → joined greatestFloat (ends f) (ends g) ≡ ends (λ (i : ℕ). most (whole d) (f i) (g i))
-  most-ends f g = joined-tab greatestFloat width (λ (i : ℕ). f i .value) (λ (i : ℕ). g i .value) ∙ tab-same width _ _ (λ i _. most-value (f i) (g i))
+  most-ends f g = joined-tab greatestFloat width (λ (i : ℕ). f i .value) (λ (i : ℕ). g i .value) ∙ tab-same width _ _ (λ i _. sym (most-is d (f i) (g i)))
 
 -- a reading's row is its coordinates
 pub row-ends : (p : Reading) → p .row ≡ ends (coordinate p)

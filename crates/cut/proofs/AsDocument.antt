@@ -26,7 +26,7 @@ use Rattle.boundingbox.specs.Wholes.{side, sumTo}
 use Rattle.boundingbox.proofs.Sums.{nought-is, sum-fits, whole-eq}
 use Rattle.cut.specs.declared.Side.the-variants.{At}
 use Rattle.cut.specs.Draw.{outsideSum, lowEnd, highEnd, sideOf, rangeOf, sideFrom, drawnAt, separation}
-use Rattle.cut.specs.Document.{numberOf, channelOf, restOf, cutOf, documentCut}
+use Rattle.cut.specs.Document.{numberDrawn, channelOf, restOf, cutOf, documentCut}
 use Rattle.cut.specs.Laws.{Readings, AsDocument}
 use Rattle.cut.proofs.Number.{side-is}
 use Rattle.cut.proofs.Stretched.{beyond, out, outside-exact, range-exact, sum-stretched, side-exact, stretched}
@@ -127,12 +127,12 @@ module _ (lo hi p : List Float) (n : ℕ) (R : Readings lo hi p n) where
 
   module _ (w : ℕ) (W : w < 2 ^ 64) where
     -- the sum of the sides times the factor is rounded once
-    pub product-is : mul binary64 (ofInt binary64 (pos S)) (factorOf w) ≡ numberOf (lowEnd lo p) (highEnd hi p) n w
-    unfolding numberOf
+    pub product-is : mul binary64 (ofInt binary64 (pos S)) (factorOf w) ≡ numberDrawn (lowEnd lo p) (highEnd hi p) n w
+    unfolding numberDrawn
     product-is = mul-value binary64 (ofInt binary64 (pos S)) (factorOf w) S 1 (w / 2 ^ 11) (2 ^ 53) (zero-lt-suc 0) (pow-pos 53) (ofInt-value binary64 S S-le) (factor-value w W)
 
     -- the two float sums add up to the sum of the sides
-    pub number-is : rangeOf lo hi p n w ≡ numberOf (lowEnd lo p) (highEnd hi p) n w
+    pub number-is : rangeOf lo hi p n w ≡ numberDrawn (lowEnd lo p) (highEnd hi p) n w
     unfolding rangeOf
     number-is =
         ap (λ (x : Float). mul binary64 x (factorOf w))

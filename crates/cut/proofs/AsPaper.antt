@@ -14,7 +14,7 @@ use Rattle.readings.proofs.Values.{scaled-exact}
 use Rattle.boundingbox.specs.Wholes.{side, sumTo}
 use Rattle.boundingbox.proofs.Sums.{sumTo-next}
 use Rattle.cut.specs.Paper.{falls, first, channelAt, restAt}
-use Rattle.cut.specs.Document.{numberOf, channelOf, restOf, cutOf}
+use Rattle.cut.specs.Document.{numberDrawn, channelOf, restOf, cutOf}
 use Rattle.cut.specs.Laws.{InProportion, AsPaper}
 use Rattle.cut.proofs.First.{sum-more, falls-wide}
 use Rattle.cut.proofs.Going.{expo, den-is}
@@ -92,7 +92,7 @@ rest-most g n q c = sub-le q (sumTo g (channelAt g n q c) * c)
 pub as-paper : AsPaper
 unfolding cutOf channelOf restOf
 as-paper n lo hi w B P W =
-    let N = numberOf lo hi n w in
+    let N = numberDrawn lo hi n w in
     let o = own lo hi n B w W in
     let v : HasValue N false (num N) (den N) = subst (HasValue N false (num N)) (sym (den-is N)) (o .0 .value) in
     record {

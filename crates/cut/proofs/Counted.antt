@@ -24,7 +24,7 @@ use Rattle.cut.specs.declared.Separation.{Separation}
 use Rattle.cut.specs.declared.Side.the-variants.{At}
 use Rattle.cut.specs.Paper.{restAt}
 use Rattle.cut.specs.Draw.{lowEnd, highEnd, sideOf, drawnAt, separation}
-use Rattle.cut.specs.Document.{numberOf, channelOf, restOf}
+use Rattle.cut.specs.Document.{numberDrawn, channelOf, restOf}
 use Rattle.cut.specs.Laws.{Readings}
 use Rattle.cut.specs.Sums.{one, atLeastOne, countBelow}
 use Rattle.cut.proofs.First.{Short, Found, before-found, short-before}
@@ -79,19 +79,19 @@ module _ (lo hi : ℕ → Float) (n : ℕ) (B : Box lo hi n) (w : ℕ) (W : w < 
   g = side lo hi
 
   abbrev N : Float
-  N = numberOf lo hi n w
+  N = numberDrawn lo hi n w
 
   abbrev d : ℕ
   d = channelOf lo hi n w
 
-  found-there : Found (side lo hi) (num (numberOf lo hi n w)) (2 ^ expo (numberOf lo hi n w)) n 0 (channelOf lo hi n w)
+  found-there : Found (side lo hi) (num (numberDrawn lo hi n w)) (2 ^ expo (numberDrawn lo hi n w)) n 0 (channelOf lo hi n w)
   found-there = subst (λ (c : ℕ). Found g (num N) c n 0 d) (den-is N) (channel-found lo hi n B w W P)
 
   sum-le : (i : ℕ) → i ≤ n → sumTo (side lo hi) i ≤ 2 ^ 53
   sum-le i h = le-trans (sum-fits lo hi n B i h) (pow-mono (leb→le 26 53 tt))
 
   -- the sum with side i in it lies below the number exactly where i lies before the channel: as many do as stand before it
-  counted : (s : ℕ → Float) → ((i : ℕ) → i < n → s i ≡ ofInt binary64 (pos (sumTo (side lo hi) (i + 1)))) → countBelow s (atLeastOne (numberOf lo hi n w)) n ≡ channelOf lo hi n w
+  counted : (s : ℕ → Float) → ((i : ℕ) → i < n → s i ≡ ofInt binary64 (pos (sumTo (side lo hi) (i + 1)))) → countBelow s (atLeastOne (numberDrawn lo hi n w)) n ≡ channelOf lo hi n w
   counted s e = count-is s (atLeastOne N) d n (λ i h. ap (λ (y : Float). lt y (atLeastOne N)) (e i h) ∙ test i (next i h)) ∙ least n d (channel-below lo hi n B w W P)
     where
       next : (i : ℕ) → i < n → i + 1 ≤ n
@@ -106,7 +106,7 @@ module _ (lo hi : ℕ → Float) (n : ℕ) (B : Box lo hi n) (w : ℕ) (W : w < 
           (λ z. lt→ltb i d (short-before g (num N) (2 ^ expo N) n 0 d found-there i z)) (λ t. before-found g (num N) (2 ^ expo N) n 0 d found-there i (ltb→lt i d t))
 
   -- and what the sum before the channel leaves of the number is the rest
-  rest-left : sub binary64 (numberOf lo hi n w) (ofInt binary64 (pos (sumTo (side lo hi) (channelOf lo hi n w)))) ≡ restOf lo hi n w
+  rest-left : sub binary64 (numberDrawn lo hi n w) (ofInt binary64 (pos (sumTo (side lo hi) (channelOf lo hi n w)))) ≡ restOf lo hi n w
   unfolding restOf restAt channelOf
   rest-left =
       off-is N (num N) (expo N) (sumTo g d) (own lo hi n B w W .0) (sum-le d (le-of-lt (channel-below lo hi n B w W P)))
@@ -127,7 +127,7 @@ module _ (lo hi p : List Float) (n : ℕ) (R : Readings lo hi p n) (w : ℕ) (W 
   exact : (i : ℕ) → i ≤ n → getD sums i nan ≡ ofInt binary64 (pos (sumTo (side (lowEnd lo p) (highEnd hi p)) i))
   exact i h = E i (omega arith) ∙ sides-exact lo hi p n R i h
 
-  number-told : mul binary64 (getD sums n nan) f ≡ numberOf (lowEnd lo p) (highEnd hi p) n w
+  number-told : mul binary64 (getD sums n nan) f ≡ numberDrawn (lowEnd lo p) (highEnd hi p) n w
   number-told = rw (exact n (le-refl n), F) (product-is lo hi p n R w W)
 
   channel-told : d ≡ channelOf (lowEnd lo p) (highEnd hi p) n w

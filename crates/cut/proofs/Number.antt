@@ -15,7 +15,7 @@ use Rattle.boundingbox.specs.Wholes.{Box, side, sumTo}
 use Rattle.cut.specs.declared.Side.the-variants.{At}
 use Rattle.cut.specs.Paper.{first, channelAt, restAt}
 use Rattle.cut.specs.Draw.{sideFrom}
-use Rattle.cut.specs.Document.{numberOf, channelOf, restOf}
+use Rattle.cut.specs.Document.{numberDrawn, channelOf, restOf}
 use Rattle.cut.proofs.Range.{Range, first-range, at-most}
 use Rattle.cut.proofs.Going.{expo, den-is, own-range, range-is, start, found}
 
@@ -27,18 +27,18 @@ module _ (lo hi : ℕ → Float) (n : ℕ) (B : Box lo hi n) (w : ℕ) (W : w < 
   S = sumTo (side lo hi) n
 
   abbrev N : Float
-  N = numberOf lo hi n w
+  N = numberDrawn lo hi n w
 
   S-le : S ≤ 2 ^ 32
   S-le = le-trans (sum-fits lo hi n B n (le-refl n)) (pow-mono (leb→le 26 32 tt))
 
   number-fits : T (fits binary64 N)
-  unfolding numberOf
+  unfolding numberDrawn
   number-fits = round-fits binary64 false (S * (w / 2 ^ 11)) (2 ^ 53)
 
   -- it is at most the sum of the sides
   pub number-most : num N ≤ S * den N
-  unfolding numberOf
+  unfolding numberDrawn
   number-most = most _ _ (first-range S (w / 2 ^ 11) S-le (le-of-lt (upper-bits w W))) (at-most S (w / 2 ^ 11) S-le (le-of-lt (upper-bits w W)))
     where
       most : (q k : ℕ) → Range (round binary64 false (S * (w / 2 ^ 11)) (2 ^ 53)) q k → q ≤ S * 2 ^ k → num (round binary64 false (S * (w / 2 ^ 11)) (2 ^ 53)) ≤ S * den (round binary64 false (S * (w / 2 ^ 11)) (2 ^ 53))
@@ -47,7 +47,7 @@ module _ (lo hi : ℕ → Float) (n : ℕ) (B : Box lo hi n) (w : ℕ) (W : w < 
           le-of-mul-le-mul-right (le-trans (le-of-eq (value→cross x q (2 ^ k) (r .value))) (le-trans (mul-le-mul-right (den x) h) (le-of-eq (mul-right-comm S (2 ^ k) (den x))))) (pow-pos k)
 
   pub own : Range N (num N) (expo N) × (num N < 2 ^ 53)
-  unfolding numberOf
+  unfolding numberDrawn
   own = own-range S S-le N _ _ number-fits (first-range S (w / 2 ^ 11) S-le (le-of-lt (upper-bits w W)) .value) number-most
 
   -- where some side is not zero, the loop ends in a side: document 01's channel, with document 01's rest

@@ -17,7 +17,7 @@ use Rattle.cut.specs.declared.Cut.{Cut}
 use Rattle.cut.specs.declared.Separation.the-variants.{Drawn}
 use Rattle.cut.specs.Paper.{falls, first, channelAt, restAt}
 use Rattle.cut.specs.Draw.{lowEnd, highEnd, partsAt, separation}
-use Rattle.cut.specs.Document.{numberOf, channelOf, restOf, cutOf, documentCut}
+use Rattle.cut.specs.Document.{numberDrawn, channelOf, restOf, cutOf, documentCut}
 use Rattle.cut.specs.Laws.{Readings, Padded, PaddingCutsNothing}
 use Rattle.cut.proofs.First.{Found}
 use Rattle.cut.proofs.Stretched.{stretched}
@@ -134,10 +134,10 @@ module _ (d k : ℕ) (lo hi p : List Float) (Z : Padded lo hi p d (d + k)) (R : 
 
   module _ (w : ℕ) (W : w < 2 ^ 64) (o : contains lo hi p p d ≡ false) where
     abbrev q : Float
-    q = numberOf (lowEnd lo p) (highEnd hi p) d w
+    q = numberDrawn (lowEnd lo p) (highEnd hi p) d w
 
-    numbers : numberOf (lowEnd lo p) (highEnd hi p) (d + k) w ≡ numberOf (lowEnd lo p) (highEnd hi p) d w
-    unfolding numberOf
+    numbers : numberDrawn (lowEnd lo p) (highEnd hi p) (d + k) w ≡ numberDrawn (lowEnd lo p) (highEnd hi p) d w
+    unfolding numberDrawn
     numbers = ap (λ (s : ℕ). round binary64 false (s * (w / 2 ^ 11)) (2 ^ 53)) sums
 
     channels : channelAt (side (lowEnd lo p) (highEnd hi p)) (d + k) (num q) (den q) ≡ channelAt (side (lowEnd lo p) (highEnd hi p)) d (num q) (den q)

@@ -23,7 +23,7 @@ use Rattle.boundingbox.specs.Wholes.{Box, side, sumTo}
 use Rattle.boundingbox.proofs.Sums.{sum-pos}
 use Rattle.cut.specs.Paper.{channelAt}
 use Rattle.cut.specs.Draw.{lowEnd, highEnd, moved, placed, parts, partsAt}
-use Rattle.cut.specs.Document.{numberOf, channelOf, restOf, cutOf}
+use Rattle.cut.specs.Document.{numberDrawn, channelOf, restOf, cutOf}
 use Rattle.cut.specs.Laws.{Readings, Within, CutWithin, LeafParts, strays, seeded17, NeverSeeded17}
 use Rattle.cut.proofs.First.{falls-says, Found, first-found}
 use Rattle.cut.proofs.Stretched.{stretched}
@@ -74,15 +74,15 @@ module _ (lo hi : ℕ → Float) (n : ℕ) (B : Box lo hi n) (w : ℕ) (W : w < 
   abbrev d : ℕ
   d = channelOf lo hi n w
 
-  pub channel-found : Found (side lo hi) (num (numberOf lo hi n w)) (den (numberOf lo hi n w)) n 0 (channelOf lo hi n w)
+  pub channel-found : Found (side lo hi) (num (numberDrawn lo hi n w)) (den (numberDrawn lo hi n w)) n 0 (channelOf lo hi n w)
   unfolding channelOf channelAt sumTo
-  channel-found = first-found (side lo hi) (num (numberOf lo hi n w)) (den (numberOf lo hi n w)) n 0 (inl refl) (rw zero-add (number-most lo hi n B w W)) (rw zero-add P)
+  channel-found = first-found (side lo hi) (num (numberDrawn lo hi n w)) (den (numberDrawn lo hi n w)) n 0 (inl refl) (rw zero-add (number-most lo hi n B w W)) (rw zero-add P)
 
   pub channel-below : channelOf lo hi n w < n
   channel-below = subst (λ (x : ℕ). channelOf lo hi n w < x) (zero-add n) (channel-found .within)
 
   wide : 0 < side lo hi d
-  wide = falls-says (side lo hi) (num (numberOf lo hi n w)) (den (numberOf lo hi n w)) d (channel-found .falls-there) .0
+  wide = falls-says (side lo hi) (num (numberDrawn lo hi n w)) (den (numberDrawn lo hi n w)) d (channel-found .falls-there) .0
 
   ordered : rank (lo d) < rank (hi d)
   ordered = go (rank (lo d)) (rank (hi d)) wide

@@ -13,18 +13,18 @@ use Rattle.cut.specs.Paper.{channelAt, restAt}
 use Rattle.cut.specs.Draw.{lowEnd, highEnd, placed, partsAt}
 
 -- the sum of the n sides from lo to hi times the factor of the word w, rounded once
-unfoldable pub numberOf : (ℕ → Float) → (ℕ → Float) → ℕ → ℕ → Float
+unfoldable pub numberDrawn : (ℕ → Float) → (ℕ → Float) → ℕ → ℕ → Float
 unfolding round sumTo
-numberOf lo hi n w = round binary64 false (sumTo (side lo hi) n * (w / 2 ^ 11)) (2 ^ 53)
+numberDrawn lo hi n w = round binary64 false (sumTo (side lo hi) n * (w / 2 ^ 11)) (2 ^ 53)
 
 -- the channel to which that number falls, and what is left of it there. num and den are the number's own fraction
 unfoldable pub channelOf : (ℕ → Float) → (ℕ → Float) → ℕ → ℕ → ℕ
-unfolding channelAt numberOf
-channelOf lo hi n w = channelAt (side lo hi) n (num (numberOf lo hi n w)) (den (numberOf lo hi n w))
+unfolding channelAt numberDrawn
+channelOf lo hi n w = channelAt (side lo hi) n (num (numberDrawn lo hi n w)) (den (numberDrawn lo hi n w))
 
 unfoldable pub restOf : (ℕ → Float) → (ℕ → Float) → ℕ → ℕ → Float
-unfolding restAt numberOf
-restOf lo hi n w = round binary64 false (restAt (side lo hi) n (num (numberOf lo hi n w)) (den (numberOf lo hi n w))) (den (numberOf lo hi n w))
+unfolding restAt numberDrawn
+restOf lo hi n w = round binary64 false (restAt (side lo hi) n (num (numberDrawn lo hi n w)) (den (numberDrawn lo hi n w))) (den (numberDrawn lo hi n w))
 
 unfoldable pub cutOf : (ℕ → Float) → (ℕ → Float) → ℕ → ℕ → Cut
 unfolding channelOf restOf placed

@@ -17,7 +17,7 @@ use Rattle.cut.specs.declared.Side.{Side}
 use Rattle.cut.specs.declared.Side.the-variants.{At, Nowhere}
 use Rattle.cut.specs.Paper.{channelAt, restAt}
 use Rattle.cut.specs.Draw.{lowEnd, highEnd, outsideSum, sideOf, rangeOf, sideFrom, placed, cutAt, partsAt, separation}
-use Rattle.cut.specs.Document.{numberOf, restOf, cutOf, documentCut}
+use Rattle.cut.specs.Document.{numberDrawn, restOf, cutOf, documentCut}
 
 -- a box and a point of n channels, whose ends and coordinates are document 01's
 pub record Readings (lo hi p : List Float) (n : ℕ) : Type 0 where
@@ -65,7 +65,7 @@ pub record Papers (lo hi : ℕ → Float) (n w : ℕ) (k : Cut) : Type 0 where
   -- the number drawn is q / c: the f64 nearest to the paper's, and at most the sum of the sides
   pub q : ℕ
   pub c : ℕ
-  pub number : HasValue (numberOf lo hi n w) false q c
+  pub number : HasValue (numberDrawn lo hi n w) false q c
   pub most : q ≤ sumTo (side lo hi) n * c
   -- the channel is the paper's for that number, and so is the place along its side, with nothing rounded
   pub channel : k .dimension ≡ channelAt (side lo hi) n q c
@@ -73,7 +73,7 @@ pub record Papers (lo hi : ℕ → Float) (n w : ℕ) (k : Cut) : Type 0 where
   -- the place is then narrowed, added and kept within the side
   pub place : k .value ≡ placed (lo (k .dimension)) (hi (k .dimension)) (restOf lo hi n w)
   -- where the product needs no rounding, the channel is the paper's for the factor itself
-  pub unrounded : HasValue (numberOf lo hi n w) false (sumTo (side lo hi) n * (w / 2 ^ 11)) (2 ^ 53) → k .dimension ≡ channelAt (side lo hi) n (sumTo (side lo hi) n * (w / 2 ^ 11)) (2 ^ 53)
+  pub unrounded : HasValue (numberDrawn lo hi n w) false (sumTo (side lo hi) n * (w / 2 ^ 11)) (2 ^ 53) → k .dimension ≡ channelAt (side lo hi) n (sumTo (side lo hi) n * (w / 2 ^ 11)) (2 ^ 53)
 
 -- Document 01's cut is the paper's, but for the roundings (AsPaper.antt).
 abbrev pub AsPaper : Type 0

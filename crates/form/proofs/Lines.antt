@@ -11,7 +11,7 @@ use lib.ListN.{length, take, drop, length-take, length-drop}
 use Rattle.text.specs.Pieces.{pieces, piecesFrom, PieceEnds}
 use Rattle.text.proofs.Pieces.{from-zero, from-first, from-past, own-end}
 use Rattle.form.specs.Rows.{Op, rowOf, isSome}
-use Rattle.form.specs.Form.{Rows, badRow, opRows, before, rowsFrom}
+use Rattle.form.specs.Form.{Rows, badRow, opRows, withRow, rowsFrom}
 use Rattle.form.specs.Lines.{rowsForm}
 use Rattle.form.specs.declared.Form.the-variants.{Good, Bad}
 
@@ -37,14 +37,14 @@ piece-length {b} {s} {k} {e} w = rw (length-take, length-drop) (omega arith)
 
 -- the line from `at` to e, and the lines after it
 pub lines : {s : List ℕ} {at e : ℕ} (n : ℕ) → at ≤ length s → PieceEnds 10 s at e → (e ≡ length s → ⊥)
-    → rowsFrom n (piecesFrom 10 s at) ≡ before (n + 1) (rowOf (pieces 32 (take (e - at) (drop at s)))) (rowsFrom (n + 1) (piecesFrom 10 s (e + 1)))
+    → rowsFrom n (piecesFrom 10 s at) ≡ withRow (n + 1) (rowOf (pieces 32 (take (e - at) (drop at s)))) (rowsFrom (n + 1) (piecesFrom 10 s (e + 1)))
 unfolding rowsFrom
 lines {s} {at} {e} n h x m =
     let g : e + 1 ≤ length s = omega arith in
     rw (from-first 10 s at e h x, from-first 10 s (e + 1) _ g (own-end 10 s (e + 1) g))
 
 -- a row more before the others
-counted : (n : ℕ) (o : Option Op) (r : Rows) → isSome o ≡ true → rowsForm n (before (n + 1) o r) ≡ rowsForm (n + 1) r
+counted : (n : ℕ) (o : Option Op) (r : Rows) → isSome o ≡ true → rowsForm n (withRow (n + 1) o r) ≡ rowsForm (n + 1) r
 counted n none r h = absurd (false≢true h)
 counted n (some o) (badRow k) h = refl
 counted n (some o) (opRows os) h = ap Good (more (length os))
@@ -52,7 +52,7 @@ counted n (some o) (opRows os) h = ap Good (more (length os))
     more : (l : ℕ) → n + suc l ≡ n + 1 + l
     more l = omega arith
 
-stopped : (n : ℕ) (o : Option Op) (r : Rows) → isSome o ≡ false → rowsForm n (before (n + 1) o r) ≡ Bad (n + 1)
+stopped : (n : ℕ) (o : Option Op) (r : Rows) → isSome o ≡ false → rowsForm n (withRow (n + 1) o r) ≡ Bad (n + 1)
 stopped n none r h = refl
 stopped n (some o) r h = absurd (true≢false h)
 

@@ -9,7 +9,7 @@ use Rattle.text.specs.Pieces.{pieces, PieceEnds}
 use Rattle.text.specs.Numbers.{decimalOf}
 use Rattle.text.proofs.Pieces.{from-first, from-past, own-end}
 use Rattle.form.specs.Rows.{isSome}
-use Rattle.form.specs.Making.{Making, makingBy, makingOf, makingSays, isMaking}
+use Rattle.form.specs.Making.{Making, makingBy, makingOf, makingSays, isMakingRow}
 use Rattle.form.specs.declared.MakingRow.{MakingRow}
 use Rattle.form.specs.declared.MakingRow.the-variants.{Make, NoMaking}
 use Rattle.form.proofs.Lines.{one, two, three}
@@ -36,6 +36,6 @@ module _ (s : List ℕ) {x : ℕ} (wx : PieceEnds 32 s 0 x) where
       making-three h = rw (three 32 s wx nx wy ny wz, from-past 32 s (z + 1) (omega arith))
 
 -- whether there is one, by the code's answer
-pub making-said : (h : MakingRow) {o : Option Making} → o ≡ makingSays h → isMaking h ≡ isSome o
+pub making-said : (h : MakingRow) {o : Option Making} → o ≡ makingSays h → isMakingRow h ≡ isSome o
 making-said (Make x y z) e = rw e
 making-said NoMaking e = rw e

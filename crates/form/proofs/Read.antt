@@ -11,7 +11,7 @@ use Rattle.text.specs.Pieces.{pieces, piecesFrom, PieceEnds}
 use Rattle.text.proofs.Pieces.{from-first, from-past}
 use Rattle.form.specs.Rows.{Op, rowOf}
 use Rattle.form.specs.Making.{Making, makingOf}
-use Rattle.form.specs.Form.{Rows, badRow, opRows, before, rowsFrom, sameBytes, makingNames, opNames, Parsed, bad, read, made, blocks, parsed, formFrom, formOf}
+use Rattle.form.specs.Form.{Rows, badRow, opRows, withRow, rowsFrom, sameBytes, makingNames, opNames, Parsed, bad, read, made, blocks, parsed, formFrom, formOf}
 use Rattle.form.specs.Lines.{FirstLines}
 use Rattle.form.specs.declared.Form.{Form}
 use Rattle.form.specs.declared.Form.the-variants.{Good, Bad}
@@ -83,7 +83,7 @@ module _ {s : List ℕ} {at e : ℕ} (n : ℕ) {os : List Op} (h : at ≤ length
   unfolding areRead opsOf
   next-row m = go (rowOf (pieces 32 (take (e - at) (drop at s)))) (rowsFrom (n + 1) (piecesFrom 10 s (e + 1))) refl refl (sym (lines n h x m) ∙ r)
     where
-      go : (o : Option Op) (q : Rows) → rowOf (pieces 32 (take (e - at) (drop at s))) ≡ o → rowsFrom (n + 1) (piecesFrom 10 s (e + 1)) ≡ q → before (n + 1) o q ≡ opRows os → NextRow s n at e os
+      go : (o : Option Op) (q : Rows) → rowOf (pieces 32 (take (e - at) (drop at s))) ≡ o → rowsFrom (n + 1) (piecesFrom 10 s (e + 1)) ≡ q → withRow (n + 1) o q ≡ opRows os → NextRow s n at e os
       go none q a b f = absurd (false≢true (ap areRead f))
       go (some o) (badRow k) a b f = absurd (false≢true (ap areRead f))
       go (some o) (opRows xs) a b f = record { op = o; rest = xs; is = sym (ap opsOf f); row = a; left = b }

@@ -23,17 +23,17 @@ pub data Rows : Type 0 where
   opRows : List Op → Rows
 
 -- row n in front of the rows after it: the first bad row is the one that is told
-abbrev pub before : ℕ → Option Op → Rows → Rows
-before n none r = badRow n
-before n (some o) (badRow k) = badRow k
-before n (some o) (opRows os) = opRows (o ∷ os)
+abbrev pub withRow : ℕ → Option Op → Rows → Rows
+withRow n none r = badRow n
+withRow n (some o) (badRow k) = badRow k
+withRow n (some o) (opRows os) = opRows (o ∷ os)
 
 -- Document 01, 'Printed tree': 'every line, the last too, ends in a line feed', 'R being the op row from 1'.
 -- The lines after n op rows: what stands after the last line feed is no row and must be empty, else it is a row with no line feed.
 unfoldable pub rowsFrom : ℕ → List (List ℕ) → Rows
 rowsFrom n [] = badRow (n + 1)
 rowsFrom n (p ∷ []) = cond (eqb (length p) 0) (opRows []) (badRow (n + 1))
-rowsFrom n (p ∷ q ∷ ps) = before (n + 1) (rowOf (pieces 32 p)) (rowsFrom (n + 1) (q ∷ ps))
+rowsFrom n (p ∷ q ∷ ps) = withRow (n + 1) (rowOf (pieces 32 p)) (rowsFrom (n + 1) (q ∷ ps))
 
 -- ---- the whole text
 -- equal byte for byte

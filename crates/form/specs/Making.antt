@@ -36,6 +36,6 @@ makingSays (Make x y z) = some (record { channels = x; capacity = y; sixteenths 
 makingSays NoMaking = none
 
 -- whether it is one at all
-abbrev pub isMaking : MakingRow → Bool
-isMaking (Make x y z) = true
-isMaking NoMaking = false
+abbrev pub isMakingRow : MakingRow → Bool
+isMakingRow (Make x y z) = true
+isMakingRow NoMaking = false

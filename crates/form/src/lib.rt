@@ -11,7 +11,7 @@ ghost use Rattle.text.specs.Numbers.{decimalOf, wordOf};
 ghost use Rattle.text.specs.Coordinates.{coordinateOf};
 ghost use Rattle.text.specs.Fields.{numberInForm, numberOrZero, coordinateInForm};
 ghost use Rattle.form.specs.Rows.{areCoordinates, areWords, rowBy, rowOf, rowSays, isOp, isSome};
-ghost use Rattle.form.specs.Making.{makingBy, makingOf, makingSays, isMaking};
+ghost use Rattle.form.specs.Making.{makingBy, makingOf, makingSays, isMakingRow};
 ghost use Rattle.form.specs.Form.{rowsFrom, sameBytes, blocks, formFrom, formOf};
 ghost use Rattle.form.specs.Lines.{rowsForm, FirstLines};
 
@@ -256,7 +256,7 @@ pub fn read_making(row: &[u8]) -> MakingRow
 }
 
 fn is_making(row: MakingRow) -> bool
-    ensures { λ r. ⌜ r ≡ isMaking row ⌝ }
+    ensures { λ r. ⌜ r ≡ isMakingRow row ⌝ }
 {
     match row {
         MakingRow::Make(_, _, _) => true,

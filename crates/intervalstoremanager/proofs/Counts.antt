@@ -21,9 +21,9 @@ pub inside : (a b j : ℕ) → a ≤ j → j ≤ b → within (a, b) j ≡ 1
 unfolding within
 inside a b j l h = rw (le-leb a j l, le-leb j b h)
 
-pub before : (a b j : ℕ) → j < a → within (a, b) j ≡ 0
+pub below-start : (a b j : ℕ) → j < a → within (a, b) j ≡ 0
 unfolding within
-before a b j h = rw (lt-leb a j h)
+below-start a b j h = rw (lt-leb a j h)
 
 pub after : (a b j : ℕ) → b < j → within (a, b) j ≡ 0
 unfolding within
@@ -34,11 +34,11 @@ split : (a b c j : ℕ) → a ≤ b + 1 → b ≤ c → within (a, c) j ≡ with
 split a b c j p q =
     by-test (leb a j)
     (λ l. let l′ = leb-true a j l in by-test (leb j b)
-    (λ h. let h′ = leb-true j b h in omega (arith, inside a c j l′ (omega arith), inside a b j l′ h′, before (b + 1) c j (omega arith)))
+    (λ h. let h′ = leb-true j b h in omega (arith, inside a c j l′ (omega arith), inside a b j l′ h′, below-start (b + 1) c j (omega arith)))
     (λ h. let h′ = leb-false j b h in by-test (leb j c)
     (λ g. let g′ = leb-true j c g in omega (arith, inside a c j l′ g′, after a b j h′, inside (b + 1) c j (omega arith) g′))
     (λ g. let g′ = leb-false j c g in omega (arith, after a c j g′, after a b j h′, after (b + 1) c j g′))))
-    (λ l. let l′ = leb-false a j l in omega (arith, before a c j l′, before a b j l′, before (b + 1) c j (omega arith)))
+    (λ l. let l′ = leb-false a j l in omega (arith, below-start a c j l′, below-start a b j l′, below-start (b + 1) c j (omega arith)))
 
 alone : (i j : ℕ) → within (i, i) j ≡ is i j
 alone i j =
@@ -46,7 +46,7 @@ alone i j =
     (λ e. let e′ = eqb-true i j e in omega (arith, inside i i j (omega arith) (omega arith), is-same i j e′))
     (λ e. let e′ = eqb-false i j e in by-test (leb i j)
     (λ l. omega (arith, after i i j (omega (arith, leb-true i j l, e′)), is-other i j e′))
-    (λ l. omega (arith, before i i j (leb-false i j l), is-other i j e′)))
+    (λ l. omega (arith, below-start i i j (leb-false i j l), is-other i j e′)))
 
 pub holds-get : GetMovesOne
 unfolding holds next afterGet Proper

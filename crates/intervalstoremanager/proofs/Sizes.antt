@@ -11,7 +11,7 @@ use Rattle.limits.specs.Limits.{branchLimit}
 use Rattle.intervalstoremanager.specs.Stack.{fresh, afterGet, afterRelease, within, holds, sizes, Proper, FewIntervals}
 use Rattle.intervalstoremanager.specs.Rows.{releasedOn, NeverFull}
 use Rattle.intervalstoremanager.proofs.Tests.{by-test}
-use Rattle.intervalstoremanager.proofs.Counts.{inside, before, after, proper-release, once-release}
+use Rattle.intervalstoremanager.proofs.Counts.{inside, below-start, after, proper-release, once-release}
 use Rattle.intervalstoremanager.proofs.Layouts.{release-on-stack}
 
 pub sizes-fresh : (size : ℕ) → sizes (fresh size) ≡ size
@@ -72,7 +72,7 @@ total-begun a b zero h = omega arith
 total-begun a b (suc n) h =
     by-test (leb a n)
     (λ l. omega (arith, total-begun a b n (omega arith), inside a b n (leb-true a n l) (omega arith), leb-true a n l))
-    (λ l. omega (arith, total-begun a b n (omega arith), before a b n (leb-false a n l), leb-false a n l))
+    (λ l. omega (arith, total-begun a b n (omega arith), below-start a b n (leb-false a n l), leb-false a n l))
 
 total-whole : (a b n : ℕ) → b < n → total n (within (a, b)) ≡ b + 1 - a
 total-whole a b zero h = absurd (omega arith)

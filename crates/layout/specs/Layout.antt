@@ -1,4 +1,4 @@
--- The slots of a tree's arrays and of its table, each named; `State` of the crate `randomcuttree` says which array is made of which. Definitions.
+-- The slots of a tree's arrays and of its table, each named; `arraysOf` of the crate `treestore` says which array is made of which. Definitions.
 use mathlib.Core.Bool.{cond}
 use mathlib.Core.Option.{Option, none, some}
 use mathlib.Core.List.{List, [], _∷_}

@@ -20,6 +20,7 @@ use Rattle.layout.specs.Stands.{Laid, Once}
 use Rattle.boxstore.specs.Boxed.{Linked}
 use Rattle.boxstore.proofs.Depths.{deep, depth, depth-few, deep-is}
 use Rattle.printed.specs.Printed.{linesOf}
+use Rattle.treestore.proofs.Links.{linked}
 use Rattle.listing.specs.Listing.{rowLine, Listed, SomeListed, PrintsNode}
 
 -- a leaf's mass: of more copies than one, and of one at most
@@ -34,11 +35,6 @@ pub row-written : (nodes : List (List ℕ)) (cuts : List Float) (b : ℕ) {dimen
     → dimension ≡ field nodes b 3 → cut ≡ toBits binary32 (getD cuts b nan) → left ≡ field nodes b 0 → right ≡ field nodes b 1 → mass ≡ field nodes b 2
     → Wrote before at (branchLine b dimension cut left right mass) place after → Wrote before at (rowLine nodes cuts b) place after
 row-written nodes cuts b e f g h m w = rw (e, f, g, h, m) at w
-
--- rows give the ids of the sides
-linked : (d c : ℕ) (nodes : List (List ℕ)) (t : Tree (whole d)) → Laid d c (rowOf d c) (λ (j : ℕ). getD nodes j []) t → Linked d c nodes t
-linked d c nodes (leaf i q n) h = tt
-linked d c nodes (branch b k g l r) h = (ap (λ (x : List ℕ). getD x 0 0) (h .0), ap (λ (x : List ℕ). getD x 1 0) (h .0), linked d c nodes l (h .1), linked d c nodes r (h .2))
 
 module _ (c : ℕ) (nodes : List (List ℕ)) (cuts : List Float) (copies : List ℕ) where
   -- the sides of a branch stand there too, and the branch's line is that of its row

@@ -22,7 +22,7 @@ use Rattle.randomcuttree.specs.declared.RCFTree.{RCFTree}
 abbrev pub cachedBy : Float → ℕ → ℕ
 cachedBy s c = min (cachedPart s c) (c - 1)
 
--- every branch is cut on one of the eight channels of a row
+-- every branch is cut on one of the channels of a row
 abbrev pub InRow : (d : ℕ) → Tree (whole d) → Type 0
 InRow d (leaf i q n) = Unit {0}
 InRow d (branch b k g l r) = (k .channel < width) × InRow d l × InRow d r

@@ -12,18 +12,18 @@ use Rattle.wholetree.specs.Whole.{whole}
 use Rattle.randomcuttree.specs.Making.{madeBy}
 use Rattle.runlayout.specs.declared.Checked.{Checked}
 use Rattle.runlayout.specs.declared.Checked.the-variants.{OutOfLayout, TooFew, Enough}
-use Rattle.runlayout.specs.Layout.{isMaking, channels, capacity, share, restFrom, calls}
+use Rattle.runlayout.specs.Layout.{beginsWithMaking, channels, capacity, share, restFrom, calls}
 use Rattle.runlayout.specs.Check.{widths, verdict}
 use Rattle.run.specs.Outcome.{given, answered, outcomeOf, outcome}
 use Rattle.run.specs.Running.{Checks}
 
 module _ (run lent : List ℕ) where
-  pub no-making : isMaking run ≡ false → (17, lent) ≡ outcome run lent
-  no-making h = sym (ap (λ (o : Option (List (Call (whole (channels run))))). outcomeOf run o lent) (cond-false (isMaking run) (restFrom run (channels run) 5) none h))
+  pub no-making : beginsWithMaking run ≡ false → (17, lent) ≡ outcome run lent
+  no-making h = sym (ap (λ (o : Option (List (Call (whole (channels run))))). outcomeOf run o lent) (cond-false (beginsWithMaking run) (restFrom run (channels run) 5) none h))
 
-  module _ (making : isMaking run ≡ true) where
+  module _ (making : beginsWithMaking run ≡ true) where
     calls-are : (o : Option (List (Call (whole (channels run))))) → restFrom run (channels run) 5 ≡ o → calls run ≡ o
-    calls-are o e = cond-true (isMaking run) (restFrom run (channels run) 5) none making ∙ e
+    calls-are o e = cond-true (beginsWithMaking run) (restFrom run (channels run) 5) none making ∙ e
 
     pub gives : (b : Bool) (q : Checks run b lent) (x : ℕ × List ℕ) → x ≡ given (answered run (madeBy (channels run) (capacity run) (share run)) (q .calls)) lent → x ≡ outcome run lent
     gives b q x e = e ∙ sym (ap (λ (o : Option (List (Call (whole (channels run))))). outcomeOf run o lent) (calls-are (some (q .calls)) (q .rest)))

@@ -5,14 +5,13 @@ use mathlib.Core.Option.{none}
 use mathlib.Core.List.{List, [], _∷_}
 use Prim.Native.Nat.{ℕ, _+_, _/_, _≤_, _<_}
 use native.Mathlib.Omega.{arith}
-use lib.ListN.{length, replicate}
+use lib.ListN.{length}
 use lib.Ieee.{Float}
 use borrow.Author.Tests.{leb-true, leb-false}
 use Rattle.limits.specs.Limits.{pointLimit}
 use Rattle.cuttree.specs.Run.{fresh}
 use Rattle.wholetree.specs.Whole.{whole}
-use Rattle.layout.specs.Layout.{noEnds, tableOf}
-use Rattle.layout.proofs.Tabs.{constant}
+use Rattle.layout.specs.Layout.{tableOf}
 use Rattle.randomcuttree.specs.declared.RCFTree.{RCFTree}
 use Rattle.randomcuttree.specs.declared.Made.{Made}
 use Rattle.randomcuttree.specs.declared.Made.the-variants.{Tree, NotMade}
@@ -25,13 +24,6 @@ use Rattle.run.specs.Outcome.{given, answered}
 use Rattle.run.specs.Running.{Checks, Started}
 use Rattle.run.proofs.Widths.{length-all}
 use Rattle.run.proofs.Given.{given-short}
-
--- a table with nothing written
-pub unwritten : (points : List (List Float)) (marks : List ℕ) → points ≡ replicate pointLimit noEnds → marks ≡ replicate pointLimit 0 → record { points = points; written = marks } ≡ tableOf (λ i. none)
-unwritten points marks e f =
-    let p : points ≡ tableOf (λ i. none) .points = e ∙ constant pointLimit noEnds _ (λ i. refl) in
-    let m : marks ≡ tableOf (λ i. none) .written = f ∙ constant pointLimit 0 _ (λ i. refl) in
-    rw (p, m) refl
 
 module _ (run lent : List ℕ) (before after : Lent) (made : Made) (M : MakeDone (channels run) (capacity run) (share run) before after made) (b : Bool) (q : Checks run b lent) where
   abbrev told : List ℕ

@@ -27,7 +27,7 @@ ghost use Rattle.wholetree.specs.Whole.{whole};
 ghost use Rattle.treestore.specs.Arrays.{lent};
 ghost use Rattle.randomcuttree.specs.Making.{madeBy};
 ghost use Rattle.answers.specs.Said.{saidFrom};
-ghost use Rattle.runlayout.specs.Layout.{isMaking, channels, capacity, share};
+ghost use Rattle.runlayout.specs.Layout.{beginsWithMaking, channels, capacity, share};
 ghost use Rattle.run.specs.Outcome.{given, answered, outcome};
 ghost use Rattle.run.specs.Running.{Running, SomeRunning, Started, SomeStarted, Checks};
 
@@ -56,7 +56,7 @@ fn run_calls(
     run: &[u8],
     answers: &mut [u8],
 ) -> usize
-    requires making { ⌜ isMaking (now run) ≡ true ⌝ }
+    requires making { ⌜ beginsWithMaking (now run) ≡ true ⌝ }
     requires ready { ⌜ SomeRunning (now run) 5 1 tree (lent (now nodes) (now cuts) (now copies) (now free) (now boxes)) (now points) (now written) (now answers) ⌝ }
     ensures { λ r. ⌜ ((final : List ℕ) (count : ℕ) → Running (now (run .entry)) 5 1 tree (lent (now (nodes .entry)) (now (cuts .entry)) (now (copies .entry)) (now (free .entry)) (now (boxes .entry))) (now (points .entry)) (now (written .entry)) (now (answers .entry)) final count
         → (r ≡ count) × (now (answers .exit) ≡ final)) ⌝ }
@@ -114,7 +114,7 @@ fn run_tree(
     run: &[u8],
     answers: &mut [u8],
 ) -> usize
-    requires making { ⌜ isMaking (now run) ≡ true ⌝ }
+    requires making { ⌜ beginsWithMaking (now run) ≡ true ⌝ }
     requires ready { ⌜ SomeStarted (now run) tree (lent (now nodes) (now cuts) (now copies) (now free) (now boxes)) (now points) (now written) (now answers) ⌝ }
     ensures { λ r. ⌜ ((d c : ℕ) (s : Float) (W : World (whole d)) (cs : List (Call (whole d))) → Started d c s W cs (now (run .entry)) tree (lent (now (nodes .entry)) (now (cuts .entry)) (now (copies .entry)) (now (free .entry)) (now (boxes .entry))) (now (points .entry)) (now (written .entry)) (now (answers .entry))
         → (r, now (answers .exit)) ≡ given (0 ∷ saidFrom d c s W cs) (now (answers .entry))) ⌝ }
@@ -137,7 +137,7 @@ fn run_tree(
 
 // A run in its layout, with what its calls' answers need lent or not.
 fn run_made(run: &[u8], answers: &mut [u8], enough: bool) -> usize
-    requires making { ⌜ isMaking (now run) ≡ true ⌝ }
+    requires making { ⌜ beginsWithMaking (now run) ≡ true ⌝ }
     requires calls { ⌜ Checks (now run) enough (now answers) ⌝ }
     ensures { λ r. ⌜ ((q : Checks (now (run .entry)) enough (now (answers .entry)))
         → (r, now (answers .exit)) ≡ given (answered (now (run .entry)) (madeBy (channels (now (run .entry))) (capacity (now (run .entry))) (share (now (run .entry)))) (q .calls)) (now (answers .entry))) ⌝ }
@@ -187,7 +187,7 @@ fn run_made(run: &[u8], answers: &mut [u8], enough: bool) -> usize
 pub extern "C" fn sicklephlox_run(run: &[u8], answers: &mut [u8]) -> usize
     ensures { λ r. ⌜ (r, now (answers .exit)) ≡ outcome (now (run .entry)) (now (answers .entry)) ⌝ }
 {
-    if !runlayout::is_making(run) {
+    if !runlayout::begins_with_making(run) {
         return 17;
     }
     let checked = runlayout::check_calls(run, answers.len() / 4);

@@ -11,7 +11,7 @@ use lib.ListN.{length}
 use Rattle.cuttree.specs.Run.{Call, put, add, delete, query, copiesOf, branchOf, boxOf}
 use Rattle.cuttree.proofs.Tests.{by-cond, by-test, nonsense, clash, cond-true, cond-false}
 use Rattle.wholetree.specs.Whole.{whole}
-use Rattle.runlayout.specs.Layout.{before, isCall, size, number, isMaking, widthAt, standsAt, coordinatesAt, wordsAt, callAt, callsFrom, restFrom}
+use Rattle.runlayout.specs.Layout.{withCall, isCall, size, number, beginsWithMaking, widthAt, standsAt, coordinatesAt, wordsAt, callAt, callsFrom, restFrom}
 use Rattle.runlayout.specs.Check.{widthOf, widthOfKind}
 
 and-left : (a b : Bool) → (a && b) ≡ true → a ≡ true
@@ -68,12 +68,12 @@ module _ (bytes : List ℕ) where
   pub is-call : (p : ℕ) → standsAt bytes p ≡ true → isCall (number bytes p) ≡ true
   is-call p e = and-left (isCall (number bytes p)) (leb (p + widthAt bytes p) (size bytes)) e
 
-  pub making-whole : isMaking bytes ≡ true → length bytes ≡ 4 * size bytes
+  pub making-whole : beginsWithMaking bytes ≡ true → length bytes ≡ 4 * size bytes
   making-whole e =
       let r : length bytes % 4 ≡ 0 = eqb-true (length bytes % 4) 0 (and-left (eqb (length bytes % 4) 0) (leb 5 (size bytes) && eqb (number bytes 0) 1) e) in
       omega arith
 
-  pub making-fits : isMaking bytes ≡ true → 5 ≤ size bytes
+  pub making-fits : beginsWithMaking bytes ≡ true → 5 ≤ size bytes
   making-fits e =
       leb-true 5 (size bytes) (and-left (leb 5 (size bytes)) (eqb (number bytes 0) 1) (and-right (eqb (length bytes % 4) 0) (leb 5 (size bytes) && eqb (number bytes 0) 1) e))
 
@@ -93,8 +93,8 @@ module _ (bytes : List ℕ) where
     -- at the run's end no call is left
     spent : (m p : ℕ) → size bytes ≤ p → callsFrom bytes d zero p ≡ callsFrom bytes d (suc m) p
     spent m p h =
-        cond-same-last (eqb p (size bytes)) (some []) none (cond (standsAt bytes p) (before (callAt bytes d p) (callsFrom bytes d m (p + widthAt bytes p))) none)
-        (λ e. sym (cond-false (standsAt bytes p) (before (callAt bytes d p) (callsFrom bytes d m (p + widthAt bytes p))) none (beyond p h)))
+        cond-same-last (eqb p (size bytes)) (some []) none (cond (standsAt bytes p) (withCall (callAt bytes d p) (callsFrom bytes d m (p + widthAt bytes p))) none)
+        (λ e. sym (cond-false (standsAt bytes p) (withCall (callAt bytes d p) (callsFrom bytes d m (p + widthAt bytes p))) none (beyond p h)))
 
     -- a bound on the calls that is enough changes nothing
     fuel : (n m p : ℕ) → size bytes ≤ n + p → size bytes ≤ m + p → callsFrom bytes d n p ≡ callsFrom bytes d m p
@@ -102,24 +102,24 @@ module _ (bytes : List ℕ) where
     fuel zero (suc m) p h g = spent m p (omega arith)
     fuel (suc n) zero p h g = sym (spent n p (omega arith))
     fuel (suc n) (suc m) p h g =
-        cond-same-last (eqb p (size bytes)) (some []) (cond (standsAt bytes p) (before (callAt bytes d p) (callsFrom bytes d n (p + widthAt bytes p))) none) (cond (standsAt bytes p) (before (callAt bytes d p) (callsFrom bytes d m (p + widthAt bytes p))) none)
-        (λ e. cond-same (standsAt bytes p) (before (callAt bytes d p) (callsFrom bytes d n (p + widthAt bytes p))) (before (callAt bytes d p) (callsFrom bytes d m (p + widthAt bytes p))) none
-        (λ t. ap (before (callAt bytes d p)) (fuel n m (p + widthAt bytes p) (omega (arith, width-least p)) (omega (arith, width-least p)))))
+        cond-same-last (eqb p (size bytes)) (some []) (cond (standsAt bytes p) (withCall (callAt bytes d p) (callsFrom bytes d n (p + widthAt bytes p))) none) (cond (standsAt bytes p) (withCall (callAt bytes d p) (callsFrom bytes d m (p + widthAt bytes p))) none)
+        (λ e. cond-same (standsAt bytes p) (withCall (callAt bytes d p) (callsFrom bytes d n (p + widthAt bytes p))) (withCall (callAt bytes d p) (callsFrom bytes d m (p + widthAt bytes p))) none
+        (λ t. ap (withCall (callAt bytes d p)) (fuel n m (p + widthAt bytes p) (omega (arith, width-least p)) (omega (arith, width-least p)))))
 
     pub rest-end : restFrom bytes d (size bytes) ≡ some []
     rest-end = fuel (size bytes) zero (size bytes) (omega arith) (omega arith) ∙ cond-true (eqb (size bytes) (size bytes)) (some []) none (eq-eqb (size bytes) (size bytes) refl)
 
     -- by the call at the place
-    unfolded : (p : ℕ) → p < size bytes → restFrom bytes d p ≡ cond (standsAt bytes p) (before (callAt bytes d p) (restFrom bytes d (p + widthAt bytes p))) none
+    unfolded : (p : ℕ) → p < size bytes → restFrom bytes d p ≡ cond (standsAt bytes p) (withCall (callAt bytes d p) (restFrom bytes d (p + widthAt bytes p))) none
     unfolded p h =
         fuel (size bytes) (suc (size bytes)) p (omega arith) (omega arith)
-        ∙ cond-false (eqb p (size bytes)) (some []) (cond (standsAt bytes p) (before (callAt bytes d p) (restFrom bytes d (p + widthAt bytes p))) none) (ne-eqb p (size bytes) (λ e. omega arith))
+        ∙ cond-false (eqb p (size bytes)) (some []) (cond (standsAt bytes p) (withCall (callAt bytes d p) (restFrom bytes d (p + widthAt bytes p))) none) (ne-eqb p (size bytes) (λ e. omega arith))
 
-    pub rest-step : (p : ℕ) → p < size bytes → standsAt bytes p ≡ true → restFrom bytes d p ≡ before (callAt bytes d p) (restFrom bytes d (p + widthAt bytes p))
-    rest-step p h e = unfolded p h ∙ cond-true (standsAt bytes p) (before (callAt bytes d p) (restFrom bytes d (p + widthAt bytes p))) none e
+    pub rest-step : (p : ℕ) → p < size bytes → standsAt bytes p ≡ true → restFrom bytes d p ≡ withCall (callAt bytes d p) (restFrom bytes d (p + widthAt bytes p))
+    rest-step p h e = unfolded p h ∙ cond-true (standsAt bytes p) (withCall (callAt bytes d p) (restFrom bytes d (p + widthAt bytes p))) none e
 
     pub rest-out : (p : ℕ) → p < size bytes → standsAt bytes p ≡ false → restFrom bytes d p ≡ none
-    rest-out p h e = unfolded p h ∙ cond-false (standsAt bytes p) (before (callAt bytes d p) (restFrom bytes d (p + widthAt bytes p))) none e
+    rest-out p h e = unfolded p h ∙ cond-false (standsAt bytes p) (withCall (callAt bytes d p) (restFrom bytes d (p + widthAt bytes p))) none e
 
     -- a run in its layout, at a place before its end
     pub record Begun (p : ℕ) (cs : List (Call (whole d))) : Type 0 where
@@ -128,7 +128,7 @@ module _ (bytes : List ℕ) where
       pub is : cs ≡ callAt bytes d p ∷ rest
       pub after : restFrom bytes d (p + widthAt bytes p) ≡ some rest
 
-    begun : (p : ℕ) (cs : List (Call (whole d))) (o : Option (List (Call (whole d)))) → standsAt bytes p ≡ true → restFrom bytes d (p + widthAt bytes p) ≡ o → before (callAt bytes d p) o ≡ some cs → Begun p cs
+    begun : (p : ℕ) (cs : List (Call (whole d))) (o : Option (List (Call (whole d)))) → standsAt bytes p ≡ true → restFrom bytes d (p + widthAt bytes p) ≡ o → withCall (callAt bytes d p) o ≡ some cs → Begun p cs
     begun p cs none t a e = nonsense (cc)
     begun p cs (some rest) t a e = record { stands = t; rest = rest; is = cc; after = a }
 

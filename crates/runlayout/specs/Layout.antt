@@ -11,9 +11,9 @@ use Rattle.cuttree.specs.Run.{Call, put, add, delete, query, copiesOf, branchOf
 use Rattle.wholetree.specs.Whole.{whole, tab}
 
 -- a call more in front of the calls, if these are
-abbrev pub before : {A : Type 0} → A → Option (List A) → Option (List A)
-before x none = none
-before x (some xs) = some (x ∷ xs)
+abbrev pub withCall : {A : Type 0} → A → Option (List A) → Option (List A)
+withCall x none = none
+withCall x (some xs) = some (x ∷ xs)
 
 -- 'kinds 3, 4, 5, 8, 9 and 10'
 abbrev pub isCall : ℕ → Bool
@@ -41,8 +41,8 @@ module _ (bytes : List ℕ) where
   abbrev pub share : Float
   share = ofBits binary64 (double 3)
 
-  abbrev pub isMaking : Bool
-  isMaking = eqb (length bytes % 4) 0 && (leb 5 size && eqb (number 0) 1)
+  abbrev pub beginsWithMaking : Bool
+  beginsWithMaking = eqb (length bytes % 4) 0 && (leb 5 size && eqb (number 0) 1)
 
   -- how many numbers the call at a place has, and whether there is one that ends within the run
   abbrev pub widthAt : ℕ → ℕ
@@ -72,7 +72,7 @@ module _ (bytes : List ℕ) where
     -- the calls from a place on, n at most; none where the run is out of its layout
     abbrev pub callsFrom : ℕ → ℕ → Option (List (Call (whole d)))
     callsFrom zero p = cond (eqb p size) (some []) none
-    callsFrom (suc n) p = cond (eqb p size) (some []) (cond (standsAt p) (before (callAt p) (callsFrom n (p + widthAt p))) none)
+    callsFrom (suc n) p = cond (eqb p size) (some []) (cond (standsAt p) (withCall (callAt p) (callsFrom n (p + widthAt p))) none)
 
     -- a call has a number at least, so there are no more calls than numbers
     abbrev pub restFrom : ℕ → Option (List (Call (whole d)))
@@ -83,4 +83,4 @@ module _ (bytes : List ℕ) where
 
   -- all calls of the run, or none where it is out of its layout
   abbrev pub calls : Option (List (Call (whole channels)))
-  calls = inLayout isMaking
+  calls = inLayout beginsWithMaking

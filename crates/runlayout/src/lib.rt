@@ -4,7 +4,7 @@ ghost use mathlib.Core.Bool.{true, cond};
 ghost use Prim.Native.Nat.{_+_, _*_, _/_, _<_, _≤_};
 ghost use lib.Dec.{leb};
 ghost use lib.ListN.{length};
-ghost use Rattle.runlayout.specs.Layout.{size, number, double, isCall, isMaking, widthAt, standsAt, channels, restFrom};
+ghost use Rattle.runlayout.specs.Layout.{size, number, double, isCall, beginsWithMaking, widthAt, standsAt, channels, restFrom};
 ghost use Rattle.runlayout.specs.Check.{widthOfKind, verdict};
 
 // Whether a run is in the layout, and whether as many answer numbers are lent as it needs.
@@ -46,8 +46,8 @@ pub fn double_at(run: &[u8], p: usize) -> u64
 }
 
 // Whether the run has whole numbers only and begins with a making of a bare tree.
-pub fn is_making(run: &[u8]) -> bool
-    ensures { λ r. ⌜ r ≡ isMaking (now (run .entry)) ⌝ }
+pub fn begins_with_making(run: &[u8]) -> bool
+    ensures { λ r. ⌜ r ≡ beginsWithMaking (now (run .entry)) ⌝ }
 {
     if run.len() % 4 != 0 {
         return false;
@@ -135,7 +135,7 @@ fn with_width(used: usize, width: usize, lent: usize) -> usize
 // Whether the calls after the making are in the layout, and as many answer numbers are lent as they need beside the making's one.
 // Rules out a call cut short at the run's end, and answers too few told for a run that is out of the layout.
 pub fn check_calls(run: &[u8], lent: usize) -> Checked
-    requires { ⌜ (isMaking (now run) ≡ true) × (lent < 4611686018427387904) ⌝ }
+    requires { ⌜ (beginsWithMaking (now run) ≡ true) × (lent < 4611686018427387904) ⌝ }
     ensures { λ r. ⌜ r ≡ verdict (channels (now (run .entry))) lent 1 (restFrom (now (run .entry)) (channels (now (run .entry))) 5) ⌝ }
 {
     let n = size_of(run);

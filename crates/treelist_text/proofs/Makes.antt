@@ -10,24 +10,17 @@ use Rattle.text.specs.Pieces.{piecesFrom}
 use Rattle.cuttree.specs.Run.{fresh}
 use Rattle.wholetree.specs.Whole.{whole}
 use Rattle.layout.specs.Layout.{noEnds, tableOf}
-use Rattle.layout.proofs.Tabs.{constant}
 use Rattle.randomcuttree.specs.declared.RCFTree.{RCFTree}
 use Rattle.randomcuttree.specs.declared.Made.{Made}
 use Rattle.randomcuttree.specs.declared.Made.the-variants.{Tree, NotMade}
 use Rattle.treestore.specs.Arrays.{Lent}
+use Rattle.pointstore.proofs.Empty.{unwritten}
 use Rattle.randomcuttree.specs.Making.{madeBy, MakeDone}
 use Rattle.form.specs.Rows.{Op}
 use Rattle.form.specs.Form.{opRows, rowsFrom}
 use Rattle.lines.specs.Lines.{refusedLine, Wrote}
 use Rattle.treelist_text.specs.Output.{outputFrom, outputBy}
 use Rattle.treelist_text.specs.Running.{Standing}
-
--- a table with nothing written
-unwritten : (points : List (List Float)) (marks : List ℕ) → points ≡ replicate pointLimit noEnds → marks ≡ replicate pointLimit 0 → record { points = points; written = marks } ≡ tableOf (λ i. none)
-unwritten points marks e f =
-    let p : points ≡ tableOf (λ i. none) .points = e ∙ constant pointLimit noEnds _ (λ i. refl) in
-    let m : marks ≡ tableOf (λ i. none) .written = f ∙ constant pointLimit 0 _ (λ i. refl) in
-    rw (p, m) refl
 
 module _ {d c : ℕ} {s : Float} {before after : Lent} {made : Made} (M : MakeDone d c s before after made) where
   pub not-made : (r n : ℕ) → made ≡ NotMade r → n ≡ r → (os : List Op) {l : List ℕ} {q : ℕ} {o : List ℕ} → Wrote l 0 (refusedLine n 0) q o → Wrote l 0 (outputBy d c (madeBy d c s) os) q o

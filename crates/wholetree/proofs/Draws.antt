@@ -34,7 +34,8 @@ use Rattle.wholetree.specs.Reading.{isCoordinate32, Reading, coordinate}
 use Rattle.wholetree.specs.Whole.{ends, cutIn, whole}
 use Rattle.wholetree.specs.Box.{CoordinateBox, partedIn, TreeCut}
 use Rattle.readings.proofs.Ordered.{number-is, not-le, le-refl, le-trans}
-use Rattle.wholetree.proofs.Readings.{every-at, tab-length, tab-at, of-coordinate, row-length, row-at, coordinate-is, coordinate-beyond}
+use Rattle.boundingbox.proofs.Every.{every-at}
+use Rattle.wholetree.proofs.Readings.{tab-length, tab-at, of-coordinate, row-length, row-at, coordinate-is, coordinate-beyond}
 use Rattle.wholetree.proofs.Zeros.{round-sign, placed-number}
 
 -- the ends as a row
@@ -77,7 +78,7 @@ module _ {lo hi : ℕ → Number} (B : CoordinateBox lo hi) (p : Reading) where
 
       inside : i < width → (le (lo i .value) (coordinate p i .value) ≡ true) × (le (coordinate p i .value) (hi i .value) ≡ true)
       inside h =
-          let t = every-at (λ (i : ℕ). stays (channel (ends lo) i) (channel (ends hi) i) (channel (p .row) i) (channel (p .row) i)) width i (yes e) h in
+          let t = every-at (λ (i : ℕ). stays (channel (ends lo) i) (channel (ends hi) i) (channel (p .row) i) (channel (p .row) i)) width (yes e) i h in
           both (le (lo i .value) (coordinate p i .value)) (le (coordinate p i .value) (hi i .value)) (rw (not-le (lo i) (coordinate p i), not-le (coordinate p i) (hi i), coordinate-is p i h, ← ends-at lo i h, ← ends-at hi i h) t)
 
       beyond : width ≤ i → (le (lo i .value) (coordinate p i .value) ≡ true) × (le (coordinate p i .value) (hi i .value) ≡ true)

@@ -19,6 +19,7 @@ use Rattle.readings.proofs.Ranks.{eq-rank, eq-same, coordinate-finite, coordina
 use Rattle.boundingbox.specs.Ends.{channel}
 use Rattle.readings.specs.Number.{nought, zero as zeroNumber, isNumber}
 use Rattle.boundingbox.specs.Contained.{every}
+use Rattle.boundingbox.proofs.Every.{every-at, every-from}
 use Rattle.cuttree.proofs.Tests.{by-test}
 use Rattle.wholetree.specs.Reading.{isCoordinate32, isRow, Reading, coordinate, sameRow, padded, asReading, reading}
 use Rattle.wholetree.specs.Whole.{tab, allCoordinates}
@@ -30,21 +31,6 @@ unfolding isCoordinate32
 coordinate-number x t =
     let c = and-l (isCoordinate x) (fits binary32 x) t in
     is-a-number x (and-r (isCoordinate x) (fits binary32 x) t) (coordinate-finite x c) (coordinate-not-minus-zero x c)
-
--- ---- a test of every channel
-pub every-at : (f : ℕ → Bool) (n i : ℕ) → T (every f n) → i < n → T (f i)
-unfolding every
-every-at f zero i t h = absurd (not-suc-le-zero h)
-every-at f (suc n) i t h = go (eq-or-lt-of-le (le-of-suc-le-suc h)) (every-at f n i (and-l (every f n) (f n) t))
-  where
-    go : (i ≡ n) ⊎ (i < n) → (i < n → T (f i)) → T (f i)
-    go (inl e) k = subst (λ (j : ℕ). T (f j)) (sym e) (and-r (every f n) (f n) t)
-    go (inr l) k = k l
-
-pub every-all : (f : ℕ → Bool) (n : ℕ) → ((i : ℕ) → i < n → T (f i)) → T (every f n)
-unfolding every
-every-all f zero h = tt
-every-all f (suc n) h = and-i (every f n) (f n) (every-all f n (λ i l. h i (le-trans l (le-suc n)))) (h n (le-refl (suc n)))
 
 -- ---- lists by their entries
 pub tab-length : {A : Type 0} (n : ℕ) (f : ℕ → A) → length (tab n f) ≡ n
@@ -105,11 +91,11 @@ row-length p = eqb→eq (length (p .row)) width (and-l (eqb (length (p .row)) wi
 
 pub row-at : (p : Reading) (i : ℕ) → i < width → T (isCoordinate32 (channel (p .row) i))
 unfolding isRow
-row-at p i h = every-at (λ (i : ℕ). isCoordinate32 (channel (p .row) i)) width i (and-r (eqb (length (p .row)) width) (every (λ (i : ℕ). isCoordinate32 (channel (p .row) i)) width) (p .is-row)) h
+row-at p i h = every-at (λ (i : ℕ). isCoordinate32 (channel (p .row) i)) width (and-r (eqb (length (p .row)) width) (every (λ (i : ℕ). isCoordinate32 (channel (p .row) i)) width) (p .is-row)) i h
 
 pub is-a-row : (xs : List Float) → length xs ≡ width → ((i : ℕ) → i < width → T (isCoordinate32 (channel xs i))) → T (isRow xs)
 unfolding isRow
-is-a-row xs l h = and-i (eqb (length xs) width) (every (λ (i : ℕ). isCoordinate32 (channel xs i)) width) (eq→eqb l) (every-all (λ (i : ℕ). isCoordinate32 (channel xs i)) width h)
+is-a-row xs l h = and-i (eqb (length xs) width) (every (λ (i : ℕ). isCoordinate32 (channel xs i)) width) (eq→eqb l) (every-from (λ (i : ℕ). isCoordinate32 (channel xs i)) width h)
 
 -- a reading is known by its row, and a row by its channels
 pub same-reading : (p q : Reading) → p .row ≡ q .row → p ≡ q
@@ -138,11 +124,11 @@ pub same-is : (p q : Reading) → sameRow (p .row) (q .row) ≡ true → p ≡ q
 unfolding sameRow
 same-is p q e = same-channels p q (λ i h. let x = channel (p .row) i in let y = channel (q .row) i in
     eq-same x y (of-coordinate x (row-at p i h)) (of-coordinate y (row-at q i h)) (coordinate-fits x (row-at p i h)) (coordinate-fits y (row-at q i h))
-    (is-true (eq x y) (every-at (λ (i : ℕ). eq (channel (p .row) i) (channel (q .row) i)) width i (yes e) h)))
+    (is-true (eq x y) (every-at (λ (i : ℕ). eq (channel (p .row) i) (channel (q .row) i)) width (yes e) i h)))
 
 pub same-refl : (p : Reading) → sameRow (p .row) (p .row) ≡ true
 unfolding sameRow
-same-refl p = is-true (sameRow (p .row) (p .row)) (every-all (λ (i : ℕ). eq (channel (p .row) i) (channel (p .row) i)) width (λ i h. let x = channel (p .row) i in subst T (sym (eq-rank x x (of-coordinate x (row-at p i h)) (of-coordinate x (row-at p i h)))) (eqb-refl (rank x))))
+same-refl p = is-true (sameRow (p .row) (p .row)) (every-from (λ (i : ℕ). eq (channel (p .row) i) (channel (p .row) i)) width (λ i h. let x = channel (p .row) i in subst T (sym (eq-rank x x (of-coordinate x (row-at p i h)) (of-coordinate x (row-at p i h)))) (eqb-refl (rank x))))
 
 pub same-cong : (p q : Reading) → sameRow (p .row) (q .row) ≡ true → (v : Reading) → sameRow (p .row) (v .row) ≡ sameRow (q .row) (v .row)
 same-cong p q e v = ap (λ (r : Reading). sameRow (r .row) (v .row)) (same-is p q e)

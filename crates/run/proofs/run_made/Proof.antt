@@ -6,7 +6,8 @@ use Prim.Native.Nat.{ℕ}
 use native.Mathlib.Omega.{arith}
 use lib.Ieee.{binary64, ofBits}
 use Rattle.runlayout.proofs.Rest.{making-fits}
-use Rattle.run.proofs.Makes.{unwritten, refused, no-room, begun, answers, read}
+use Rattle.run.proofs.Makes.{refused, no-room, begun, answers, read}
+use Rattle.pointstore.proofs.Empty.{unwritten}
 use Rattle.run.proofs.run_made.Statement.{statement}
 use Rattle.run.proofs.run_made.Tie as tie
 

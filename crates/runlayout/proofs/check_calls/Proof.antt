@@ -10,7 +10,7 @@ use lib.Dec.{leb}
 use Rattle.cuttree.specs.Run.{Call}
 use Rattle.cuttree.proofs.Tests.{by-cond, by-test, cond-true, cond-false}
 use Rattle.wholetree.specs.Whole.{whole}
-use Rattle.runlayout.specs.Layout.{before, size, number, widthAt, standsAt, channels, callAt, restFrom}
+use Rattle.runlayout.specs.Layout.{withCall, size, number, widthAt, standsAt, channels, callAt, restFrom}
 use Rattle.runlayout.specs.Check.{widthOf, widthOfKind, widths, verdict}
 use Rattle.runlayout.specs.declared.Checked.{Checked}
 use Rattle.runlayout.specs.declared.Checked.the-variants.{OutOfLayout, TooFew, Enough}
@@ -29,7 +29,7 @@ counted lent used w m =
     lt-leb (used + (w + m)) lent (omega arith) ∙ sym (lt-leb (used + m) lent (omega arith)) ∙ ap (λ (n : ℕ). leb (n + m) lent) (sym (cond-false (leb used lent) (used + w) used e)))
 
 module _ (d lent used : ℕ) where
-  ahead : (x : Call (whole d)) (o : Option (List (Call (whole d)))) → verdict d lent used (before x o) ≡ verdict d lent (cond (leb used lent) (used + widthOf d x) used) o
+  ahead : (x : Call (whole d)) (o : Option (List (Call (whole d)))) → verdict d lent used (withCall x o) ≡ verdict d lent (cond (leb used lent) (used + widthOf d x) used) o
   ahead x none = refl
   ahead x (some cs) = ap (λ (b : Bool). cond b Enough TooFew) (counted lent used (widthOf d x) (widths d cs))
 

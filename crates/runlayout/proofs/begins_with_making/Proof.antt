@@ -1,4 +1,4 @@
--- `runlayout::is_making` meets its contract. Assumes nothing.
+-- `runlayout::begins_with_making` meets its contract. Assumes nothing.
 use mathlib.Core.Path.{_≡_, refl}
 use mathlib.Core.Bool.{Bool, true, false, _&&_}
 use Prim.Native.Nat.{ℕ, _%_, _<_, _≤_}
@@ -8,8 +8,8 @@ use lib.Dec.{eqb, leb}
 use lib.ListN.{length}
 use Rattle.runlayout.specs.Layout.{size, number}
 use borrow.Author.Needs.{needs}
-use Rattle.runlayout.proofs.is_making.Statement.{statement}
-use Rattle.runlayout.proofs.is_making.Tie as tie
+use Rattle.runlayout.proofs.begins_with_making.Statement.{statement}
+use Rattle.runlayout.proofs.begins_with_making.Tie as tie
 
 -- n is the length over 4, s the size of which t has been read, and k the first number of which j has been read
 rest : (n : ℕ) (b : Bool) → (n ≡ 0 → ⊥) → false ≡ (eqb n 0 && b)
@@ -43,6 +43,6 @@ returns-3 c =
     let r = c .before .before .before .before .before .args .run .now in
     making (length r % 4) (size r) (number r 0) (c .number-at .result) (c .before .before .before .if1 .left) (omega (arith, c .before .if2 .left, c .before .before .size-of .ensures)) (c .number-at .ensures .0)
 
-pub is-making-spec : {M : Type 1} → statement M
-is-making-spec =
+pub begins-with-making-spec : {M : Type 1} → statement M
+begins-with-making-spec =
     tie.close (tie.spec returns size-of-requires returns-2 number-at-requires returns-3)
