@@ -1,18 +1,15 @@
 -- The ends of a tree's boxes as rows of floats: growing the rows channel by channel is growing the ends. Assumes nothing.
 use mathlib.Core.Path.{_≡_, refl, sym, ap, _∙_}
-use mathlib.Core.Bool.{Bool, true, false, not, cond}
 use mathlib.Core.List.{List, [], _∷_}
 use Prim.Native.Nat.{ℕ, zero, suc, _<_}
 use lib.Ieee.{Float, nan, le}
 use Rattle.limits.specs.Limits.{width}
 use Rattle.boundingbox.specs.Ends.{joined, least as leastFloat, greatest as greatestFloat}
 use Rattle.cuttree.specs.Tree.{Tree, lo, hi, least, most}
-use Rattle.cuttree.proofs.Tests.{clash}
 use Rattle.cuttree.proofs.Orders.{End, least-end as least-of, most-end as most-of}
 use Rattle.readings.specs.Number.{Number}
 use Rattle.wholetree.specs.Reading.{Reading, coordinate}
 use Rattle.wholetree.specs.Whole.{whole, tab, ends}
-use Rattle.readings.proofs.Ordered.{not-le, le-total, le-antisym}
 use Rattle.wholetree.proofs.Boxes.{least-is, most-is}
 use Rattle.wholetree.proofs.Readings.{row-length, coordinate-is}
 use Rattle.wholetree.proofs.Laws.{whole-laws}

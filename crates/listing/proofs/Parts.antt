@@ -1,7 +1,7 @@
 -- A node that stands in arrays, by its kind: a leaf with its line, or a branch with its line and its two sides. Laws.
-use mathlib.Core.Path.{_≡_, refl, sym, ap}
+use mathlib.Core.Path.{_≡_, refl, sym}
 use mathlib.Core.Bool.{Bool}
-use mathlib.Core.List.{List, [], _++_}
+use mathlib.Core.List.{List, _++_}
 use Prim.Native.Nat.{ℕ, _+_, _-_, _≤_, _<_}
 use native.Mathlib.Omega.{arith}
 use borrow.Author.Tests.{eqb-true, eqb-false, ne-eqb}
@@ -15,9 +15,8 @@ use Rattle.cuttree.specs.Setting.{Cut}
 use Rattle.cuttree.specs.Tree.{Tree, leaf, branch, id, leafMass}
 use Rattle.cuttree.proofs.Tests.{by-test}
 use Rattle.wholetree.specs.Whole.{whole}
-use Rattle.layout.specs.Slots.{field, rowOf}
-use Rattle.layout.specs.Stands.{Laid, Once}
-use Rattle.boxstore.specs.Boxed.{Linked}
+use Rattle.layout.specs.Slots.{field}
+use Rattle.layout.specs.Stands.{Once}
 use Rattle.boxstore.proofs.Depths.{deep, depth, depth-few, deep-is}
 use Rattle.printed.specs.Printed.{linesOf}
 use Rattle.treestore.proofs.Links.{linked}

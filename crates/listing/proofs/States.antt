@@ -1,6 +1,6 @@
 -- The tree of a state stands in its arrays, to be printed from them; and how long its lines are. Laws.
 use mathlib.Core.Path.{_≡_, refl, sym, ap, _∙_}
-use mathlib.Core.Option.{Option, none, some}
+use mathlib.Core.Option.{Option, some}
 use mathlib.Core.Bool.{true}
 use mathlib.Core.List.{List, []}
 use Prim.Native.Nat.{ℕ, suc, _+_, _-_, _*_, _≤_, _<_}
@@ -9,26 +9,26 @@ use lib.Dec.{eqb}
 use lib.ListN.{length, getD, length-append}
 use lib.Ieee.{Float, nan, binary32, toBits}
 use borrow.Author.Tests.{eqb-true, eqb-false}
-use Rattle.limits.specs.Limits.{width, capacityLimit, branchLimit, pointLimit}
+use Rattle.limits.specs.Limits.{width, capacityLimit, pointLimit}
 use Rattle.readings.specs.Share.{isShare}
 use Rattle.readings.specs.Number.{nought}
 use Rattle.lines.specs.Lines.{namesLine, Wrote}
 use Rattle.lines.proofs.Lengths.{branch-few, leaf-few}
 use Rattle.lines.proofs.Writes.{then}
-use Rattle.cuttree.specs.Tree.{Tree, leaf, branch, id, sum, mass, total, leaves, All, OfTree}
-use Rattle.cuttree.specs.Run.{World, Call, fresh, worldAfter, totalOf}
+use Rattle.cuttree.specs.Tree.{Tree, leaf, branch, id, sum, mass, total, leaves, All}
+use Rattle.cuttree.specs.Run.{World, Call, fresh, worldAfter}
 use Rattle.cuttree.specs.Sound.{Sound}
 use Rattle.cuttree.proofs.Tests.{by-test}
 use Rattle.cuttree.proofs.Nodes.{In, here, left, right}
-use Rattle.cuttree.proofs.Leaves.{leaves-branches, leaves-total}
+use Rattle.cuttree.proofs.Leaves.{leaves-branches}
 use Rattle.cuttree.proofs.Masses.{mass-most}
 use Rattle.cuttree.proofs.Room.{at-leaf, index-below, index-once, intervals-few}
 use Rattle.wholetree.specs.Reading.{Reading}
 use Rattle.wholetree.specs.Whole.{whole, tab}
 use Rattle.wholetree.proofs.Laws.{whole-laws}
 use Rattle.printed.specs.Printed.{linesOf, printedTree}
-use Rattle.layout.specs.Slots.{rowOf, cutOf, lowOf, highOf, countAt}
-use Rattle.layout.specs.Layout.{Table, noRow, rootOf, slotIn, countIn, boxIn, tableOf}
+use Rattle.layout.specs.Slots.{rowOf, cutOf, countAt}
+use Rattle.layout.specs.Layout.{noRow, rootOf, tableOf}
 use Rattle.layout.specs.Stands.{Once, InRange}
 use Rattle.layout.proofs.Tabs.{entry-of}
 use Rattle.layout.proofs.Slots.{tab-laid}

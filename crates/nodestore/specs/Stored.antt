@@ -9,7 +9,7 @@ use Rattle.limits.specs.Limits.{width, capacityLimit, branchLimit, pointLimit, 
 use Rattle.readings.specs.Number.{nought}
 use Rattle.cut.specs.declared.Cut.{Cut}
 use Rattle.cuttree.specs.Setting.{Cut as CutOf, below}
-use Rattle.cuttree.specs.Tree.{Tree, is, ending, height, walk, total, sum, All}
+use Rattle.cuttree.specs.Tree.{Tree, is, ending, height, total, sum, All}
 use Rattle.wholetree.specs.Reading.{Reading}
 use Rattle.wholetree.specs.Whole.{whole, tab}
 use Rattle.layout.specs.Slots.{uses, rowOf, cutOf, countAt}

@@ -1,5 +1,5 @@
 -- The refusals of a given point and of a put, case by case. Assumes nothing.
-use mathlib.Core.Path.{_≡_, refl, sym, ap, _∙_, subst}
+use mathlib.Core.Path.{_≡_, refl, sym, ap, _∙_}
 use mathlib.Core.List.{List}
 use mathlib.Core.Logic.{_≢_}
 use mathlib.Core.Bool.{true, false}
@@ -13,7 +13,7 @@ use Rattle.limits.specs.Limits.{width, pointLimit}
 use Rattle.cuttree.proofs.Tests.{by-test}
 use Rattle.wholetree.specs.Reading.{padded}
 use Rattle.wholetree.specs.Whole.{allCoordinates}
-use Rattle.pointstore.specs.Puts.{pointRefusal, putRefusal, putAnswer, Puts}
+use Rattle.pointstore.specs.Puts.{pointRefusal, putRefusal, Puts}
 use Rattle.pointstore.specs.declared.PutAnswer.{PutAnswer}
 
 module _ (d : ℕ) (xs : List Float) where

@@ -9,7 +9,7 @@ use lib.Dec.{eqb, leb}
 use lib.ListN.{length, getD}
 use lib.Ieee.{Float}
 use borrow.Author.Tests.{le-leb, lt-leb, eq-eqb, ne-eqb, lt-ltb, le-ltb, leb-false, eqb-false}
-use Rattle.limits.specs.Limits.{branchLimit, pointLimit, totalLimit}
+use Rattle.limits.specs.Limits.{pointLimit, totalLimit}
 use Rattle.intervalstoremanager.specs.Stack.{next}
 use Rattle.cuttree.specs.Tree.{Tree, leaf, branch, id, ending, found, walk, leaves, total, addCopy}
 use Rattle.cuttree.specs.Setting.{below}
@@ -18,7 +18,7 @@ use Rattle.cuttree.proofs.Tests.{by-cond, cond-true, cond-false}
 use Rattle.cuttree.proofs.Copies.{total-copy, total-insert}
 use Rattle.cuttree.proofs.Room.{full-is, next-free, index-absent, at-none}
 use Rattle.wholetree.specs.Reading.{Reading}
-use Rattle.wholetree.specs.Whole.{whole, tab}
+use Rattle.wholetree.specs.Whole.{whole}
 use Rattle.wholetree.proofs.Laws.{whole-laws}
 use Rattle.nodestore.specs.Stored.{Arrays, Reached, SomeReached}
 use Rattle.boxstore.proofs.Copies.{copy-boxes}

@@ -1,5 +1,5 @@
 -- A run from its making on: refused, without room, or begun with a fresh tree and an unwritten table. Laws.
-use mathlib.Core.Path.{_≡_, refl, sym, ap, _∙_}
+use mathlib.Core.Path.{_≡_, sym, ap, _∙_}
 use mathlib.Core.Bool.{Bool, true, false}
 use mathlib.Core.Option.{none}
 use mathlib.Core.List.{List, [], _∷_}
@@ -8,7 +8,6 @@ use native.Mathlib.Omega.{arith}
 use lib.ListN.{length}
 use lib.Ieee.{Float}
 use borrow.Author.Tests.{leb-true, leb-false}
-use Rattle.limits.specs.Limits.{pointLimit}
 use Rattle.cuttree.specs.Run.{fresh}
 use Rattle.wholetree.specs.Whole.{whole}
 use Rattle.layout.specs.Layout.{tableOf}

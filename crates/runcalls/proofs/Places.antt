@@ -7,7 +7,6 @@ use native.Mathlib.Omega.{arith}
 use lib.Dec.{eqb}
 use lib.Ieee.{Float}
 use borrow.Author.Tests.{leb-true, eq-eqb, ne-eqb}
-use Rattle.limits.specs.Limits.{width}
 use Rattle.cuttree.specs.Run.{Call, put, add, delete, query, copiesOf, branchOf, boxOf}
 use Rattle.cuttree.proofs.Tests.{clash, by-cond, by-test, cond-true, cond-false}
 use Rattle.wholetree.specs.Whole.{whole}

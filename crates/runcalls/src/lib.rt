@@ -14,7 +14,7 @@ use limits::Points;
 use randomcuttree::RCFTree;
 ghost use mathlib.Core.Path.{_≡_};
 ghost use mathlib.Core.Bool.{true};
-ghost use Prim.Native.Nat.{ℕ, _+_, _*_, _≤_, min};
+ghost use Prim.Native.Nat.{ℕ, _+_, _*_, _≤_};
 ghost use lib.ListN.{length, take};
 ghost use lib.Ieee.{binary32, ofBits};
 ghost use Rattle.limits.specs.Limits.{width, capacityLimit};

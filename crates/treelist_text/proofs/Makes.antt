@@ -1,6 +1,5 @@
 -- The making of a text's tree: refused, or begun with a fresh tree and an unwritten table. Laws.
-use mathlib.Core.Path.{_≡_, refl, sym, _∙_}
-use mathlib.Core.Option.{none}
+use mathlib.Core.Path.{_≡_, sym, _∙_}
 use mathlib.Core.List.{List}
 use Prim.Native.Nat.{ℕ}
 use lib.ListN.{replicate}
@@ -9,7 +8,7 @@ use Rattle.limits.specs.Limits.{pointLimit}
 use Rattle.text.specs.Pieces.{piecesFrom}
 use Rattle.cuttree.specs.Run.{fresh}
 use Rattle.wholetree.specs.Whole.{whole}
-use Rattle.layout.specs.Layout.{noEnds, tableOf}
+use Rattle.layout.specs.Layout.{noEnds}
 use Rattle.randomcuttree.specs.declared.RCFTree.{RCFTree}
 use Rattle.randomcuttree.specs.declared.Made.{Made}
 use Rattle.randomcuttree.specs.declared.Made.the-variants.{Tree, NotMade}

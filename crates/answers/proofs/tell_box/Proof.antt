@@ -1,6 +1,6 @@
 -- `answers::tell_box` meets its contract: after i turns the numbers of the first i channels stand. Assumes nothing.
 use native.Mathlib.Omega.{arith}
-use mathlib.Core.Path.{_≡_, ap, _∙_}
+use mathlib.Core.Path.{_≡_, _∙_}
 use Prim.Native.Nat.{ℕ, _-_, min}
 use native.Mathlib.Nat.{min-le-right}
 use lib.ListN.{getD}

@@ -1,5 +1,5 @@
 -- `check_put` meets its contract. Assumes nothing.
-use mathlib.Core.Path.{sym, ap, _∙_}
+use mathlib.Core.Path.{sym, _∙_}
 use borrow.Author.Needs.{needs}
 use borrow.Author.Tests.{ne-eqb}
 use Rattle.pointstore.proofs.Refusals.{index-refused, point-refused, leaf-refused, none-refused}
