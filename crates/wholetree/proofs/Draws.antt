@@ -22,7 +22,7 @@ use Rattle.cut.specs.declared.Separation.{Separation}
 use Rattle.cut.specs.declared.Separation.the-variants.{NoCut, Drawn}
 use Rattle.cut.specs.Draw.{lowEnd, highEnd, parts as partsFloat, partsAt, separation}
 use Rattle.cut.specs.Paper.{restAt}
-use Rattle.cut.specs.Document.{numberOf, restOf, cutOf, documentCut}
+use Rattle.cut.specs.Document.{numberDrawn, restOf, cutOf, documentCut}
 use Rattle.cut.specs.Laws.{Readings, Within}
 use Rattle.cut.proofs.Stretched.{stretched}
 use Rattle.cut.proofs.AsDocument.{as-document, some-side}
@@ -51,7 +51,7 @@ ends-leaf q =
 -- what is left at the side that is cut is not negative
 rest-sign : (lo hi : ℕ → Float) (n w : ℕ) → sign (restOf lo hi n w) ≡ false
 unfolding restOf
-rest-sign lo hi n w = round-sign binary64 false (restAt (side lo hi) n (num (numberOf lo hi n w)) (den (numberOf lo hi n w))) (den (numberOf lo hi n w))
+rest-sign lo hi n w = round-sign binary64 false (restAt (side lo hi) n (num (numberDrawn lo hi n w)) (den (numberDrawn lo hi n w))) (den (numberDrawn lo hi n w))
 
 module _ {lo hi : ℕ → Number} (B : CoordinateBox lo hi) (p : Reading) where
   -- the box and the point are readings, in the cut's sense
