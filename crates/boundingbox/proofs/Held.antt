@@ -18,7 +18,7 @@ use Rattle.boundingbox.specs.Contained.{stays, contains, inside, strictl
 use Rattle.boundingbox.specs.Wholes.{Box}
 use Rattle.boundingbox.proofs.Joined.{joined-length, joined-channel}
 use Rattle.boundingbox.proofs.Every.{every-at, every-from}
-use Rattle.boundingbox.proofs.Order.{Places, lt-asym, least-old, least-new, greatest-old, greatest-new, greatest-stays, least-stays}
+use Rattle.boundingbox.proofs.Order.{Places, lt-asym, least-new, greatest-new, greatest-stays, least-stays}
 use Rattle.boundingbox.proofs.Sums.{total-same}
 use Rattle.boundingbox.proofs.Growth.{grown, same-sum}
 
@@ -50,12 +50,7 @@ module _ (lo hi a b : List Float) (n : ℕ) (L : n ≤ length lo) (H : n ≤ len
   pub high-is : (i : ℕ) → i < n → channel (joined greatest hi b) i ≡ greatest (channel hi i) (channel b i)
   high-is i h = joined-channel greatest hi b i (le-trans h H)
 
-  -- the grown box holds the old one, and what it was grown by
-  pub holds-old : T (contains (joined least lo a) (joined greatest hi b) lo hi n)
-  holds-old =
-      every-from _ n
-      (λ i h. rw (low-is i h, high-is i h) (stays-is _ _ (channel lo i) (channel hi i) (least-old (channel lo i) (channel a i)) (greatest-old (channel hi i) (channel b i))))
-
+  -- the grown box holds what it was grown by
   pub holds-new : T (contains (joined least lo a) (joined greatest hi b) a b n)
   holds-new =
       every-from _ n

@@ -1,19 +1,16 @@
 -- The lesser and the greater of two ends, and what growing a side keeps: for every float, and by numbers that give the floats' order. Assumes nothing.
 use mathlib.Core.Path.{_≡_, refl, sym, _∙_, subst}
-use mathlib.Core.Logic.{_⊎_, inl, inr, ⊎-elim}
-use mathlib.Core.Bool.{Bool, true, false, not, _&&_, cond, false≢true, true≢false}
+use mathlib.Core.Logic.{_⊎_, inl, inr}
+use mathlib.Core.Bool.{Bool, true, false, cond, false≢true, true≢false}
 use Prim.Native.Nat.{ℕ, _*_, _≤_, _<_, min, max}
-use native.Mathlib.Nat.{le-trans, le-of-lt}
+use native.Mathlib.Nat.{le-of-lt}
 use native.Mathlib.Omega.{arith}
-use borrow.Author.Tests.{ltb-true, ltb-false, lt-ltb, le-ltb}
+use borrow.Author.Tests.{ltb-true, ltb-false, le-ltb}
 use lib.Dec.{T, leb, ltb, leb→le, le→leb}
 use lib.Ieee.{Float, nan, inf, fin, up, down, lt, le, below}
 use Rattle.readings.specs.Coordinate.{isCoordinate, rank}
-use Rattle.readings.proofs.Tests.{leb-yes, leb-no}
-use Rattle.readings.proofs.Keys.{Num, key, lt-key, le-key}
 use Rattle.readings.proofs.Ranks.{lt-rank, le-rank}
 use Rattle.boundingbox.specs.Ends.{least, greatest}
-use Rattle.boundingbox.specs.Contained.{stays}
 
 -- ---- every float: below is never both ways
 below-asym : (s t : Bool) (a b : ℕ) → below s a t b ≡ true → below t b s a ≡ false
@@ -120,9 +117,6 @@ pub record Places (P : Float → Type 0) (place : Float → ℕ) : Type 0 where
 pub by-rank : Places (λ x. T (isCoordinate x)) rank
 by-rank = record { by-lt = λ x y p q. lt-rank x y p q; by-le = λ x y p q. le-rank x y p q }
 
-pub by-key : Places Num key
-by-key = record { by-lt = λ x y p q. lt-key x y p q; by-le = λ x y p q. le-key x y p q }
-
 module _ (P : Float → Type 0) (place : Float → ℕ) (K : Places P place) where
   pub lt-places : (x y : Float) → P x → P y → lt x y ≡ true → place x < place y
   lt-places x y p q h = ltb-true (place x) (place y) (sym (K .by-lt x y p q) ∙ h)
@@ -165,88 +159,10 @@ module _ (P : Float → Type 0) (place : Float → ℕ) (K : Places P place) whe
       go false h = left (place x) (place y) (not-lt-places x y p q h)
 
   -- the lesser is at or below what one of the two is at or below, so below both; the greater likewise
-  module _ (x y z : Float) (p : P x) (q : P y) (r : P z) where
-    pub least-le : T (le x z) ⊎ T (le y z) → T (le (least x y) z)
-    least-le w =
-        places-le (least x y) z (least-keeps P x y p q) r
-        (rw (least-place x y p q) (⊎-elim (λ (t : T (le x z)). left (place x) (place y) (place z) (le-places x z p r t)) (λ (t : T (le y z)). right (place x) (place y) (place z) (le-places y z q r t)) w))
-      where
-        left : (a b c : ℕ) → a ≤ c → min a b ≤ c
-        left a b c h = omega arith
-
-        right : (a b c : ℕ) → b ≤ c → min a b ≤ c
-        right a b c h = omega arith
-
-    pub greatest-ge : T (le z x) ⊎ T (le z y) → T (le z (greatest x y))
-    greatest-ge w =
-        places-le z (greatest x y) r (greatest-keeps P x y p q)
-        (rw (greatest-place x y p q) (⊎-elim (λ (t : T (le z x)). left (place x) (place y) (place z) (le-places z x r p t)) (λ (t : T (le z y)). right (place x) (place y) (place z) (le-places z y r q t)) w))
-      where
-        left : (a b c : ℕ) → c ≤ a → c ≤ max a b
-        left a b c h = omega arith
-
-        right : (a b c : ℕ) → c ≤ b → c ≤ max a b
-        right a b c h = omega arith
-
-  -- a side stays where the new one lies within it
-  pub stays-places : (lo hi a b : Float) → P lo → P hi → P a → P b → stays lo hi a b ≡ (leb (place lo) (place a) && leb (place b) (place hi))
-  unfolding stays
-  stays-places lo hi a b p q r s = rw (K .by-lt a lo r p, K .by-lt hi b q s, not-less (place a) (place lo), not-less (place hi) (place b))
-    where
-      go : (m n : ℕ) (c : Bool) → ltb m n ≡ c → not c ≡ leb n m
-      go m n true h = sym (leb-no (ltb-true m n h))
-      go m n false h = sym (leb-yes (ltb-false m n h))
-
-      not-less : (m n : ℕ) → not (ltb m n) ≡ leb n m
-      not-less m n = go m n (ltb m n) refl
-
-  module _ (x y z : Float) (p : P x) (q : P y) (r : P z) where
-    lt-through : lt x y ≡ true → lt y z ≡ true → lt x z ≡ true
-    lt-through h k = K .by-lt x z p r ∙ lt-ltb (place x) (place z) (go (lt-places x y p q h) (lt-places y z q r k))
-      where
-        go : place x < place y → place y < place z → place x < place z
-        go a b = omega arith
-
-    not-lt-through : lt x y ≡ false → lt y z ≡ false → lt x z ≡ false
-    not-lt-through h k = K .by-lt x z p r ∙ le-ltb (place x) (place z) (le-trans (not-lt-places y z q r k) (not-lt-places x y p q h))
-
-    pub least-assoc : least (least x y) z ≡ least x (least y z)
-    unfolding least
-    least-assoc = go (lt x y) (lt y z) refl refl
-      where
-        go : (b c : Bool) → lt x y ≡ b → lt y z ≡ c → cond (lt (cond b x y) z) (cond b x y) z ≡ cond (lt x (cond c y z)) x (cond c y z)
-        go true true h k = rw (lt-through h k, h)
-        go true false h k = refl
-        go false true h k = rw (h, k)
-        go false false h k = rw (k, not-lt-through h k)
-
-    pub greatest-assoc : greatest (greatest x y) z ≡ greatest x (greatest y z)
-    unfolding greatest
-    greatest-assoc = go (lt x y) (lt y z) refl refl
-      where
-        go : (b c : Bool) → lt x y ≡ b → lt y z ≡ c → cond (lt (cond b y x) z) z (cond b y x) ≡ cond (lt x (cond c z y)) (cond c z y) x
-        go true true h k = rw (k, lt-through h k)
-        go true false h k = rw (h, k)
-        go false true h k = refl
-        go false false h k = rw (h, not-lt-through h k)
-
-  -- where a place is one float's only, equal places are equal floats, and so the order of growing makes no difference
+  -- where a place is one float's only, equal places are equal floats
   module _ (one : (x y : Float) → P x → P y → place x ≡ place y → x ≡ y) where
     pub least-stays : (x y : Float) → P x → P y → lt y x ≡ false → least x y ≡ x
     least-stays x y p q h = one (least x y) x (least-keeps P x y p q) p (least-place x y p q ∙ go (place x) (place y) (not-lt-places y x q p h))
       where
         go : (a b : ℕ) → a ≤ b → min a b ≡ a
         go a b h = omega arith
-
-    pub least-comm : (x y : Float) → P x → P y → least x y ≡ least y x
-    least-comm x y p q = one (least x y) (least y x) (least-keeps P x y p q) (least-keeps P y x q p) (least-place x y p q ∙ go (place x) (place y) ∙ sym (least-place y x q p))
-      where
-        go : (a b : ℕ) → min a b ≡ min b a
-        go a b = omega arith
-
-    pub greatest-comm : (x y : Float) → P x → P y → greatest x y ≡ greatest y x
-    greatest-comm x y p q =
-        one (greatest x y) (greatest y x) (greatest-keeps P x y p q) (greatest-keeps P y x q p) (greatest-place x y p q ∙ go (place x) (place y) ∙ sym (greatest-place y x q p))
-      where
-        go : (a b : ℕ) → max a b ≡ max b a
-        go a b = omega arith

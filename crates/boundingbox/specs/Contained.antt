@@ -1,4 +1,6 @@
 -- Whether a box holds another box, or a point strictly inside. Definitions.
+-- Proved of it (proofs/Held.antt): a box holds what growing by it leaves unchanged (`contains-unchanged`, `unchanged-contains`), and on coordinates that is the Rust's
+-- test of the range sums (`same-range`).
 use Prim.Native.Nat.{ℕ, zero, suc}
 use mathlib.Core.Bool.{Bool, true, not, _&&_}
 use mathlib.Core.List.{List}

@@ -1,4 +1,5 @@
 -- What stands in the channels that a tree does not use. Definitions.
+-- It changes neither what a box holds nor its range sum (proofs/Padding.antt: `padded-contains`, `padded-range`).
 use mathlib.Core.Path.{_≡_}
 use mathlib.Core.List.{List}
 use Prim.Native.Nat.{ℕ, _≤_, _<_}

@@ -1,4 +1,6 @@
 -- The smallest box around points. Definitions.
+-- Proved of it (proofs/Around.antt): the box of a list of points is one (`smallest-around`), it is the only one (`smallest-unique`, `same-box`), around readings it has
+-- coordinates for ends (`smallest-box`), and it stays smallest without a point strictly inside (`smallest-without`).
 use mathlib.Core.Path.{_≡_}
 use mathlib.Core.List.{List, [], _∷_}
 use Prim.Native.Nat.{ℕ, _<_}

@@ -1,5 +1,5 @@
 -- How many numbers and how many intervals a stack has: numbers that are free once each are no more than there are numbers, nor are
--- their intervals, so 255 rows are enough for 255 numbers and no release is refused. Assumes nothing.
+-- their intervals, so as many rows as numbers are enough and no release is refused. Assumes nothing.
 use mathlib.Core.Path.{_≡_, refl}
 use mathlib.Core.List.{List, [], _∷_}
 use Prim.Native.Nat.{ℕ, zero, suc, _+_, _-_, _≤_, _<_}

@@ -1,4 +1,4 @@
--- The stack as 255 rows of two numbers, bottom first, and what each call gives and leaves of any rows at all. Definitions.
+-- The stack as rows of two numbers, bottom first, and what each call gives and leaves of any rows at all. Definitions.
 use mathlib.Core.Path.{_≡_, refl}
 use mathlib.Core.Bool.{Bool, cond, _&&_, _||_}
 use mathlib.Core.List.{List, [], _∷_}
@@ -18,7 +18,7 @@ unfoldable pub upon : List (ℕ × ℕ) → List (List ℕ) → List (List ℕ)
 upon [] above = above
 upon (x ∷ xs) above = upon xs ((x .0 ∷ x .1 ∷ []) ∷ above)
 
--- The 255 rows of a stack: those above its top are zero.
+-- The rows of a stack: those above its top are zero.
 unfoldable pub layout : List (ℕ × ℕ) → List (List ℕ)
 layout xs = upon xs (replicate (branchLimit - length xs) (0 ∷ 0 ∷ []))
 
@@ -87,7 +87,7 @@ unfoldable pub gotOn : IntervalStoreManager → List (ℕ × ℕ) → Got
 gotOn m [] = Empty
 gotOn m (x ∷ xs) = Index (next (x ∷ xs)) (inUse m (length (afterGet (x ∷ xs))))
 
--- What `release` answers of a stack: `Full` where the stack with `i` has more than 255 intervals.
+-- What `release` answers of a stack: `Full` where the stack with `i` has more intervals than there are rows.
 unfoldable pub releasedOn : IntervalStoreManager → List (ℕ × ℕ) → ℕ → Released
 releasedOn m xs i =
     cond (leb (length (afterRelease xs i)) branchLimit) (Done (inUse m (length (afterRelease xs i)))) Full
@@ -104,7 +104,7 @@ ReleaseOnStack =
     (releasedOf m (layout xs) i ≡ releasedOn m xs i) ×
     (rowsReleased m (layout xs) i ≡ cond (leb (length (afterRelease xs i)) branchLimit) (layout (afterRelease xs i)) (layout xs))
 
--- Of at most 255 numbers that are free once at most, one that is not free is always taken back.
+-- Of no more numbers than there are rows, each free once at most, one that is not free is always taken back.
 abbrev pub NeverFull : Type 0
 NeverFull =
     (size : ℕ) (m : IntervalStoreManager) (xs : List (ℕ × ℕ)) (i : ℕ) → Manages m xs →
