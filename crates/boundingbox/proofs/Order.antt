@@ -1,7 +1,7 @@
 -- The lesser and the greater of two ends, and what growing a side keeps: for every float, and by numbers that give the floats' order. Assumes nothing.
 use mathlib.Core.Path.{_≡_, refl, sym, _∙_, subst}
-use mathlib.Core.Logic.{_⊎_, inl, inr}
-use mathlib.Core.Bool.{Bool, true, false, cond, false≢true, true≢false}
+use mathlib.Core.Logic.{_⊎_, inl, inr, ⊎-elim}
+use mathlib.Core.Bool.{Bool, true, false, not, _&&_, cond, false≢true, true≢false}
 use Prim.Native.Nat.{ℕ, _*_, _≤_, _<_, min, max}
 use native.Mathlib.Nat.{le-of-lt}
 use native.Mathlib.Omega.{arith}
@@ -9,8 +9,10 @@ use borrow.Author.Tests.{ltb-true, ltb-false, le-ltb}
 use lib.Dec.{T, leb, ltb, leb→le, le→leb}
 use lib.Ieee.{Float, nan, inf, fin, up, down, lt, le, below}
 use Rattle.readings.specs.Coordinate.{isCoordinate, rank}
+use Rattle.readings.proofs.Tests.{leb-yes, leb-no}
 use Rattle.readings.proofs.Ranks.{lt-rank, le-rank}
 use Rattle.boundingbox.specs.Ends.{least, greatest}
+use Rattle.boundingbox.specs.Contained.{stays}
 
 -- ---- every float: below is never both ways
 below-asym : (s t : Bool) (a b : ℕ) → below s a t b ≡ true → below t b s a ≡ false
@@ -159,6 +161,41 @@ module _ (P : Float → Type 0) (place : Float → ℕ) (K : Places P place) whe
       go false h = left (place x) (place y) (not-lt-places x y p q h)
 
   -- the lesser is at or below what one of the two is at or below, so below both; the greater likewise
+  module _ (x y z : Float) (p : P x) (q : P y) (r : P z) where
+    pub least-le : T (le x z) ⊎ T (le y z) → T (le (least x y) z)
+    least-le w =
+        places-le (least x y) z (least-keeps P x y p q) r
+        (rw (least-place x y p q) (⊎-elim (λ (t : T (le x z)). left (place x) (place y) (place z) (le-places x z p r t)) (λ (t : T (le y z)). right (place x) (place y) (place z) (le-places y z q r t)) w))
+      where
+        left : (a b c : ℕ) → a ≤ c → min a b ≤ c
+        left a b c h = omega arith
+
+        right : (a b c : ℕ) → b ≤ c → min a b ≤ c
+        right a b c h = omega arith
+
+    pub greatest-ge : T (le z x) ⊎ T (le z y) → T (le z (greatest x y))
+    greatest-ge w =
+        places-le z (greatest x y) r (greatest-keeps P x y p q)
+        (rw (greatest-place x y p q) (⊎-elim (λ (t : T (le z x)). left (place x) (place y) (place z) (le-places z x r p t)) (λ (t : T (le z y)). right (place x) (place y) (place z) (le-places z y r q t)) w))
+      where
+        left : (a b c : ℕ) → c ≤ a → c ≤ max a b
+        left a b c h = omega arith
+
+        right : (a b c : ℕ) → c ≤ b → c ≤ max a b
+        right a b c h = omega arith
+
+  -- a side stays where the new one lies within it
+  pub stays-places : (lo hi a b : Float) → P lo → P hi → P a → P b → stays lo hi a b ≡ (leb (place lo) (place a) && leb (place b) (place hi))
+  unfolding stays
+  stays-places lo hi a b p q r s = rw (K .by-lt a lo r p, K .by-lt hi b q s, not-less (place a) (place lo), not-less (place hi) (place b))
+    where
+      go : (m n : ℕ) (c : Bool) → ltb m n ≡ c → not c ≡ leb n m
+      go m n true h = sym (leb-no (ltb-true m n h))
+      go m n false h = sym (leb-yes (ltb-false m n h))
+
+      not-less : (m n : ℕ) → not (ltb m n) ≡ leb n m
+      not-less m n = go m n (ltb m n) refl
+
   -- where a place is one float's only, equal places are equal floats
   module _ (one : (x y : Float) → P x → P y → place x ≡ place y → x ≡ y) where
     pub least-stays : (x y : Float) → P x → P y → lt y x ≡ false → least x y ≡ x
