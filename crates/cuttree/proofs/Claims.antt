@@ -11,9 +11,9 @@ use lib.ListN.{length, length-append}
 use borrow.Author.Tests.{lt-leb, lt-ltb, ltb-true}
 use Rattle.cuttree.specs.Setting.{Setting, Laws, below}
 use Rattle.cuttree.specs.Tree.{Tree, leaf, branch, Leaf, id, ending, found, walk, leaves, copies, sum}
-use Rattle.cuttree.specs.Run.{boxOf, Box, Answer, refused, added, treeEmpty, notHeld, boxIs, World, totalOf, enter, leave, Call, put, add, delete, query, call}
+use Rattle.cuttree.specs.Run.{boxOf, Row, Box, Answer, refused, added, treeEmpty, notHeld, boxIs, World, totalOf, enter, leave, Call, put, add, delete, query, call}
 use Rattle.cuttree.specs.Counts.{Counts, succeeded, Held, NothingHeld, times, Values}
-use Rattle.cuttree.specs.Graph.{View, IsNode, LeafOf, IsRoot, Walk, Under}
+use Rattle.cuttree.specs.Graph.{View, IsBranch, IsNode, LeafOf, IsRoot, Walk, Under}
 use Rattle.cuttree.specs.Demand3.{viewOf, TreeClaim, CallClaim}
 use Rattle.cuttree.proofs.Tests.{by-cond, by-test, clash, nonsense}
 use Rattle.cuttree.proofs.Leaves.{walk-leaves}
@@ -22,7 +22,7 @@ use Rattle.cuttree.proofs.Boxes.{end-before, end-met}
 use Rattle.cuttree.proofs.Cuts.{sum-found, leaf-ending, same-ending, held-found}
 use Rattle.cuttree.proofs.Keeps.{Inv}
 use Rattle.cuttree.proofs.Nodes.{In, here, left, right, in-trans, all-in, some-in, cut-in, ending-in}
-use Rattle.cuttree.proofs.Views.{box-asked, node-asked, by-leaf, by-branch, by-box, leaf-of, by-leaf-of, side-in, by-child, leaf-under, under-leaf, walk-asked, boxAt}
+use Rattle.cuttree.proofs.Views.{rowOf, branch-asked, box-asked, node-asked, by-leaf, by-branch, by-box, leaf-of, by-leaf-of, side-in, by-child, leaf-under, under-leaf, walk-asked, boxAt}
 use Rattle.cuttree.proofs.Roots.{is-root}
 
 module _ (S : Setting) (capacity : ℕ) (L : Laws S) where
@@ -74,6 +74,7 @@ module _ (S : Setting) (capacity : ℕ) (L : Laws S) where
       right = by-branch S capacity L f t u K I (λ x r. (q : Point) → Under S G (r .right) q → below S (r .cut) q ≡ false)
           (λ b k g l r j q h. let (i, n, e) = under-leaf S capacity L f t u K I r (in-trans S (right here) j) q h in all-in S (λ i q n. below S k q ≡ false) e (cut-in S j (I .sound .cut) .1));
       boxed = by-branch S capacity L f t u K I (λ x r. (b : Box S) × (G .asked (boxOf x) ≡ boxIs b)) (λ b k g l r j. (boxAt S capacity (branch b k g l r), box-asked S capacity L f t u K I j));
+      only-branches = by-box S capacity L f t u K I (λ x w. (r : Row S) × IsBranch S G x r) (λ b k g l r j. (rowOf S capacity b k g l r, branch-asked S capacity L f t u K I j));
       around = by-box S capacity L f t u K I (λ x w. (d : Chan) (q : Point) → Under S G x q → (le (w .lower d) (at q d) ≡ true) × (le (at q d) (w .upper d) ≡ true))
           (λ b k g l r j d q h. let (i, n, e) = under-leaf S capacity L f t u K I (branch b k g l r) j q h in
           (all-in S _ e (end-before S (least-end S L) d (branch b k g l r)), all-in S _ e (end-before S (most-end S L) d (branch b k g l r))));
@@ -124,6 +125,7 @@ module _ (S : Setting) (capacity : ℕ) (L : Laws S) where
       left = λ x r e. nonsense (cc);
       right = λ x r e. nonsense (cc);
       boxed = λ x r e. nonsense (cc);
+      only-branches = λ x b e. nonsense (cc);
       around = λ x b e. nonsense (cc);
       smallest = λ x b e. nonsense (cc);
       child-node = λ x y c e. let h = e .1 in nonsense (cc);

@@ -28,8 +28,9 @@ module _ (S : Setting) (c : ℕ) where
     -- the paper's cut clause at each branch
     pub left : (x : ℕ) (r : Row S) → IsBranch S G x r → (q : Point) → Under S G (r .left) q → below S (r .cut) q ≡ true
     pub right : (x : ℕ) (r : Row S) → IsBranch S G x r → (q : Point) → Under S G (r .right) q → below S (r .cut) q ≡ false
-    -- the box of every branch is the smallest around its leaves
+    -- the box query answers for every branch and for nothing else, and the box is the smallest around the branch's leaves
     pub boxed : (x : ℕ) (r : Row S) → IsBranch S G x r → (b : Box S) × (G .asked (boxOf x) ≡ boxIs b)
+    pub only-branches : (x : ℕ) (b : Box S) → G .asked (boxOf x) ≡ boxIs b → (r : Row S) × IsBranch S G x r
     pub around : (x : ℕ) (b : Box S) → G .asked (boxOf x) ≡ boxIs b → (d : Chan) (q : Point) → Under S G x q →
         (le (b .lower d) (at q d) ≡ true) × (le (at q d) (b .upper d) ≡ true)
     pub smallest : (x : ℕ) (b : Box S) → G .asked (boxOf x) ≡ boxIs b → (d : Chan) →
