@@ -1,8 +1,8 @@
--- Document 01's cut and the paper's: a channel in proportion to its side, the same channel and place for the number drawn, and the roundings between them. Assumes nothing.
+-- Document 01's cut and the paper's: a channel in proportion to its side, the same channel for the number drawn, places that make up the side, and the roundings between them. Assumes nothing.
 use mathlib.Core.Path.{_≡_, refl, sym, ap, _∙_, subst}
 use mathlib.Core.Logic.{_⊎_, inl, inr}
-use Prim.Native.Nat.{ℕ, zero, suc, _+_, _*_, _/_, _^_, _≤_, _<_, zero-le}
-use native.Mathlib.Nat.{le-trans, le-of-eq, lt-of-le-of-lt, sub-le, zero-add, eq-zero-or-pos, eq-or-lt-of-le, mul-right-comm, mul-le-mul-right, le-of-mul-le-mul-right}
+use Prim.Native.Nat.{ℕ, zero, suc, _+_, _-_, _*_, _/_, _^_, _≤_, _<_, zero-le}
+use native.Mathlib.Nat.{le-trans, le-of-eq, lt-of-le-of-lt, sub-le, zero-add, eq-zero-or-pos, eq-or-lt-of-le, mul-right-comm, add-mul, mul-le-mul-right, le-of-mul-le-mul-right}
 use native.Mathlib.Omega.{arith}
 use mathlib.Core.Bool.{Bool, true, false, _&&_, cond, and-false}
 use lib.Dec.{ltb}
@@ -13,10 +13,10 @@ use Rattle.readings.proofs.Tests.{leb-iff, leb-no, leb-yes}
 use Rattle.readings.proofs.Values.{scaled-exact}
 use Rattle.boundingbox.specs.Wholes.{side, sumTo}
 use Rattle.boundingbox.proofs.Sums.{sumTo-next}
-use Rattle.cut.specs.Paper.{falls, first, channelAt, restAt}
+use Rattle.cut.specs.Paper.{falls, first, channelAt, backAt, restAt}
 use Rattle.cut.specs.Document.{numberDrawn, channelOf, restOf, cutOf}
-use Rattle.cut.specs.Laws.{InProportion, AsPaper}
-use Rattle.cut.proofs.First.{sum-more, falls-wide}
+use Rattle.cut.specs.Laws.{InProportion, PlacesMakeSide, AsPaper}
+use Rattle.cut.proofs.First.{short-under, sum-more, falls-wide, falls-says, Found, number-found}
 use Rattle.cut.proofs.Going.{expo, den-is}
 use Rattle.cut.proofs.Number.{number-most, own}
 
@@ -85,6 +85,17 @@ module _ (g : ℕ → ℕ) (q c r d : ℕ) (C : 0 < c) (D : 0 < d) (e : q * d �
   unfolding channelAt
   channel-same n = first-same n 0
 
+-- ---- the two places
+pub places-make-side : PlacesMakeSide
+unfolding restAt backAt
+places-make-side g n q c P M =
+    let d = channelAt g n q c in
+    let F : Found g q c n 0 d = number-found g q c n M P in
+    go (sumTo g d * c) (g d * c) (sumTo g (d + 1) * c) (ap (λ (s : ℕ). s * c) (sumTo-next g d) ∙ add-mul (sumTo g d) (g d) c) (short-under g q c d (F .short-there)) (falls-says g q c d (F .falls-there) .1)
+  where
+    go : (a s b : ℕ) → b ≡ a + s → a ≤ q → q ≤ b → q - a + (b - q) ≡ s
+    go a s b e l m = omega arith
+
 rest-most : (g : ℕ → ℕ) (n q c : ℕ) → restAt g n q c ≤ q
 unfolding restAt
 rest-most g n q c = sub-le q (sumTo g (channelAt g n q c) * c)
@@ -102,6 +113,7 @@ as-paper n lo hi w B P W =
       most = number-most lo hi n B w W;
       channel = refl;
       rest = rw (den-is N) (scaled-exact (restAt (side lo hi) n (num N) (2 ^ expo N)) (expo N) (lt-of-le-of-lt (rest-most (side lo hi) n (num N) (2 ^ expo N)) (o .1)) (o .0 .fine));
+      back = places-make-side (side lo hi) n (num N) (den N) P (number-most lo hi n B w W);
       place = refl;
       unrounded = λ h. channel-same (side lo hi) (num N) (den N) (sumTo (side lo hi) n * (w / 2 ^ 11)) (2 ^ 53) (den-pos N) (pow-pos 53) (value→cross N (sumTo (side lo hi) n * (w / 2 ^ 11)) (2 ^ 53) h) n;
     }

@@ -2,7 +2,7 @@
 use mathlib.Core.Path.{_≡_, refl, sym, ap, _∙_, subst}
 use mathlib.Core.Logic.{_⊎_, inl, inr}
 use mathlib.Core.List.{List}
-use Prim.Native.Nat.{ℕ, _+_, _-_, _*_, _^_, _≤_, _<_, min, zero-le}
+use Prim.Native.Nat.{ℕ, _+_, _-_, _*_, _^_, _≤_, _<_, min}
 use native.Mathlib.Nat.{le-trans, le-refl, le-of-lt, lt-of-mul-lt-mul-right, zero-mul, one-mul}
 use native.Mathlib.Omega.{arith}
 use mathlib.Core.Bool.{Bool, false}
@@ -27,7 +27,7 @@ use Rattle.cut.specs.Draw.{lowEnd, highEnd, sideOf, drawnAt, separation}
 use Rattle.cut.specs.Document.{numberDrawn, channelOf, restOf}
 use Rattle.cut.specs.Laws.{Readings}
 use Rattle.cut.specs.Sums.{one, atLeastOne, countBelow}
-use Rattle.cut.proofs.First.{Short, Found, before-found, short-before}
+use Rattle.cut.proofs.First.{short-under, Found, before-found, short-before}
 use Rattle.cut.proofs.Range.{Range, whole-over, off-is}
 use Rattle.cut.proofs.Going.{expo, den-is}
 use Rattle.cut.proofs.Number.{own}
@@ -110,12 +110,8 @@ module _ (lo hi : ℕ → Float) (n : ℕ) (B : Box lo hi n) (w : ℕ) (W : w < 
   unfolding restOf restAt channelOf
   rest-left =
       off-is N (num N) (expo N) (sumTo g d) (own lo hi n B w W .0) (sum-le d (le-of-lt (channel-below lo hi n B w W P)))
-      ∙ sum-minus binary64 (num N) (sumTo g d * 2 ^ expo N) (2 ^ expo N) (under (found-there .short-there))
+      ∙ sum-minus binary64 (num N) (sumTo g d * 2 ^ expo N) (2 ^ expo N) (short-under g (num N) (2 ^ expo N) d (found-there .short-there))
       ∙ ap (λ (c : ℕ). round binary64 false (num N - sumTo g d * c) c) (sym (den-is N))
-    where
-      under : Short g (num N) (2 ^ expo N) d → sumTo g d * 2 ^ expo N ≤ num N
-      under (inl z) = rw (z, zero-mul (2 ^ expo N)) zero-le
-      under (inr l) = le-of-lt l
 
 -- ---- the parts that the code works out: whether the box holds the point, the sums, the factor f, the bound b and the count d
 module _ (lo hi p : List Float) (n : ℕ) (R : Readings lo hi p n) (w : ℕ) (W : w < 2 ^ 64) (held : Bool) (H : held ≡ contains lo hi p p n) (t : held ≡ false)

@@ -1,8 +1,8 @@
 -- The first channel to which a number falls: there is one, and it is the one whose stretch of the running sum has the number in it. Assumes nothing.
-use mathlib.Core.Path.{_≡_, sym, ap, _∙_, subst}
+use mathlib.Core.Path.{_≡_, refl, sym, ap, _∙_, subst}
 use mathlib.Core.Logic.{_⊎_, inl, inr}
-use Prim.Native.Nat.{ℕ, zero, suc, _+_, _*_, _≤_, _<_}
-use native.Mathlib.Nat.{le-trans, le-of-eq, lt-of-le-of-lt, lt-of-lt-of-le, mul-le-mul-right, eq-zero-or-pos, eq-or-lt-of-le, lt-irrefl}
+use Prim.Native.Nat.{ℕ, zero, suc, _+_, _*_, _≤_, _<_, zero-le}
+use native.Mathlib.Nat.{le-trans, le-of-eq, le-of-lt, zero-add, zero-mul, lt-of-le-of-lt, lt-of-lt-of-le, mul-le-mul-right, eq-zero-or-pos, eq-or-lt-of-le, lt-irrefl}
 use native.Mathlib.Omega.{arith}
 use mathlib.Core.Bool.{Bool, true, false, not, _&&_, cond}
 use lib.Dec.{T, leb, ltb, leb→le, nleb→lt, ltb→lt, nltb→le}
@@ -11,7 +11,7 @@ use borrow.Table.Steps.{cases as by-test}
 use Rattle.readings.proofs.Tests.{leb-yes, yes, no, split}
 use Rattle.boundingbox.specs.Wholes.{sumTo}
 use Rattle.boundingbox.proofs.Sums.{sumTo-next, sum-pos}
-use Rattle.cut.specs.Paper.{falls, first}
+use Rattle.cut.specs.Paper.{falls, first, channelAt}
 
 -- the running sums do not fall
 pub sum-more : (g : ℕ → ℕ) (i j : ℕ) → i ≤ j → sumTo g i ≤ sumTo g j
@@ -33,6 +33,10 @@ module _ (g : ℕ → ℕ) (q c : ℕ) where
   -- the sides before channel i don't reach the number
   abbrev pub Short : ℕ → Type 0
   Short i = (sumTo g i ≡ 0) ⊎ (sumTo g i * c < q)
+
+  pub short-under : (i : ℕ) → Short i → sumTo g i * c ≤ q
+  short-under i (inl z) = rw (z, zero-mul c) zero-le
+  short-under i (inr l) = le-of-lt l
 
   -- nor do fewer of them
   short-less : (i j : ℕ) → i ≤ j → Short j → Short i
@@ -98,6 +102,11 @@ module _ (g : ℕ → ℕ) (q c : ℕ) where
 
       later : falls g q c i ≡ false → Found n (i + 1) (first g q c n (i + 1)) → Found (suc n) i (cond (falls g q c i) i (first g q c n (i + 1)))
       later f w = rw f (record { within = less′ i n (first g q c n (i + 1)) (w .within); short-there = w .short-there; falls-there = w .falls-there })
+
+  -- a number up to the sum falls to some channel of n
+  pub number-found : (n : ℕ) → q ≤ sumTo g n * c → 0 < sumTo g n → Found n 0 (channelAt g n q c)
+  unfolding channelAt sumTo
+  number-found n h p = first-found n 0 (inl refl) (rw zero-add h) (rw zero-add p)
 
   -- so the sides up to j don't reach the number exactly where j lies before the channel found
   module _ (n i k : ℕ) (F : Found n i k) (j : ℕ) where

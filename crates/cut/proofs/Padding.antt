@@ -102,23 +102,20 @@ nought-greatest = cond-same (lt nought nought) nought
     cond-same true x = refl
     cond-same false x = refl
 
-module _ (d k : ℕ) (lo hi p : List Float) (Z : Padded lo hi p d (d + k)) (R : Readings lo hi p (d + k)) where
-  up : (i : ℕ) → i < d → i < d + k
-  up i h = omega arith
+pub fewer : (d n : ℕ) (lo hi p : List Float) → d ≤ n → Readings lo hi p n → Readings lo hi p d
+fewer d n lo hi p l R = record {
+  box = record {
+    few = le-trans l (R .box .few);
+    lower = λ i h. R .box .lower i (le-trans h l);
+    upper = λ i h. R .box .upper i (le-trans h l);
+    ordered = λ i h. R .box .ordered i (le-trans h l);
+  };
+  point = λ i h. R .point i (le-trans h l);
+}
 
-  fewer : Readings lo hi p d
-  fewer = record {
-    box = record {
-      few = le-trans (part d k) (R .box .few);
-      lower = λ i h. R .box .lower i (up i h);
-      upper = λ i h. R .box .upper i (up i h);
-      ordered = λ i h. R .box .ordered i (up i h);
-    };
-    point = λ i h. R .point i (up i h);
-  }
-    where
-      part : (d k : ℕ) → d ≤ d + k
-      part d k = omega arith
+module _ (d k : ℕ) (lo hi p : List Float) (Z : Padded lo hi p d (d + k)) (R : Readings lo hi p (d + k)) where
+  less : Readings lo hi p d
+  less = fewer d (d + k) lo hi p (Z .fewer) R
 
   held : contains lo hi p p (d + k) ≡ contains lo hi p p d
   held = every-pad (λ (i : ℕ). stays (channel lo i) (channel hi i) (channel p i) (channel p i)) d k (λ i a b. rw (Z .low i a b, Z .high i a b, Z .point i a b) nought-stays)
@@ -142,7 +139,7 @@ module _ (d k : ℕ) (lo hi p : List Float) (Z : Padded lo hi p d (d + k)) (R : 
 
     channels : channelAt (side (lowEnd lo p) (highEnd hi p)) (d + k) (num q) (den q) ≡ channelAt (side (lowEnd lo p) (highEnd hi p)) d (num q) (den q)
     unfolding channelAt channelOf
-    channels = first-pad g (num q) (den q) k d 0 (channel-found (lowEnd lo p) (highEnd hi p) d (stretched lo hi p d fewer) w W (some-side lo hi p d fewer o))
+    channels = first-pad g (num q) (den q) k d 0 (channel-found (lowEnd lo p) (highEnd hi p) d (stretched lo hi p d less) w W (some-side lo hi p d less o))
 
     cuts : cutOf (lowEnd lo p) (highEnd hi p) (d + k) w ≡ cutOf (lowEnd lo p) (highEnd hi p) d w
     unfolding cutOf channelOf restOf restAt
@@ -155,7 +152,7 @@ module _ (d k : ℕ) (lo hi p : List Float) (Z : Padded lo hi p d (d + k)) (R : 
 pub padding-cuts-nothing : PaddingCutsNothing
 padding-cuts-nothing d n lo hi p w Z R W =
     subst (λ (m : ℕ). Padded lo hi p d m → Readings lo hi p m → separation m lo hi p w ≡ separation d lo hi p w) (sym (split d n (Z .fewer)))
-    (λ Y Q. as-document (d + (n - d)) lo hi p w Q W ∙ documents d (n - d) lo hi p Y Q w W ∙ sym (as-document d lo hi p w (fewer d (n - d) lo hi p Y Q) W))
+    (λ Y Q. as-document (d + (n - d)) lo hi p w Q W ∙ documents d (n - d) lo hi p Y Q w W ∙ sym (as-document d lo hi p w (less d (n - d) lo hi p Y Q) W))
     Z R
   where
     split : (d n : ℕ) → d ≤ n → n ≡ d + (n - d)

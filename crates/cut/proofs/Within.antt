@@ -21,11 +21,10 @@ use Rattle.boundingbox.specs.Ends.{channel, least, greatest}
 use Rattle.boundingbox.specs.Contained.{contains}
 use Rattle.boundingbox.specs.Wholes.{Box, side, sumTo}
 use Rattle.boundingbox.proofs.Sums.{sum-pos}
-use Rattle.cut.specs.Paper.{channelAt}
 use Rattle.cut.specs.Draw.{lowEnd, highEnd, moved, placed, parts, partsAt}
 use Rattle.cut.specs.Document.{numberDrawn, channelOf, restOf, cutOf}
 use Rattle.cut.specs.Laws.{Readings, Within, CutWithin, LeafParts, strays, seeded17, NeverSeeded17}
-use Rattle.cut.proofs.First.{falls-says, Found, first-found}
+use Rattle.cut.proofs.First.{falls-says, Found, number-found}
 use Rattle.cut.proofs.Stretched.{stretched}
 use Rattle.cut.proofs.Number.{number-most}
 use Rattle.cut.proofs.AsDocument.{outside-is, some-side, point-is, side-drawn}
@@ -75,8 +74,8 @@ module _ (lo hi : ℕ → Float) (n : ℕ) (B : Box lo hi n) (w : ℕ) (W : w < 
   d = channelOf lo hi n w
 
   pub channel-found : Found (side lo hi) (num (numberDrawn lo hi n w)) (den (numberDrawn lo hi n w)) n 0 (channelOf lo hi n w)
-  unfolding channelOf channelAt sumTo
-  channel-found = first-found (side lo hi) (num (numberDrawn lo hi n w)) (den (numberDrawn lo hi n w)) n 0 (inl refl) (rw zero-add (number-most lo hi n B w W)) (rw zero-add P)
+  unfolding channelOf
+  channel-found = number-found (side lo hi) (num (numberDrawn lo hi n w)) (den (numberDrawn lo hi n w)) n (number-most lo hi n B w W) P
 
   pub channel-below : channelOf lo hi n w < n
   channel-below = subst (λ (x : ℕ). channelOf lo hi n w < x) (zero-add n) (channel-found .within)

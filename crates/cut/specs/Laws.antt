@@ -15,7 +15,7 @@ use Rattle.boundingbox.specs.Wholes.{Box, side, sumTo}
 use Rattle.cut.specs.declared.Cut.{Cut}
 use Rattle.cut.specs.declared.Side.{Side}
 use Rattle.cut.specs.declared.Side.the-variants.{At, Nowhere}
-use Rattle.cut.specs.Paper.{channelAt, restAt}
+use Rattle.cut.specs.Paper.{channelAt, backAt, restAt}
 use Rattle.cut.specs.Draw.{lowEnd, highEnd, outsideSum, sideOf, rangeOf, sideFrom, placed, cutAt, partsAt, separation}
 use Rattle.cut.specs.Document.{numberDrawn, restOf, cutOf, documentCut}
 
@@ -60,22 +60,28 @@ NeverSeeded17 = (n : ℕ) (lo hi p : List Float) (w : ℕ) → Readings lo hi p 
 abbrev pub InProportion : Type 0
 InProportion = (g : ℕ → ℕ) (n q c i : ℕ) → i < n → sumTo g i * c < q → q ≤ sumTo g (i + 1) * c → channelAt g n q c ≡ i
 
--- How document 01's cut k stands to the paper's for the factor (w / 2^11) / 2^53: the roundings are the only difference.
+-- The paper counts the place back from the side's upper end, the Rust forward from its lower end: the two places make up the side, for every number q / c up to the sum (AsPaper.antt).
+abbrev pub PlacesMakeSide : Type 0
+PlacesMakeSide = (g : ℕ → ℕ) (n q c : ℕ) → 0 < sumTo g n → q ≤ sumTo g n * c → restAt g n q c + backAt g n q c ≡ g (channelAt g n q c) * c
+
+-- How document 01's cut k stands to the paper's for the factor (w / 2^11) / 2^53: the end from which the place is counted, and the roundings, are the only differences.
 pub record Papers (lo hi : ℕ → Float) (n w : ℕ) (k : Cut) : Type 0 where
   -- the number drawn is q / c: the f64 nearest to the paper's, and at most the sum of the sides
   pub q : ℕ
   pub c : ℕ
   pub number : HasValue (numberDrawn lo hi n w) false q c
   pub most : q ≤ sumTo (side lo hi) n * c
-  -- the channel is the paper's for that number, and so is the place along its side, with nothing rounded
+  -- the channel is the paper's for that number
   pub channel : k .dimension ≡ channelAt (side lo hi) n q c
+  -- the place along its side is the Rust's, with nothing rounded, and the paper's is what that leaves of the side
   pub rest : HasValue (restOf lo hi n w) false (restAt (side lo hi) n q c) c
-  -- the place is then narrowed, added and kept within the side
+  pub back : restAt (side lo hi) n q c + backAt (side lo hi) n q c ≡ side lo hi (k .dimension) * c
+  -- the Rust's place is then narrowed, added and kept within the side
   pub place : k .value ≡ placed (lo (k .dimension)) (hi (k .dimension)) (restOf lo hi n w)
   -- where the product needs no rounding, the channel is the paper's for the factor itself
   pub unrounded : HasValue (numberDrawn lo hi n w) false (sumTo (side lo hi) n * (w / 2 ^ 11)) (2 ^ 53) → k .dimension ≡ channelAt (side lo hi) n (sumTo (side lo hi) n * (w / 2 ^ 11)) (2 ^ 53)
 
--- Document 01's cut is the paper's, but for the roundings (AsPaper.antt).
+-- Document 01's cut has the paper's channel, and its place from the other end of the side, but for the roundings (AsPaper.antt).
 abbrev pub AsPaper : Type 0
 AsPaper = (n : ℕ) (lo hi : ℕ → Float) (w : ℕ) → Box lo hi n → 0 < sumTo (side lo hi) n → w < 2 ^ 64 → Papers lo hi n w (cutOf lo hi n w)
 

@@ -1,4 +1,4 @@
--- The paper's cut, in whole sides and fractions of whole numbers: nothing is rounded.
+-- The paper's cut, in whole sides and fractions of whole numbers: nothing is rounded. The place along the side is counted in two ways, the paper's and the Rust's.
 use Prim.Native.Nat.{ℕ, zero, suc, _+_, _-_, _*_}
 use mathlib.Core.Bool.{Bool, _&&_, cond}
 use lib.Dec.{leb, ltb}
@@ -19,7 +19,14 @@ unfoldable pub channelAt : (ℕ → ℕ) → ℕ → ℕ → ℕ → ℕ
 unfolding first
 channelAt g n q c = first g q c n 0
 
--- and the place along that side: the fraction restAt / c above its lower end
+-- The paper's place: 'counted back from the running sum that reached the drawn number, so from the upper end' of the side. The paper's cut lies the fraction
+-- backAt / c above the lower end: as much as the running sum with that side in it lies above the number.
+unfoldable pub backAt : (ℕ → ℕ) → ℕ → ℕ → ℕ → ℕ
+unfolding channelAt
+backAt g n q c = sumTo g (channelAt g n q c + 1) * c - q
+
+-- The Rust's place is another: the rest, which is what the sides before that one leave of the number, counted forward from the lower end. The Rust's cut lies the
+-- fraction restAt / c above the lower end, which is as far as the paper's lies below the upper end: the two make up the side (Laws.antt).
 unfoldable pub restAt : (ℕ → ℕ) → ℕ → ℕ → ℕ → ℕ
 unfolding channelAt
 restAt g n q c = q - sumTo g (channelAt g n q c) * c

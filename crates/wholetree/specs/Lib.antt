@@ -1,4 +1,5 @@
 pub mod Reading
 pub mod Whole
 pub mod Box
+pub mod Paper
 pub mod Claim
