@@ -1,4 +1,4 @@
--- The cut that a tree of d channels draws, though its rows have eight: document 01's on those d channels, and so the paper's, as far as the cut's own laws say.
+-- The cut that a tree of d channels draws, though its rows may be wider: document 01's on those d channels, and so the paper's, as far as the cut's own laws say.
 use mathlib.Core.Path.{_≡_}
 use mathlib.Core.Bool.{Bool, false}
 use Prim.Native.Nat.{ℕ, _^_, _≤_, _<_}
