@@ -1,7 +1,7 @@
 pub mod Readings
 pub mod Zeros
 pub mod Draws
-pub mod Paper
 pub mod Laws
 pub mod Boxes
+pub mod Paper
 pub mod Demand3

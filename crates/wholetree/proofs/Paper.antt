@@ -4,36 +4,33 @@ use mathlib.Core.Bool.{Bool, false}
 use Prim.Native.Nat.{ℕ, _^_, _<_}
 use lib.Ieee.{Float}
 use Rattle.limits.specs.Limits.{width}
+use Rattle.boundingbox.specs.Padding.{Padded}
 use Rattle.boundingbox.specs.Wholes.{Box, side, sumTo}
 use Rattle.cut.specs.declared.Cut.{Cut}
 use Rattle.cut.specs.declared.Separation.the-variants.{Drawn}
 use Rattle.cut.specs.Draw.{partsAt, separation}
 use Rattle.cut.specs.Document.{cutOf, documentCut}
-use Rattle.cut.specs.Laws.{Readings, Padded}
+use Rattle.cut.specs.Laws.{Readings, Padded as AllPadded}
 use Rattle.cut.proofs.Stretched.{stretched}
 use Rattle.cut.proofs.AsDocument.{as-document, some-side}
 use Rattle.cut.proofs.Within.{within-side}
 use Rattle.cut.proofs.AsPaper.{as-paper}
 use Rattle.cut.proofs.Padding.{fewer, padding-cuts-nothing}
-use Rattle.readings.specs.Number.{Number, nought, zero}
-use Rattle.wholetree.specs.Reading.{Reading}
+use Rattle.cuttree.specs.Tree.{Tree, end, lo, hi, All}
+use Rattle.cuttree.proofs.Leaves.{all-map}
+use Rattle.cuttree.proofs.Orders.{End, least-end, most-end}
+use Rattle.readings.specs.Number.{Number, nought}
+use Rattle.wholetree.specs.Reading.{Reading, coordinate}
 use Rattle.wholetree.specs.Whole.{ends, cutIn, whole}
-use Rattle.wholetree.specs.Paper.{OfChannels, holds, lowWith, highWith, asCut, PaperCut, DrawsPaperCut}
+use Rattle.wholetree.specs.Paper.{OfChannels, holds, lowWith, highWith, asCut, PaperCut, DrawsPaperCut, TreesDrawPaperCut}
 use Rattle.wholetree.proofs.Readings.{coordinate-is}
 use Rattle.wholetree.proofs.Draws.{ends-at, are-readings, tree-cut, draw-is}
+use Rattle.wholetree.proofs.Laws.{whole-laws}
+use Rattle.wholetree.proofs.Boxes.{chosen, tree-box}
 
 module _ {d : ℕ} {lo hi : ℕ → Number} {p : Reading} (C : OfChannels d lo hi p) where
-  no-value : {a : Number} → a ≡ zero → a .value ≡ nought
-  unfolding zero
-  no-value e = ap (λ (x : Number). x .value) e
-
-  rows-padded : Padded (ends lo) (ends hi) (p .row) d width
-  rows-padded = record {
-    fewer = C .in-row;
-    low = λ i a h. ends-at lo i h ∙ no-value (C .beyond-lower i a);
-    high = λ i a h. ends-at hi i h ∙ no-value (C .beyond-upper i a);
-    point = λ i a h. sym (coordinate-is p i h) ∙ no-value (C .beyond-point i a);
-  }
+  rows-padded : AllPadded (ends lo) (ends hi) (p .row) d width
+  rows-padded = record { fewer = C .in-row; low = C .lower; high = C .upper; point = C .point }
 
   readings : Readings (ends lo) (ends hi) (p .row) d
   readings = fewer d width (ends lo) (ends hi) (p .row) (C .in-row) (are-readings (C .box) p)
@@ -66,3 +63,13 @@ module _ {d : ℕ} {lo hi : ℕ → Number} {p : Reading} (C : OfChannels d lo h
 
 pub draws-paper-cut : DrawsPaperCut
 draws-paper-cut d lo hi p w C o W = subst (PaperCut d lo hi p w) (sym (cut-is C w W o)) (paper-cut C w W o)
+
+-- ---- at a tree
+ends-padded : (d : ℕ) {m : Number → Number → Number} {to : Number → Number → Bool} → End (whole d) m to → (t : Tree (whole d)) → All (whole d) (λ j q n. Padded (q .row) d width) t → Padded (ends (end (whole d) m t)) d width
+ends-padded d {m} E t h i a l =
+    ends-at (end (whole d) m t) i l
+    ∙ chosen d E (λ (x : Number). x .value ≡ nought) t i (all-map (whole d) (λ j q n. Padded (q .row) d width) (λ j q n. coordinate q i .value ≡ nought) t (λ j q n z. coordinate-is q i l ∙ z i a l) h)
+
+pub trees-draw-paper-cut : TreesDrawPaperCut
+trees-draw-paper-cut d t p w l h z o W = draws-paper-cut d (lo (whole d) t) (hi (whole d) t) p w
+    (record { in-row = l; box = tree-box d t; lower = ends-padded d (least-end (whole d) (whole-laws d)) t h; upper = ends-padded d (most-end (whole d) (whole-laws d)) t h; point = z }) o W
