@@ -4,8 +4,9 @@
 #   harness/run.sh [--digests]
 # KRCF_SRC names the folder that holds crates/rcflib/src, seen from the project's root; the default
 # is ../shared/docs/src. COMPARE says for how long the port is compared, 75s if unset, TEXTS on how many
-# texts treelist is, 2000 if unset. Where the Rust or cargo is not at hand, one line says so and all is
-# well; where rt is not, neither is compared, and where crates.txt has no treelist, that is not.
+# texts treelist is, 2000 if unset. Where the Rust is not at hand, one line says so and all is well.
+# Where it is but cargo or rt is not, one line says which and the run fails, so that nothing that could
+# be compared is left out unseen. Where crates.txt has no treelist, no texts are compared.
 # --digests prints the digest of each given file. Needs no network.
 set -euo pipefail
 
@@ -17,10 +18,12 @@ if [ ! -d "$source/crates/rcflib/src" ]; then
   echo "harness: the Rust is not at hand (no crates/rcflib/src under $source), skipped"
   exit 0
 fi
-if ! command -v cargo >/dev/null; then
-  echo "harness: cargo is not at hand, skipped"
-  exit 0
-fi
+for tool in cargo rt; do
+  if ! command -v "$tool" >/dev/null; then
+    echo "harness: the Rust is at hand but $tool is not, nothing is compared: failed"
+    exit 1
+  fi
+done
 
 harness/copy_given.sh "$source" "$@"
 
@@ -31,10 +34,6 @@ built build
 built run --package selftest
 built run --package record -- check crates
 
-if ! command -v rt >/dev/null; then
-  echo "harness: rt is not at hand, the port is not compared"
-  exit 0
-fi
 rt staticlib run
 listed=
 if grep -q '^treelist:' crates.txt; then

@@ -1,4 +1,5 @@
-//! What the comparing programs share: how they are asked, and what they say of faults made on purpose.
+//! What the comparing programs share: how they are asked, how much they have to compare, and what they
+//! say of faults made on purpose.
 #![forbid(unsafe_code)]
 
 use std::fmt::Debug;
@@ -20,6 +21,18 @@ pub fn main(name: &str, ask: fn(&[&str]) -> Result<(), String>) -> ExitCode {
 pub fn number(text: &str) -> Result<u64, String> {
     let number = text.parse();
     number.map_err(|_| format!("{text} is no whole number"))
+}
+
+/// An error if fewer inputs were compared than had to be: an empty or a stuck loop finds no difference
+/// either. One is always the least.
+pub fn reached(compared: usize, least: usize, inputs: &str) -> Result<(), String> {
+    let least = least.max(1);
+    match compared >= least {
+        true => Ok(()),
+        false => Err(format!(
+            "{compared} {inputs} compared, at least {least} have to be"
+        )),
+    }
 }
 
 /// In how many inputs a fault was made, and in how many of those the comparison saw it.

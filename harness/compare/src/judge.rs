@@ -1,8 +1,9 @@
 //! Lends runs to the port and holds what it returns, writes and leaves against what it must.
 use crate::difference::{self, Difference};
 use crate::inputs::Inputs;
+use command::reached;
 use port::{Called, Lending};
-use runs::{bytes_of, check, outcome, Checked, Outcome};
+use runs::{bytes_of, check, outcome, page, Checked, Outcome};
 use std::collections::BTreeMap;
 
 /// So many differences are shown in full.
@@ -31,6 +32,8 @@ impl Answers for Plain {
 /// What was compared so far.
 #[derive(Default)]
 pub struct Tally {
+    /// Calls that docs/LAYOUT.md shows.
+    shown: usize,
     runs: usize,
     damaged: usize,
     out_of_layout: usize,
@@ -56,6 +59,16 @@ impl<A: Answers> Judge<A> {
             tally: Tally::default(),
             loud: true,
         }
+    }
+
+    /// Compares the worked run of docs/LAYOUT.md with what the page says of it.
+    pub fn look_at_page(&mut self) -> Result<(), String> {
+        for shown in page::shown()? {
+            self.tally.shown += 1;
+            let name = format!("call {} of docs/LAYOUT.md", self.tally.shown);
+            self.hold(&name, &shown.run, shown.lent, &shown.outcome);
+        }
+        Ok(())
     }
 
     /// Compares a whole run, lent enough and too little, and damaged ones.
@@ -125,9 +138,10 @@ impl<A: Answers> Judge<A> {
         }
     }
 
-    /// The last line, and an error if anything differs.
-    pub fn finish(&self, seed17_draws: usize) -> Result<(), String> {
+    /// The last line, and an error if anything differs or fewer runs were compared than had to be.
+    pub fn finish(&self, least: usize, seed17_draws: usize) -> Result<(), String> {
         let t = &self.tally;
+        println!("docs/LAYOUT.md: {} calls of its worked run", t.shown);
         let met = t.refusals.iter().filter(|(refusal, _)| **refusal > 0);
         let met: Vec<String> = met.map(|(refusal, n)| format!("{refusal}: {n}")).collect();
         println!("refusals within runs: {}", met.join(", "));
@@ -145,6 +159,6 @@ impl<A: Answers> Judge<A> {
         if t.differing > 0 {
             return Err("the port's answers are not those of the Rust".into());
         }
-        Ok(())
+        reached(t.runs, least, "runs")
     }
 }

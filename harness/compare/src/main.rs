@@ -1,14 +1,15 @@
 //! Holds the port against the Rust, byte run by byte run.
 //!
 //!   compare 500 [SEED]        compares 500 runs
-//!   compare 75s [SEED]        compares runs for 75 seconds
+//!   compare 75s [SEED]        compares runs for 75 seconds, at least 10 for each of them
 //!   compare --only N [SEED]   compares the run N of a seed
 //!   compare --fault           changes answers, buffers and words on purpose; all is well if that
 //!                             is noticed
 //!   compare --replay          reads a run in hexadecimal digits and shows each call's two answers
 //!
-//! SEED is a whole number; the same one gives the same runs. The last line says how many were
-//! compared and how many differ; the exit status is 0 only if none does.
+//! SEED is a whole number; the same one gives the same runs. The worked run of docs/LAYOUT.md is
+//! compared before them. The last line says how many were compared and how many differ; the exit
+//! status is 0 only if none does and no fewer were compared than asked for.
 #![forbid(unsafe_code)]
 
 mod difference;
@@ -25,11 +26,26 @@ use std::time::{Duration, Instant};
 
 const SEED: u64 = 20;
 
+/// A comparison for a time has to get through so many runs for each of its seconds. It does about 250,
+/// so that a machine twenty times slower still passes, and a comparison that is stuck does not.
+const LEAST_A_SECOND: usize = 10;
+
 /// When a comparison ends, or the one run it is of.
 enum Until {
     Only(usize),
     Runs(usize),
     Time(Duration),
+}
+
+impl Until {
+    /// How many runs have to be compared.
+    fn least(&self) -> usize {
+        match self {
+            Until::Only(_) => 1,
+            Until::Runs(runs) => *runs,
+            Until::Time(time) => LEAST_A_SECOND * (time.as_secs() as usize).max(1),
+        }
+    }
 }
 
 fn main() -> ExitCode {
@@ -64,6 +80,7 @@ fn compare(until: Until, seed: u64) -> Result<(), String> {
     let start = Instant::now();
     let source = Source::new(seed);
     let mut judge = Judge::new(Plain::default());
+    judge.look_at_page()?;
     let mut n = match until {
         Until::Only(n) => n,
         _ => 0,
@@ -77,7 +94,7 @@ fn compare(until: Until, seed: u64) -> Result<(), String> {
             Until::Time(time) => start.elapsed() >= time,
         };
         if over {
-            return judge.finish(oracle::feed::seed17_draws());
+            return judge.finish(until.least(), oracle::feed::seed17_draws());
         }
     }
 }

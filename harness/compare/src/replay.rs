@@ -2,17 +2,12 @@
 //! answer.
 use crate::difference::numbers;
 use crate::judge::{Answers, Plain};
-use runs::{decode, outcome, Call, Outcome};
+use runs::{decode, digits, outcome, Call, Outcome};
 
 /// Shows every call, and an error if an answer differs.
 pub fn run() -> Result<(), String> {
     let text = std::io::read_to_string(std::io::stdin()).map_err(|e| e.to_string())?;
-    let digits: Vec<char> = text.chars().filter(|c| !c.is_whitespace()).collect();
-    let bytes = digits.chunks(2).map(|two| {
-        let two: String = two.iter().collect();
-        u8::from_str_radix(&two, 16).map_err(|_| format!("{two} is no byte"))
-    });
-    let bytes = bytes.collect::<Result<Vec<u8>, String>>()?;
+    let bytes = digits::bytes(&text)?;
     let expected = outcome(&bytes, usize::MAX);
     let lent = match &expected {
         Outcome::Answered(answers) => answers.len(),

@@ -7,8 +7,10 @@ const MOST_SHOWN: usize = 6_000;
 
 pub fn text(name: &str, text: &[u8], expected: &[u8], got: &Printed) -> String {
     let mut shown = format!("{name}, {} bytes:\n{}", text.len(), lines(text));
-    if got.by_signal {
-        shown += "a signal ended the program\n";
+    match got.status {
+        Some(0) => {}
+        Some(status) => shown += &format!("the program exited with the status {status}\n"),
+        None => shown += "a signal ended the program\n",
     }
     shown += &format!("expected, {} bytes:\n{}", expected.len(), lines(expected));
     shown += &format!("printed, {} bytes:\n{}", got.bytes.len(), lines(&got.bytes));

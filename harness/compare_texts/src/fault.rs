@@ -21,16 +21,19 @@ enum Fault {
     ByteMore,
     /// All is printed, but then a signal ends the program.
     Signal,
+    /// All is printed, but the program exits with a status other than 0.
+    Status,
     /// The program is handed the text without its last row. A row need not show.
     Row,
 }
 
-const FAULTS: [Fault; 6] = [
+const FAULTS: [Fault; 7] = [
     Fault::ExpectedBit,
     Fault::PrintedBit,
     Fault::ByteMissing,
     Fault::ByteMore,
     Fault::Signal,
+    Fault::Status,
     Fault::Row,
 ];
 
@@ -84,7 +87,8 @@ fn spoil(fault: Fault, expected: &mut Vec<u8>, got: &mut Printed, words: &mut Wo
         Fault::PrintedBit => got.bytes[place] ^= bit,
         Fault::ByteMissing => drop(got.bytes.pop()),
         Fault::ByteMore => got.bytes.push(b'\n'),
-        Fault::Signal => got.by_signal = true,
+        Fault::Signal => got.status = None,
+        Fault::Status => got.status = Some(1),
         Fault::Row => {}
     }
 }

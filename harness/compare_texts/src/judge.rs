@@ -1,6 +1,7 @@
 //! Holds what the program prints for each text against what it must.
 use crate::difference;
 use crate::program::Program;
+use command::reached;
 use std::collections::BTreeMap;
 use texts::generate::Given;
 use texts::{outcome, Outcome};
@@ -61,8 +62,8 @@ impl Judge {
         }
     }
 
-    /// The last line, and an error if anything differs.
-    pub fn finish(&self, seed17_draws: usize) -> Result<(), String> {
+    /// The last line, and an error if anything differs or fewer texts were compared than asked for.
+    pub fn finish(&self, asked: usize, seed17_draws: usize) -> Result<(), String> {
         let listed = |(what, n): (String, &usize)| format!("{what}: {n}");
         let kinds = self
             .kinds
@@ -86,7 +87,7 @@ impl Judge {
             return Err("the branch seeded with 17 was reached".into());
         }
         match self.differing {
-            0 => Ok(()),
+            0 => reached(self.texts, asked, "texts"),
             _ => Err(NOT_THE_RUST.into()),
         }
     }

@@ -9,7 +9,8 @@
 //! SEED is a whole number; the same one gives the same texts. TREELIST names the program; if it is
 //! unset, that is target/bin/treelist below the project's root. The last line says how many texts
 //! were compared, how many of them are in form, and how many differ; the exit status is 0 only if
-//! none does.
+//! none does and no fewer were compared than asked for. A text differs where the program prints
+//! something else, exits with a status other than 0, or is ended by a signal.
 #![forbid(unsafe_code)]
 
 mod difference;
@@ -52,11 +53,12 @@ fn one(text: &str) -> Result<std::ops::Range<usize>, String> {
 fn compare(numbers: std::ops::Range<usize>, seed: u64) -> Result<(), String> {
     let program = Program::find()?;
     let mut judge = Judge::default();
+    let asked = numbers.len();
     for n in numbers {
         let given = nth(seed, n);
         judge.look(&format!("text {n} of the seed {seed}"), &given, &program)?;
     }
-    judge.finish(oracle::feed::seed17_draws())
+    judge.finish(asked, oracle::feed::seed17_draws())
 }
 
 fn write_text(n: &str, seed: u64) -> Result<(), String> {

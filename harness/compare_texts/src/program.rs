@@ -17,13 +17,13 @@ pub struct Program {
 #[derive(Clone)]
 pub struct Printed {
     pub bytes: Vec<u8>,
-    /// Whether a signal ended it.
-    pub by_signal: bool,
+    /// The exit status; none where a signal ended it.
+    pub status: Option<i32>,
 }
 
 impl Printed {
     pub fn differs(&self, expected: &[u8]) -> bool {
-        self.bytes != expected || self.by_signal
+        self.bytes != expected || self.status != Some(0)
     }
 }
 
@@ -61,7 +61,7 @@ impl Program {
         let ended = child.wait().map_err(failed)?;
         Ok(Printed {
             bytes: read.map_err(failed)?,
-            by_signal: ended.code().is_none(),
+            status: ended.code(),
         })
     }
 

@@ -7,11 +7,13 @@ mod checker;
 mod copies;
 pub mod damaged;
 mod decode;
+pub mod digits;
 mod driver;
 pub mod examples;
 mod expected;
 pub mod generate;
 mod layout;
+pub mod page;
 mod refusals;
 
 pub use checker::{check, Checked};

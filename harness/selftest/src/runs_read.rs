@@ -1,10 +1,11 @@
 //! Byte runs: what is written is read back, both readings of docs/LAYOUT.md agree, document 01's
-//! list gets document 01's answers, and the trees hold what the copy counts say.
+//! list gets document 01's answers and the page's worked run the page's, and the trees hold what the
+//! copy counts say.
 use crate::model::{check_tree, count_down, count_up, value, Counts, Value};
 use oracle::{Table, Words};
 use runs::damaged::damage;
 use runs::generate::{self, Room, Written};
-use runs::{answers, bytes_of, check, decode, examples, outcome, Answer, Call, Checked};
+use runs::{answers, bytes_of, check, decode, examples, outcome, page, Answer, Call, Checked};
 use runs::{Driver, Outcome};
 
 const SEED: u64 = 0x00C0_FFEE_0000_0003;
@@ -27,6 +28,18 @@ pub fn run(runs: usize) -> usize {
         both_agree(&damage(&written.run, &mut words));
     }
     calls
+}
+
+/// The worked run of docs/LAYOUT.md gets the answers that the page shows; answers how many calls of
+/// `sicklephlox_run` those are. A page without one is an error.
+pub fn worked_run() -> usize {
+    assert!(page::read("# The byte run\n").is_err());
+    let all = page::shown().unwrap_or_else(|why| panic!("{why}"));
+    for shown in &all {
+        assert_eq!(outcome(&shown.run, shown.lent), shown.outcome);
+        both_agree(&shown.run);
+    }
+    all.len()
 }
 
 /// Document 01's list and its printed tree: branches 0 and 1, leaves 4, 6 and 5.
