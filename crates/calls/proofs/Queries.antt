@@ -14,7 +14,8 @@ use Rattle.randomcuttree.specs.declared.CopiesAnswer.{CopiesAnswer}
 use Rattle.randomcuttree.specs.declared.BranchAnswer.{BranchAnswer}
 use Rattle.randomcuttree.specs.declared.BoxAnswer.{BoxAnswer}
 use Rattle.treestore.specs.Arrays.{Lent}
-use Rattle.randomcuttree.specs.Queries.{CopiesTold, BranchTold, BoxTold, BoxRead}
+use Rattle.randomcuttree.specs.Queries.{copiesRead, branchRead, BoxTold, BoxRead}
+use Rattle.randomcuttree.proofs.Told.{copies-are-told, branches-are-told}
 use Rattle.answers.specs.Said.{filled, copiesNumbers, branchNumbers, boxNumbers, replyWidth}
 use Rattle.calls.specs.Done.{Does, Done, queryOf}
 
@@ -23,17 +24,17 @@ module _ (tree : RCFTree) (k x : ℕ) (reply : List ℕ) where
   asked : (a : Lent) (points : List (List Float)) (marks : List ℕ) (q : Query) → queryOf k x ≡ q → Does (λ d. query q) tree a points marks tree a points marks reply → Does (λ d. query (queryOf k x)) tree a points marks tree a points marks reply
   asked a points marks q e D d c s W S = subst (λ (z : Query). Done d c s W (query z) tree a points marks reply) (sym e) (D d c s W S)
 
-  pub copies-does : k ≡ 8 → (copies : List ℕ) (r : CopiesAnswer) → CopiesTold tree copies x r → reply ≡ filled replyWidth (copiesNumbers r)
+  pub copies-does : k ≡ 8 → (copies : List ℕ) (r : CopiesAnswer) → r ≡ copiesRead tree copies x → reply ≡ filled replyWidth (copiesNumbers r)
       → (a : Lent) (points : List (List Float)) (marks : List ℕ) → a .copies ≡ copies → Does (λ d. query (queryOf k x)) tree a points marks tree a points marks reply
   copies-does e copies r T f a points marks g = asked a points marks (copiesOf x) (cond-true _ _ _ (eq-eqb k 8 e)) (λ d c s W S. record {
-    reply-is = f ∙ ap (λ y. filled replyWidth (copiesNumbers y)) (T d c s W a points marks S g);
+    reply-is = f ∙ ap (λ y. filled replyWidth (copiesNumbers y)) (T ∙ copies-are-told tree copies x d c s W a points marks S g);
     state = S;
   })
 
-  pub branch-does : (k ≡ 8 → ⊥) → k ≡ 9 → (nodes : List (List ℕ)) (cuts : List Float) (r : BranchAnswer) → BranchTold tree nodes cuts x r → reply ≡ filled replyWidth (branchNumbers r)
+  pub branch-does : (k ≡ 8 → ⊥) → k ≡ 9 → (nodes : List (List ℕ)) (cuts : List Float) (r : BranchAnswer) → r ≡ branchRead nodes cuts x → reply ≡ filled replyWidth (branchNumbers r)
       → (a : Lent) (points : List (List Float)) (marks : List ℕ) → a .nodes ≡ nodes → a .cuts ≡ cuts → Does (λ d. query (queryOf k x)) tree a points marks tree a points marks reply
   branch-does n e nodes cuts r T f a points marks g h = asked a points marks (branchOf x) (cond-false _ _ _ (ne-eqb k 8 n) ∙ cond-true _ _ _ (eq-eqb k 9 e)) (λ d c s W S. record {
-    reply-is = f ∙ ap (λ y. filled replyWidth (branchNumbers y)) (T d c s W a points marks S g h);
+    reply-is = f ∙ ap (λ y. filled replyWidth (branchNumbers y)) (T ∙ branches-are-told tree nodes cuts x d c s W a points marks S g h);
     state = S;
   })
 

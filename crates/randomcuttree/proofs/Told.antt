@@ -1,14 +1,14 @@
 -- The queries, place by place: what is read in the arrays of a state is what the tree has at an id. Assumes nothing.
-use mathlib.Core.Path.{_≡_, refl, sym, ap, _∙_}
+use mathlib.Core.Path.{_≡_, refl, sym, ap, _∙_, subst}
 use mathlib.Core.Bool.{Bool}
 use mathlib.Core.Option.{Option, none, some}
 use mathlib.Core.List.{List, []}
 use Prim.Native.Nat.{ℕ, _-_, _≤_, _<_}
 use native.Mathlib.Omega.{arith}
-use lib.Dec.{ltb}
+use lib.Dec.{eqb, leb, ltb}
 use lib.ListN.{getD}
 use lib.Ieee.{Float, nan}
-use borrow.Author.Tests.{ltb-true, ltb-false}
+use borrow.Author.Tests.{ltb-true, ltb-false, lt-ltb, le-ltb, leb-true, leb-false, lt-leb, le-leb, eqb-true, eqb-false, eq-eqb, ne-eqb}
 use Rattle.limits.specs.Limits.{capacityLimit, branchLimit, pointLimit}
 use Rattle.readings.specs.Number.{nought}
 use Rattle.boundingbox.specs.declared.BoundingBox.{BoundingBox}
@@ -36,14 +36,14 @@ use Rattle.randomcuttree.specs.declared.CopiesAnswer.{CopiesAnswer}
 use Rattle.randomcuttree.specs.declared.BranchAnswer.{BranchAnswer}
 use Rattle.randomcuttree.specs.declared.BoxAnswer.{BoxAnswer}
 use Rattle.randomcuttree.specs.State.{cachedBy, State}
-use Rattle.randomcuttree.specs.Queries.{copiesSay, branchSays, boxSays, noBox, CopiesTold, BranchTold, BoxTold, BoxRead, SomeBoxRead}
+use Rattle.randomcuttree.specs.Queries.{copiesSay, branchSays, boxSays, noBox, copiesRead, rowRead, branchRead, CopiesTold, BranchTold, BoxTold, BoxRead, SomeBoxRead, CopiesAreTold, BranchesAreTold}
 use Rattle.randomcuttree.proofs.Lookups.{once, no-leaf, a-leaf, branch-below, branch-found, with-mass, without-mass, no-branch}
 use Rattle.randomcuttree.proofs.Parts.{capacity-is, cached-is, nodes-are, cuts-are, copies-are}
 use Rattle.randomcuttree.proofs.Given.{sound, boxed}
 
 -- ---- copies
 module _ (tree : RCFTree) (copies : List ℕ) (x : ℕ) where
-  pub no-copies : (tree .capacity ≤ x → x - tree .capacity < pointLimit → getD copies (x - tree .capacity) 0 ≡ 0) → CopiesTold tree copies x (CopiesAnswer.NoLeaf 16)
+  no-copies : (tree .capacity ≤ x → x - tree .capacity < pointLimit → getD copies (x - tree .capacity) 0 ≡ 0) → CopiesTold tree copies x (CopiesAnswer.NoLeaf 16)
   no-copies h d c s W a points marks S e = go (W .tree) (S .reachable .sound) (sym e ∙ copies-are S)
     where
       go : (o : Option (Tree (whole d))) → Sound (whole d) c (record { table = W .table; tree = o; free = W .free }) → copies ≡ tab pointLimit (countIn d c (cachedBy s c) o) → CopiesAnswer.NoLeaf 16 ≡ copiesSay d (copiesFound (whole d) (lookIn (whole d) c o x))
@@ -52,7 +52,7 @@ module _ (tree : RCFTree) (copies : List ℕ) (x : ℕ) where
           let m = rw (capacity-is S) at h in
           rw (no-leaf d c (W .table) t (W .free) H x (λ p q. sym (entry-of pointLimit (countIn d c (cachedBy s c) (some t)) copies E 0 (x - c) q) ∙ m p q)) refl
 
-  pub copies-told : tree .capacity ≤ x → x - tree .capacity < pointLimit → (getD copies (x - tree .capacity) 0 ≡ 0 → ⊥) → (n : ℕ) → n ≡ getD copies (x - tree .capacity) 0 → CopiesTold tree copies x (CopiesAnswer.Copies n)
+  copies-told : tree .capacity ≤ x → x - tree .capacity < pointLimit → (getD copies (x - tree .capacity) 0 ≡ 0 → ⊥) → (n : ℕ) → n ≡ getD copies (x - tree .capacity) 0 → CopiesTold tree copies x (CopiesAnswer.Copies n)
   copies-told p q r n z d c s W a points marks S e = go (W .tree) (S .reachable .sound)
       (z ∙ ap (λ (m : ℕ). getD copies (x - m) 0) (capacity-is S) ∙ entry-of pointLimit (countIn d c (cachedBy s c) (W .tree)) copies (sym e ∙ copies-are S) 0 (x - c) (omega (arith, capacity-is S)))
     where
@@ -61,6 +61,39 @@ module _ (tree : RCFTree) (copies : List ℕ) (x : ℕ) where
       go (some t) H y =
           let w : n ≡ 0 → ⊥ = λ v. r (sym z ∙ v) in
           rw (a-leaf d c (W .table) t (W .free) H x (omega (arith, capacity-is S)) (omega arith)) (ap (λ (m : ℕ). CopiesAnswer.Copies m) y)
+
+  -- what is read, place by place
+  pub below-read : x < tree .capacity → copiesRead tree copies x ≡ CopiesAnswer.NoLeaf 16
+  unfolding copiesRead
+  below-read h = rw (lt-ltb x (tree .capacity) h)
+
+  module _ (p : tree .capacity ≤ x) where
+    pub beyond-read : pointLimit ≤ x - tree .capacity → copiesRead tree copies x ≡ CopiesAnswer.NoLeaf 16
+    unfolding copiesRead
+    beyond-read h = rw (le-ltb x (tree .capacity) p, le-leb pointLimit (x - tree .capacity) h)
+
+    pub none-read : x - tree .capacity < pointLimit → getD copies (x - tree .capacity) 0 ≡ 0 → copiesRead tree copies x ≡ CopiesAnswer.NoLeaf 16
+    unfolding copiesRead
+    none-read h z = rw (le-ltb x (tree .capacity) p, lt-leb pointLimit (x - tree .capacity) h, eq-eqb (getD copies (x - tree .capacity) 0) 0 z)
+
+    pub some-read : x - tree .capacity < pointLimit → (getD copies (x - tree .capacity) 0 ≡ 0 → ⊥) → copiesRead tree copies x ≡ CopiesAnswer.Copies (getD copies (x - tree .capacity) 0)
+    unfolding copiesRead
+    some-read h z = rw (le-ltb x (tree .capacity) p, lt-leb pointLimit (x - tree .capacity) h, ne-eqb (getD copies (x - tree .capacity) 0) 0 z)
+
+pub copies-are-told : CopiesAreTold
+copies-are-told tree copies x = by-test (ltb x (tree .capacity))
+    (λ e. let l = ltb-true x (tree .capacity) e in subst Told (sym (below-read tree copies x l)) (no-copies tree copies x (λ p q. absurd (omega arith))))
+    (λ e. let p = ltb-false x (tree .capacity) e in by-test (leb pointLimit (x - tree .capacity))
+    (λ f. let l = leb-true pointLimit (x - tree .capacity) f in subst Told (sym (beyond-read tree copies x p l)) (no-copies tree copies x (λ p q. absurd (omega arith))))
+    (λ f. let q = leb-false pointLimit (x - tree .capacity) f in by-test (eqb n 0)
+    (λ g. let z = eqb-true n 0 g in subst Told (sym (none-read tree copies x p q z)) (no-copies tree copies x (λ _ _. z)))
+    (λ g. let z = eqb-false n 0 g in subst Told (sym (some-read tree copies x p q z)) (copies-told tree copies x p q z n refl))))
+  where
+    Told : CopiesAnswer → Type 0
+    Told = CopiesTold tree copies x
+
+    n : ℕ
+    n = getD copies (x - tree .capacity) 0
 
 -- ---- branches
 module _ (nodes : List (List ℕ)) (x : ℕ) where
@@ -87,17 +120,14 @@ module _ (nodes : List (List ℕ)) (x : ℕ) where
   none-there d c k E l = ap (λ (r : List ℕ). getD r 2 0) (entry-of branchLimit (slotIn d c k (rowOf d c) noRow none) nodes E [] x l)
 
 module _ (tree : RCFTree) (nodes : List (List ℕ)) (cuts : List Float) (x : ℕ) where
-  pub no-row : (x < branchLimit → massRead nodes x ≡ 0) → BranchTold tree nodes cuts x (BranchAnswer.NoBranch 16)
+  no-row : (x < branchLimit → massRead nodes x ≡ 0) → BranchTold tree nodes cuts x (BranchAnswer.NoBranch 16)
   no-row h d c s W a points marks S e e′ = go (W .tree) (S .reachable .sound) (sym e ∙ nodes-are S)
     where
       go : (o : Option (Tree (whole d))) → Sound (whole d) c (record { table = W .table; tree = o; free = W .free }) → nodes ≡ tab branchLimit (slotIn d c (cachedBy s c) (rowOf d c) noRow o) → BranchAnswer.NoBranch 16 ≡ branchSays d (branchFound (whole d) c (lookIn (whole d) c o x))
       go none H E = refl
       go (some t) H E = rw (no-branch d c (W .table) t (W .free) H x (unused nodes x d c (W .table) t (W .free) H (S .limits .3) E h) .0) refl
 
-  abbrev rowRead : BranchRow
-  rowRead = let r = getD nodes x [] in record { cut = record { dimension = getD r 3 0; value = getD cuts x nan }; left = getD r 0 0; right = getD r 1 0; mass = getD r 2 0 }
-
-  pub row-told : x < branchLimit → (massRead nodes x ≡ 0 → ⊥) → (r : BranchRow) → r ≡ rowRead → BranchTold tree nodes cuts x (BranchAnswer.Branch r)
+  row-told : x < branchLimit → (massRead nodes x ≡ 0 → ⊥) → (r : BranchRow) → r ≡ rowRead nodes cuts x → BranchTold tree nodes cuts x (BranchAnswer.Branch r)
   row-told l h r z d c s W a points marks S e e′ = go (W .tree) (S .reachable .sound) (sym e ∙ nodes-are S) (sym e′ ∙ cuts-are S)
     where
       go : (o : Option (Tree (whole d))) → Sound (whole d) c (record { table = W .table; tree = o; free = W .free }) → nodes ≡ tab branchLimit (slotIn d c (cachedBy s c) (rowOf d c) noRow o) → cuts ≡ tab branchLimit (slotIn d c (cachedBy s c) (cutOf d c) nought o)
@@ -111,6 +141,29 @@ module _ (tree : RCFTree) (nodes : List (List ℕ)) (cuts : List Float) (x : ℕ
               let row = row-is nodes x d c (W .table) t (W .free) H (S .limits .3) E l ∙ slot-in d c (rowOf d c) noRow o (B .inside) in
               let value = entry-of branchLimit (slot d c (cutOf d c) nought t) cuts F nan x l ∙ slot-in d c (cutOf d c) nought o (B .inside) in
               rw (branch-found d c (W .table) t (W .free) H x B, z, row, value) refl
+
+  -- what is read, place by place
+  pub beyond-rows : branchLimit ≤ x → branchRead nodes cuts x ≡ BranchAnswer.NoBranch 16
+  unfolding branchRead
+  beyond-rows h = rw (le-leb branchLimit x h)
+
+  pub empty-row : x < branchLimit → massRead nodes x ≡ 0 → branchRead nodes cuts x ≡ BranchAnswer.NoBranch 16
+  unfolding branchRead
+  empty-row h z = rw (lt-leb branchLimit x h, eq-eqb (massRead nodes x) 0 z)
+
+  pub a-row : x < branchLimit → (massRead nodes x ≡ 0 → ⊥) → branchRead nodes cuts x ≡ BranchAnswer.Branch (rowRead nodes cuts x)
+  unfolding branchRead
+  a-row h z = rw (lt-leb branchLimit x h, ne-eqb (massRead nodes x) 0 z)
+
+pub branches-are-told : BranchesAreTold
+branches-are-told tree nodes cuts x = by-test (leb branchLimit x)
+    (λ e. let l = leb-true branchLimit x e in subst Told (sym (beyond-rows tree nodes cuts x l)) (no-row tree nodes cuts x (λ h. absurd (omega arith))))
+    (λ e. let l = leb-false branchLimit x e in by-test (eqb (massRead nodes x) 0)
+    (λ g. let z = eqb-true (massRead nodes x) 0 g in subst Told (sym (empty-row tree nodes cuts x l z)) (no-row tree nodes cuts x (λ _. z)))
+    (λ g. let z = eqb-false (massRead nodes x) 0 g in subst Told (sym (a-row tree nodes cuts x l z)) (row-told tree nodes cuts x l z (rowRead nodes cuts x) refl)))
+  where
+    Told : BranchAnswer → Type 0
+    Told = BranchTold tree nodes cuts x
 
 -- ---- boxes
 -- boxes that stand below a tree stand below each of its nodes

@@ -1,10 +1,15 @@
--- What the queries answer, in document 01's number and values, of any world that the lent arrays are those of. Definitions.
+-- What the queries answer: of whatever arrays are lent, and in document 01's number and values of any world that they are those of. Definitions.
 use mathlib.Core.Path.{_≡_}
+use mathlib.Core.Bool.{cond}
 use mathlib.Core.List.{List}
-use Prim.Native.Nat.{ℕ}
-use lib.Ieee.{Float}
+use Prim.Native.Nat.{ℕ, _-_}
+use lib.Dec.{eqb, leb, ltb}
+use lib.ListN.{getD}
+use lib.Ieee.{Float, nan}
+use Rattle.limits.specs.Limits.{branchLimit, pointLimit}
 use Rattle.cuttree.specs.Run.{World, Row, Answer, refused, written, added, deleted, copiesAre, branchIs, boxIs, numberOf, copiesOf, branchOf, boxOf, ask}
 use Rattle.wholetree.specs.Whole.{whole, ends}
+use Rattle.layout.specs.Slots.{field}
 use Rattle.layout.specs.Layout.{noEnds}
 use Rattle.treestore.specs.Arrays.{Lent}
 use Rattle.randomcuttree.specs.declared.RCFTree.{RCFTree}
@@ -54,7 +59,21 @@ boxSays d (deleted j) = noBox 0
 boxSays d (copiesAre n) = noBox 0
 boxSays d (branchIs r) = noBox 0
 
--- What a query gives, of the arrays that it reads: the answer of each world whose header and arrays these are.
+-- Of whatever is lent: the copies at the id less the capacity, or 16 where the id has no place there or no copies are
+unfoldable pub copiesRead : RCFTree → List ℕ → ℕ → CopiesAnswer
+copiesRead tree copies x =
+    cond (ltb x (tree .capacity)) (NoLeaf 16)
+    (cond (leb pointLimit (x - tree .capacity)) (NoLeaf 16)
+    (cond (eqb (getD copies (x - tree .capacity) 0) 0) (NoLeaf 16) (Copies (getD copies (x - tree .capacity) 0))))
+
+-- the row and the cut at the id, or 16 where the id has no place there or the row has no mass
+abbrev pub rowRead : List (List ℕ) → List Float → ℕ → BranchRow
+rowRead nodes cuts x = record { cut = record { dimension = field nodes x 3; value = getD cuts x nan }; left = field nodes x 0; right = field nodes x 1; mass = field nodes x 2 }
+
+unfoldable pub branchRead : List (List ℕ) → List Float → ℕ → BranchAnswer
+branchRead nodes cuts x = cond (leb branchLimit x) (NoBranch 16) (cond (eqb (field nodes x 2) 0) (NoBranch 16) (Branch (rowRead nodes cuts x)))
+
+-- The same in document 01's words: the answer of each world whose header and arrays these are.
 abbrev pub CopiesTold : RCFTree → List ℕ → ℕ → CopiesAnswer → Type 0
 CopiesTold tree copies x r =
     (d c : ℕ) (s : Float) (W : World (whole d)) (a : Lent) (points : List (List Float)) (marks : List ℕ) → State d c s W tree a points marks
@@ -81,3 +100,10 @@ pub record SomeBoxRead (tree : RCFTree) (nodes : List (List ℕ)) (points : List
   pub marks : List ℕ
   pub read : BoxRead lent nodes boxes
   pub state : SomeState tree lent points marks
+
+-- That it is the same: what is read of a world's arrays is the query's answer.
+abbrev pub CopiesAreTold : Type 0
+CopiesAreTold = (tree : RCFTree) (copies : List ℕ) (x : ℕ) → CopiesTold tree copies x (copiesRead tree copies x)
+
+abbrev pub BranchesAreTold : Type 0
+BranchesAreTold = (tree : RCFTree) (nodes : List (List ℕ)) (cuts : List Float) (x : ℕ) → BranchTold tree nodes cuts x (branchRead nodes cuts x)

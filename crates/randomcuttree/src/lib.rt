@@ -28,7 +28,7 @@ ghost use Rattle.treestore.specs.Arrays.{lent};
 ghost use Rattle.randomcuttree.specs.State.{headed, SomeState};
 ghost use Rattle.randomcuttree.specs.Answers.{AddDone, DeleteDone};
 ghost use Rattle.randomcuttree.specs.Making.{MakeDone};
-ghost use Rattle.randomcuttree.specs.Queries.{CopiesTold, BranchTold, BoxTold, SomeBoxRead, noBox};
+ghost use Rattle.randomcuttree.specs.Queries.{copiesRead, branchRead, BoxTold, SomeBoxRead, noBox};
 
 // The header of a tree. The arrays beside it hold the branches' rows and cuts, the leaves' copies, the free branch numbers and the cached boxes.
 // `cached` is how many branches `cache_fraction` has cached.
@@ -196,7 +196,7 @@ impl RCFTree {
     // The copies of a leaf by its id.
     // Rules out copies answered for a branch's id, and 0 copies in place of the refusal.
     pub fn copies_of(self, copies: &Copies, id: usize) -> CopiesAnswer
-        ensures { λ r. ⌜ CopiesTold self (now (copies .entry)) id r ⌝ }
+        ensures { λ r. ⌜ r ≡ copiesRead self (now (copies .entry)) id ⌝ }
     {
         let capacity = wide16(self.capacity);
         if id < capacity {
@@ -216,7 +216,7 @@ impl RCFTree {
     // The row of a branch by its number.
     // Rules out the sides swapped, and a row of zeros in place of the refusal.
     pub fn branch_of(self, nodes: &Nodes, cuts: &Cuts, id: usize) -> BranchAnswer
-        ensures { λ r. ⌜ BranchTold self (now (nodes .entry)) (now (cuts .entry)) id r ⌝ }
+        ensures { λ r. ⌜ r ≡ branchRead (now (nodes .entry)) (now (cuts .entry)) id ⌝ }
     {
         if BRANCHES <= id {
             return BranchAnswer::NoBranch(16);
