@@ -5,6 +5,7 @@ use mathlib.Core.List.{List, [], _++_}
 use Prim.Native.Nat.{ℕ, zero, suc, _+_, _-_, _*_, _/_, _≤_}
 use lib.Dec.{eqb}
 use lib.ListN.{length, getD}
+use Rattle.limits.specs.Limits.{branchLimit}
 use Rattle.little.specs.Little.{little16, bytes32}
 use Rattle.intervalstoremanager.specs.declared.IntervalStoreManager.{IntervalStoreManager}
 use Rattle.intervalstoremanager.specs.declared.Got.{Got}
@@ -16,6 +17,21 @@ use Rattle.intervalstoremanager.specs.Rows.{layout, topped, start, end, gotOf, 
 use Rattle.lines.specs.Lines.{Wrote}
 use Rattle.recorded.specs.declared.intervals.Called.{Called}
 use Rattle.recorded.specs.declared.intervals.Reached.{Reached}
+
+-- what is given for a `get`, and for a look at all rows; any other number is released
+abbrev pub getting : ℕ
+getting = 65535
+
+abbrev pub looking : ℕ
+looking = 65534
+
+-- what is answered where nothing is left, or a number is not taken back
+abbrev pub refused : ℕ
+refused = 65535
+
+-- the bytes of all rows
+abbrev pub lookBytes : ℕ
+lookBytes = 4 * branchLimit
 
 -- two numbers of 16 bits
 abbrev pub pair : ℕ → ℕ → List ℕ
@@ -30,38 +46,37 @@ unfoldable pub rowsTo : List (List ℕ) → ℕ → List ℕ
 rowsTo rows zero = []
 rowsTo rows (suc n) = rowsTo rows n ++ pair (getD (getD rows n []) 0 0) (getD (getD rows n []) 1 0)
 
--- what a call answers, 65535 where it is refused, and the manager after it
+-- what a call answers, and the manager after it
 abbrev pub gotten : IntervalStoreManager → Got → Called
 gotten m (Index i after) = record { answer = i; manager = after }
-gotten m Empty = record { answer = 65535; manager = m }
+gotten m Empty = record { answer = refused; manager = m }
 
 abbrev pub taken : IntervalStoreManager → ℕ → Released → Called
 taken m i (Done after) = record { answer = i; manager = after }
-taken m i Full = record { answer = 65535; manager = m }
+taken m i Full = record { answer = refused; manager = m }
 
--- 65535 is a `get`, any other number is released
 unfoldable pub called : IntervalStoreManager → List (List ℕ) → ℕ → Called
-called m rows i = cond (eqb i 65535) (gotten m (gotOf m rows)) (taken m i (releasedOf m rows i))
+called m rows i = cond (eqb i getting) (gotten m (gotOf m rows)) (taken m i (releasedOf m rows i))
 
 unfoldable pub rowsCalled : IntervalStoreManager → List (List ℕ) → ℕ → List (List ℕ)
-rowsCalled m rows i = cond (eqb i 65535) (rowsGot m rows) (rowsReleased m rows i)
+rowsCalled m rows i = cond (eqb i getting) (rowsGot m rows) (rowsReleased m rows i)
 
--- one number more: at 65534 all rows are looked at, any other is a call. What is written, and the manager and the rows after it.
+-- one number more, a look or a call: what is written, and the manager and the rows after it
 unfoldable pub toldNext : IntervalStoreManager → List (List ℕ) → ℕ → List ℕ
-toldNext m rows i = cond (eqb i 65534) (rowsTo rows 255) (toldTop (called m rows i .answer) (called m rows i .manager) (rowsCalled m rows i))
+toldNext m rows i = cond (eqb i looking) (rowsTo rows branchLimit) (toldTop (called m rows i .answer) (called m rows i .manager) (rowsCalled m rows i))
 
 unfoldable pub managerNext : IntervalStoreManager → List (List ℕ) → ℕ → IntervalStoreManager
-managerNext m rows i = cond (eqb i 65534) m (called m rows i .manager)
+managerNext m rows i = cond (eqb i looking) m (called m rows i .manager)
 
 unfoldable pub rowsNext : IntervalStoreManager → List (List ℕ) → ℕ → List (List ℕ)
-rowsNext m rows i = cond (eqb i 65534) rows (rowsCalled m rows i)
+rowsNext m rows i = cond (eqb i looking) rows (rowsCalled m rows i)
 
 -- what a turn gives and leaves
 pub record Turned (m : IntervalStoreManager) (rows : List (List ℕ)) (i at : ℕ) (lent : List ℕ) (t : Reached) (rows′ : List (List ℕ)) (out : List ℕ) : Type 0 where
   pub manager-is : t .manager ≡ managerNext m rows i
   pub rows-are : rows′ ≡ rowsNext m rows i
   pub wrote : Wrote lent at (toldNext m rows i) (t .place) out
-  pub few : t .place ≤ at + 1020
+  pub few : t .place ≤ at + lookBytes
 
 -- where a sequence stands
 pub record Standing : Type 0 where

@@ -1,15 +1,16 @@
 // A recorded sequence of an interval manager: a size, then calls, each answered with how many rows are in use after it and the top one; at some places all
-// 255 rows are looked at.
+// rows are looked at.
 use intervalstoremanager::Got;
 use intervalstoremanager::IntervalStoreManager;
 use intervalstoremanager::Released;
+use limits::BRANCHES;
+use limits::Free;
 ghost use mathlib.Core.Path.{_≡_};
 ghost use Prim.Native.Nat.{_+_, _*_, _≤_, _<_};
 ghost use lib.ListN.{length};
+ghost use Rattle.limits.specs.Limits.{branchLimit};
 ghost use Rattle.lines.specs.Lines.{Wrote};
-ghost use Rattle.recorded.specs.Sequences.{toldTop, rowsTo, gotten, taken, called, rowsCalled, Turned, sequenceAnswer};
-
-type Rows = [[u16; 2]; IntervalStoreManager::INTERVALS];
+ghost use Rattle.recorded.specs.Sequences.{lookBytes, toldTop, rowsTo, gotten, taken, called, rowsCalled, Turned, sequenceAnswer};
 
 // What is given for a `get`, and for a look at all rows; any other number is released.
 const GET: u16 = 65535;
@@ -29,12 +30,6 @@ pub struct Called {
 pub struct Reached {
     pub manager: IntervalStoreManager,
     pub place: usize,
-}
-
-fn index(x: u16) -> usize
-    ensures { λ r. ⌜ r ≡ x ⌝ }
-{
-    x as usize
 }
 
 fn after_get(manager: IntervalStoreManager, got: Got) -> Called
@@ -68,7 +63,7 @@ fn after_release(manager: IntervalStoreManager, number: u16, released: Released)
     }
 }
 
-fn call(manager: IntervalStoreManager, number: u16, rows: &mut Rows) -> Called
+fn call(manager: IntervalStoreManager, number: u16, rows: &mut Free) -> Called
     ensures { λ r. ⌜ r ≡ called manager (now (rows .entry)) number ⌝ ∗ ⌜ now (rows .exit) ≡ rowsCalled manager (now (rows .entry)) number ⌝ }
 {
     if number == GET {
@@ -83,32 +78,32 @@ fn put_top(
     at: usize,
     answer: u16,
     manager: IntervalStoreManager,
-    rows: &Rows,
+    rows: &Free,
 ) -> usize
     requires { ⌜ at < 10000000000 ⌝ }
     ensures wrote { λ r. ⌜ Wrote (now (out .entry)) at (toldTop answer manager (now (rows .entry))) r (now (out .exit)) ⌝ }
     ensures next { λ r. ⌜ r ≡ at + 8 ⌝ }
 {
     let p = crate::words::put_pair(out, at, answer, manager.last_in_use);
-    let n = index(manager.last_in_use);
+    let n = casts::wide16(manager.last_in_use);
     if n == 0 {
         return crate::words::put_word(out, p, 0);
     }
-    if IntervalStoreManager::INTERVALS < n {
+    if BRANCHES < n {
         return crate::words::put_word(out, p, 0);
     }
     crate::words::put_pair(out, p, rows[n - 1][0], rows[n - 1][1])
 }
 
 // Writes all rows, those that are not in use too.
-fn put_rows(out: &mut [u8], at: usize, rows: &Rows) -> usize
+fn put_rows(out: &mut [u8], at: usize, rows: &Free) -> usize
     requires { ⌜ at < 10000000000 ⌝ }
-    ensures wrote { λ r. ⌜ Wrote (now (out .entry)) at (rowsTo (now (rows .entry)) 255) r (now (out .exit)) ⌝ }
-    ensures next { λ r. ⌜ r ≡ at + 1020 ⌝ }
+    ensures wrote { λ r. ⌜ Wrote (now (out .entry)) at (rowsTo (now (rows .entry)) branchLimit) r (now (out .exit)) ⌝ }
+    ensures next { λ r. ⌜ r ≡ at + lookBytes ⌝ }
 {
     let mut p = at;
     let mut k: usize = 0;
-    while k < IntervalStoreManager::INTERVALS {
+    while k < BRANCHES {
         p = crate::words::put_pair(out, p, rows[k][0], rows[k][1]);
         k += 1;
     }
@@ -121,7 +116,7 @@ fn turn(
     at: usize,
     number: u16,
     manager: IntervalStoreManager,
-    rows: &mut Rows,
+    rows: &mut Free,
 ) -> Reached
     requires { ⌜ at < 10000000000 ⌝ }
     ensures { λ r. ⌜ Turned manager (now (rows .entry)) number at (now (out .entry)) r (now (rows .exit)) (now (out .exit)) ⌝ }
@@ -149,7 +144,7 @@ pub fn answer_sequence(given: &[u8], out: &mut [u8]) -> usize
     if n == 0 {
         return 0;
     }
-    let mut rows = [[0u16; 2]; IntervalStoreManager::INTERVALS];
+    let mut rows = [[0u16; 2]; BRANCHES];
     let manager = IntervalStoreManager::new(little::u16_at(given, 0), &mut rows);
     let mut state = Reached {
         manager,

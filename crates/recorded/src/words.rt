@@ -1,9 +1,18 @@
 // Numbers of 32 and 64 bits written to a lent buffer. What lies beyond its end is counted and not stored.
 ghost use mathlib.Core.Path.{_≡_};
-ghost use Prim.Native.Nat.{_+_, _*_, _<_};
+ghost use mathlib.Core.Bool.{cond};
+ghost use Prim.Native.Nat.{_+_, _*_, _≤_, _<_};
 ghost use Rattle.lines.specs.Lines.{Wrote};
 ghost use Rattle.little.specs.Little.{bytes32};
 ghost use Rattle.recorded.specs.Words.{bytes64};
+
+// A test's answer as a number.
+// Rules out the answers swapped.
+pub fn bit(b: bool) -> usize
+    ensures { λ r. ⌜ (r ≡ cond b 1 0) × (r ≤ 1) ⌝ }
+{
+    if b { 1 } else { 0 }
+}
 
 // Writes the lowest 32 bits of a number, and gives the next place.
 // Rules out a byte of them left out, and a place that the next number overlaps.

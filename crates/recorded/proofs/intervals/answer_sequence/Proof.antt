@@ -3,7 +3,7 @@ use mathlib.Core.Path.{_∙_}
 use Prim.Native.Nat.{_-_}
 use Rattle.lines.proofs.Writes.{long}
 use native.Mathlib.Omega.{arith}
-use Rattle.recorded.proofs.Laws.{sequenced-none, sequenced-start, sequenced-all, Turns, no-turns, one-turn}
+use Rattle.recorded.proofs.Sequences.{sequenced-none, sequenced-start, sequenced-all, Turns, no-turns, one-turn}
 use borrow.Author.Needs.{needs}
 use Rattle.recorded.proofs.intervals.answer_sequence.Statement.{statement}
 use Rattle.recorded.proofs.intervals.answer_sequence.Tie as tie

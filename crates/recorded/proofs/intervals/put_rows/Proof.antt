@@ -1,7 +1,8 @@
 -- `put_rows` meets its contract: after k turns the first k rows stand. Assumes nothing.
 use Prim.Native.Nat.{_-_}
+use Rattle.limits.specs.Limits.{branchLimit}
 use Rattle.lines.proofs.Writes.{long}
-use Rattle.recorded.proofs.Laws.{Rowed, rowed-none, rowed-next, rowed-all}
+use Rattle.recorded.proofs.Rows.{Rowed, rowed-none, rowed-next, rowed-all}
 use borrow.Author.Needs.{needs}
 use Rattle.recorded.proofs.intervals.put_rows.Statement.{statement}
 use Rattle.recorded.proofs.intervals.put_rows.Tie as tie
@@ -10,7 +11,7 @@ abbrev Inv-loop : tie.InvT-loop
 Inv-loop out₀ at rows p₀ k₀ out p k = Rowed rows out₀ out at p k
 
 abbrev μ-loop : tie.MeasureT-loop
-μ-loop out₀ at rows p₀ k₀ out p k = 255 - k
+μ-loop out₀ at rows p₀ k₀ out p k = branchLimit - k
 
 loop-holds : tie.Need-loop-holds Inv-loop μ-loop
 loop-holds c = rowed-none _ _ _

@@ -1,6 +1,6 @@
 -- `put_top` meets its contract, by whether there is a top row. Assumes nothing.
 use native.Mathlib.Omega.{arith}
-use Rattle.recorded.proofs.Laws.{top-none, top-beyond, top-row}
+use Rattle.recorded.proofs.Rows.{top-none, top-beyond, top-row}
 use borrow.Author.Needs.{needs}
 use Rattle.recorded.proofs.intervals.put_top.Statement.{statement}
 use Rattle.recorded.proofs.intervals.put_top.Tie as tie
@@ -8,8 +8,8 @@ use Rattle.recorded.proofs.intervals.put_top.Tie as tie
 put-pair-requires : tie.Need-put-pair-requires
 put-pair-requires c κs = search needs
 
-index-requires : tie.Need-index-requires
-index-requires c κs = search needs
+wide16-requires : tie.Need-wide16-requires
+wide16-requires c κs = search needs
 
 put-word-requires : tie.Need-put-word-requires
 put-word-requires c κs = search needs
@@ -18,7 +18,7 @@ same-length : tie.Need-same-length
 same-length c = search needs
 
 returns : tie.Need-returns
-returns c = (top-none _ _ _ (c .before .before .before .before .before .index .ensures) (c .before .before .before .before .before .before .before .before .put-pair .ensures .0) (c .before .before .before .before .if1 .taken) (c .before .before .put-word .ensures .0), omega arith)
+returns c = (top-none _ _ _ (c .before .before .before .before .before .wide16 .ensures .0) (c .before .before .before .before .before .before .before .before .put-pair .ensures .0) (c .before .before .before .before .if1 .taken) (c .before .before .put-word .ensures .0), omega arith)
 
 put-word-requires-2 : tie.Need-put-word-requires-2
 put-word-requires-2 c κs = search needs
@@ -27,7 +27,7 @@ same-length-2 : tie.Need-same-length-2
 same-length-2 c = search needs
 
 returns-2 : tie.Need-returns-2
-returns-2 c = (top-beyond _ _ _ (c .before .before .before .before .before .before .index .ensures) (c .before .before .before .before .before .before .before .before .before .put-pair .ensures .0) (c .before .before .before .before .if2 .taken) (c .before .before .put-word2 .ensures .0), omega arith)
+returns-2 c = (top-beyond _ _ _ (c .before .before .before .before .before .before .wide16 .ensures .0) (c .before .before .before .before .before .before .before .before .before .put-pair .ensures .0) (c .before .before .before .before .if2 .taken) (c .before .before .put-word2 .ensures .0), omega arith)
 
 sub-put-pair : tie.Need-sub-put-pair
 sub-put-pair c = search needs
@@ -60,14 +60,14 @@ same-length-3 : tie.Need-same-length-3
 same-length-3 c = search needs
 
 returns-3 : tie.Need-returns-3
-returns-3 c = (top-row _ _ _ (c .before .before .before .before .before .before .before .before .index .ensures) (c .before .before .before .before .before .before .before .before .before .before .before .put-pair .ensures .0) (c .before .before .before .before .before .before .before .if1 .left) (c .before .before .before .before .before .before .if2 .left) (c .before .before .put-pair2 .ensures .0), omega arith)
+returns-3 c = (top-row _ _ _ (c .before .before .before .before .before .before .before .before .wide16 .ensures .0) (c .before .before .before .before .before .before .before .before .before .before .before .put-pair .ensures .0) (c .before .before .before .before .before .before .before .if1 .left) (c .before .before .before .before .before .before .if2 .left) (c .before .before .put-pair2 .ensures .0), omega arith)
 
 pub put-top-spec : {M : Type 1} → statement M
 put-top-spec =
     tie.close
     (tie.spec
     put-pair-requires
-    index-requires
+    wide16-requires
     put-word-requires
     same-length
     returns

@@ -1,5 +1,5 @@
 -- `turn` meets its contract, by whether the rows are looked at. Assumes nothing.
-use Rattle.recorded.proofs.Laws.{turn-look, turn-call}
+use Rattle.recorded.proofs.Sequences.{turn-look, turn-call}
 use borrow.Author.Needs.{needs}
 use Rattle.recorded.proofs.intervals.turn.Statement.{statement}
 use Rattle.recorded.proofs.intervals.turn.Tie as tie
