@@ -18,14 +18,14 @@ use Rattle.readings.specs.Coordinate.{isCoordinate}
 use Rattle.readings.proofs.Tests.{yes}
 use Rattle.readings.proofs.Ranks.{le-rank}
 use Rattle.boundingbox.specs.Ends.{channel}
-use Rattle.cut.specs.declared.Cut.{Cut}
 use Rattle.cut.specs.declared.Separation.{Separation}
-use Rattle.cut.specs.declared.Separation.the-variants.{Drawn}
 use Rattle.cut.specs.Draw.{separation}
 use Rattle.cut.specs.Laws.{Readings}
-use Rattle.little.specs.Little.{little32, little64}
+use Rattle.little.specs.Little.{little32, little64, bytes32}
 use Rattle.lines.specs.Lines.{Wrote}
-use Rattle.recorded.specs.Cuts.{rowBytes, givenBytes, rowAt, numbersOf, toldCut, isReading, areReadings, low, high, point, told, cutAnswer}
+use Rattle.lines.proofs.Writes.{then}
+use Rattle.recorded.specs.declared.cuts.Told.{Told}
+use Rattle.recorded.specs.Cuts.{rowBytes, givenBytes, rowAt, toldOf, toldCut, isReading, areReadings, low, high, point, told, cutAnswer}
 use Rattle.recorded.proofs.Stores.{nothing}
 
 -- A ROW, of which the first i channels are read
@@ -96,9 +96,9 @@ readings-tested lo hi p h =
     }
 
 -- A CUT TOLD
-pub told-drawn : {d : Separation} {k : Cut} {b : Bool} {n : ℕ} {l : List ℕ} {at r : ℕ} {m : List ℕ} → d ≡ Drawn k b → n ≡ cond b 1 0 → Wrote l at (numbersOf (1 + n) k) r m → Wrote l at (toldCut d) r m
+pub told-three : (d : Separation) {t : Told} → t ≡ toldOf d → {l : List ℕ} {at p q r : ℕ} {m n o : List ℕ} → Wrote l at (bytes32 (t .kind)) p m → Wrote m p (bytes32 (t .dimension)) q n → Wrote n q (bytes32 (t .bits)) r o → Wrote l at (toldCut d) r o
 unfolding toldCut
-told-drawn {d} {k} {b} {n} e f w = rw e (rw f at w)
+told-three d {t} e u v w = rw e at (then (then u v) w)
 
 -- THE ANSWER: none where too many or too few bytes are given, or no readings
 pub no-case : (given : List ℕ) → (length given ≡ givenBytes → ⊥) → {l : List ℕ} → Wrote l 0 (cutAnswer given) 0 l

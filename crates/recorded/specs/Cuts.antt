@@ -8,11 +8,11 @@ use lib.Ieee.{Float, binary32, ofBits, toBits, le}
 use Rattle.limits.specs.Limits.{width}
 use Rattle.readings.specs.Coordinate.{isCoordinate}
 use Rattle.boundingbox.specs.Ends.{channel}
-use Rattle.cut.specs.declared.Cut.{Cut}
 use Rattle.cut.specs.declared.Separation.{Separation}
 use Rattle.cut.specs.declared.Separation.the-variants.{NoCut, Drawn}
 use Rattle.cut.specs.Draw.{separation}
 use Rattle.little.specs.Little.{little32, little64, bytes32}
+use Rattle.recorded.specs.declared.cuts.Told.{Told}
 
 -- a row has an f32 for each channel; given are the lower ends of a box, its upper ends, a point and a word
 abbrev pub rowBytes : ℕ
@@ -35,14 +35,13 @@ unfoldable pub areReadings : List Float → List Float → List Float → ℕ �
 areReadings lo hi p zero = true
 areReadings lo hi p (suc n) = areReadings lo hi p n && isReading (channel lo n) (channel hi n) (channel p n)
 
--- a number, a cut's channel and its bits
-abbrev pub numbersOf : ℕ → Cut → List ℕ
-numbersOf n k = bytes32 n ++ bytes32 (k .dimension) ++ bytes32 (toBits binary32 (k .value))
-
 -- 1 for a cut that does not part, 2 for one that parts; for no cut all is 0
+abbrev pub toldOf : Separation → Told
+toldOf NoCut = record { kind = 0; dimension = 0; bits = 0 }
+toldOf (Drawn k parts) = record { kind = 1 + cond parts 1 0; dimension = k .dimension; bits = toBits binary32 (k .value) }
+
 unfoldable pub toldCut : Separation → List ℕ
-toldCut NoCut = numbersOf 0 (record { dimension = 0; value = ofBits binary32 0 })
-toldCut (Drawn k parts) = numbersOf (1 + cond parts 1 0) k
+toldCut drawn = bytes32 (toldOf drawn .kind) ++ bytes32 (toldOf drawn .dimension) ++ bytes32 (toldOf drawn .bits)
 
 -- the cut that is drawn of what is given, twice
 module _ (given : List ℕ) where

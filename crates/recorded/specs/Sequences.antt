@@ -1,20 +1,21 @@
 -- What is answered to a recorded sequence of an interval manager. Definitions.
 use mathlib.Core.Path.{_≡_}
 use mathlib.Core.Bool.{cond}
-use mathlib.Core.List.{List, [], _++_}
+use mathlib.Core.List.{List, [], _∷_, _++_}
 use Prim.Native.Nat.{ℕ, zero, suc, _+_, _-_, _*_, _/_, _≤_}
 use lib.Dec.{eqb}
 use lib.ListN.{length, getD}
 use Rattle.limits.specs.Limits.{branchLimit}
-use Rattle.little.specs.Little.{little16, bytes32}
+use Rattle.little.specs.Little.{little16}
 use Rattle.intervalstoremanager.specs.declared.IntervalStoreManager.{IntervalStoreManager}
 use Rattle.intervalstoremanager.specs.declared.Got.{Got}
 use Rattle.intervalstoremanager.specs.declared.Got.the-variants.{Index, Empty}
 use Rattle.intervalstoremanager.specs.declared.Released.{Released}
 use Rattle.intervalstoremanager.specs.declared.Released.the-variants.{Done, Full}
 use Rattle.intervalstoremanager.specs.Stack.{fresh}
-use Rattle.intervalstoremanager.specs.Rows.{layout, topped, start, end, gotOf, rowsGot, releasedOf, rowsReleased}
+use Rattle.intervalstoremanager.specs.Rows.{layout, topped, gotOf, rowsGot, releasedOf, rowsReleased}
 use Rattle.lines.specs.Lines.{Wrote}
+use Rattle.recorded.specs.Words.{pairBytes}
 use Rattle.recorded.specs.declared.intervals.Called.{Called}
 use Rattle.recorded.specs.declared.intervals.Reached.{Reached}
 
@@ -33,18 +34,18 @@ refused = 65535
 abbrev pub lookBytes : ℕ
 lookBytes = 4 * branchLimit
 
--- two numbers of 16 bits
-abbrev pub pair : ℕ → ℕ → List ℕ
-pair x y = bytes32 (x + 65536 * y)
+-- the top row, zeros where there is none
+unfoldable pub topOf : IntervalStoreManager → List (List ℕ) → List ℕ
+topOf m rows = cond (topped m) (getD rows (m .«last_in_use» - 1) []) (0 ∷ 0 ∷ [])
 
--- an answer, the rows in use after it, and the top one, zeros where there is none
-unfoldable pub toldTop : ℕ → IntervalStoreManager → List (List ℕ) → List ℕ
-toldTop answer m rows = pair answer (m .«last_in_use») ++ cond (topped m) (pair (start m rows) (end m rows)) (bytes32 0)
+-- an answer, the rows in use after it, and the top one
+abbrev pub toldTop : ℕ → IntervalStoreManager → List (List ℕ) → List ℕ
+toldTop answer m rows = pairBytes (answer ∷ m .«last_in_use» ∷ []) ++ pairBytes (topOf m rows)
 
 -- the first n rows
 unfoldable pub rowsTo : List (List ℕ) → ℕ → List ℕ
 rowsTo rows zero = []
-rowsTo rows (suc n) = rowsTo rows n ++ pair (getD (getD rows n []) 0 0) (getD (getD rows n []) 1 0)
+rowsTo rows (suc n) = rowsTo rows n ++ pairBytes (getD rows n [])
 
 -- what a call answers, and the manager after it
 abbrev pub gotten : IntervalStoreManager → Got → Called

@@ -12,7 +12,7 @@ ghost use Rattle.limits.specs.Limits.{width};
 ghost use Rattle.lines.specs.Lines.{Wrote};
 ghost use Rattle.cut.specs.Draw.{separation};
 ghost use Rattle.cut.specs.Laws.{Readings};
-ghost use Rattle.recorded.specs.Cuts.{rowBytes, rowAt, isReading, areReadings, numbersOf, toldCut, cutAnswer};
+ghost use Rattle.recorded.specs.Cuts.{rowBytes, rowAt, isReading, areReadings, toldOf, toldCut, cutAnswer};
 
 // The bytes of a row of f32, and where what is given lies: the lower ends of the box, its upper ends, the point and the word.
 const ROW: usize = 4 * CHANNELS;
@@ -26,6 +26,13 @@ const POINT: usize = 2 * ROW;
 const WORD: usize = 3 * ROW;
 
 const GIVEN: usize = WORD + 8;
+
+// What is told of a cut.
+pub struct Told {
+    pub kind: usize,
+    pub dimension: usize,
+    pub bits: usize,
+}
 
 // The floats of all channels, from byte `at` on.
 fn row_at(bytes: &[u8], at: usize) -> Row
@@ -65,34 +72,33 @@ fn are_readings(low: Row, high: Row, point: Row) -> bool
     all
 }
 
-fn put_numbers(out: &mut [u8], at: usize, kind: usize, cut: Cut) -> usize
-    requires { ⌜ at < 100000000000 ⌝ }
-    ensures wrote { λ r. ⌜ Wrote (now (out .entry)) at (numbersOf kind cut) r (now (out .exit)) ⌝ }
-    ensures next { λ r. ⌜ r ≡ at + 12 ⌝ }
+// Whether there is a cut and whether it parts, its channel and its bits.
+fn told_of(drawn: Separation) -> Told
+    ensures { λ r. ⌜ r ≡ toldOf drawn ⌝ }
 {
-    let p = crate::words::put_word(out, at, kind);
-    let q = crate::words::put_word(out, p, cut.dimension);
-    crate::words::put_word(out, q, casts::wide32(little::pattern_of(cut.value)))
+    match drawn {
+        Separation::NoCut => Told {
+            kind: 0,
+            dimension: 0,
+            bits: 0,
+        },
+        Separation::Drawn(cut, parts) => Told {
+            kind: 1 + crate::words::bit(parts),
+            dimension: cut.dimension,
+            bits: casts::wide32(little::pattern_of(cut.value)),
+        },
+    }
 }
 
-// Writes whether there is a cut and whether it parts, its channel and its bits.
 fn put_cut(out: &mut [u8], at: usize, drawn: Separation) -> usize
     requires { ⌜ at < 100000000000 ⌝ }
     ensures wrote { λ r. ⌜ Wrote (now (out .entry)) at (toldCut drawn) r (now (out .exit)) ⌝ }
     ensures next { λ r. ⌜ r ≡ at + 12 ⌝ }
 {
-    match drawn {
-        Separation::NoCut => put_numbers(
-            out,
-            at,
-            0,
-            Cut {
-                dimension: 0,
-                value: 0.0,
-            },
-        ),
-        Separation::Drawn(cut, parts) => put_numbers(out, at, 1 + crate::words::bit(parts), cut),
-    }
+    let told = told_of(drawn);
+    let p = crate::words::put_word(out, at, told.kind);
+    let q = crate::words::put_word(out, p, told.dimension);
+    crate::words::put_word(out, q, told.bits)
 }
 
 // The cut in the way that serves every float, and in the way that serves readings.

@@ -10,7 +10,7 @@ ghost use Prim.Native.Nat.{_+_, _*_, _≤_, _<_};
 ghost use lib.ListN.{length};
 ghost use Rattle.limits.specs.Limits.{branchLimit};
 ghost use Rattle.lines.specs.Lines.{Wrote};
-ghost use Rattle.recorded.specs.Sequences.{lookBytes, toldTop, rowsTo, gotten, taken, called, rowsCalled, Turned, sequenceAnswer};
+ghost use Rattle.recorded.specs.Sequences.{lookBytes, topOf, toldTop, rowsTo, gotten, taken, called, rowsCalled, Turned, sequenceAnswer};
 
 // What is given for a `get`, and for a look at all rows; any other number is released.
 const GET: u16 = 65535;
@@ -72,7 +72,21 @@ fn call(manager: IntervalStoreManager, number: u16, rows: &mut Free) -> Called
     after_release(manager, number, manager.release(rows, number))
 }
 
-// Writes the answer, the rows in use and the top one, or zeros where there is none.
+// The top row, zeros where there is none.
+fn top_of(manager: IntervalStoreManager, rows: &Free) -> [u16; 2]
+    ensures { λ r. ⌜ r ≡ topOf manager (now (rows .entry)) ⌝ }
+{
+    let n = casts::wide16(manager.last_in_use);
+    if n == 0 {
+        return [0, 0];
+    }
+    if BRANCHES < n {
+        return [0, 0];
+    }
+    rows[n - 1]
+}
+
+// Writes the answer, the rows in use and the top one.
 fn put_top(
     out: &mut [u8],
     at: usize,
@@ -84,15 +98,8 @@ fn put_top(
     ensures wrote { λ r. ⌜ Wrote (now (out .entry)) at (toldTop answer manager (now (rows .entry))) r (now (out .exit)) ⌝ }
     ensures next { λ r. ⌜ r ≡ at + 8 ⌝ }
 {
-    let p = crate::words::put_pair(out, at, answer, manager.last_in_use);
-    let n = casts::wide16(manager.last_in_use);
-    if n == 0 {
-        return crate::words::put_word(out, p, 0);
-    }
-    if BRANCHES < n {
-        return crate::words::put_word(out, p, 0);
-    }
-    crate::words::put_pair(out, p, rows[n - 1][0], rows[n - 1][1])
+    let p = crate::words::put_pair(out, at, [answer, manager.last_in_use]);
+    crate::words::put_pair(out, p, top_of(manager, rows))
 }
 
 // Writes all rows, those that are not in use too.
@@ -104,7 +111,7 @@ fn put_rows(out: &mut [u8], at: usize, rows: &Free) -> usize
     let mut p = at;
     let mut k: usize = 0;
     while k < BRANCHES {
-        p = crate::words::put_pair(out, p, rows[k][0], rows[k][1]);
+        p = crate::words::put_pair(out, p, rows[k]);
         k += 1;
     }
     p

@@ -19,20 +19,8 @@ loop-holds c = rowed-none _ _ _
 mul-put-pair : tie.Need-mul-put-pair Inv-loop μ-loop
 mul-put-pair c = search needs
 
-index-1-put-pair : tie.Need-index-1-put-pair Inv-loop μ-loop
-index-1-put-pair c = search needs
-
-index-2-put-pair : tie.Need-index-2-put-pair Inv-loop μ-loop
-index-2-put-pair c = search needs
-
-mul-put-pair-2 : tie.Need-mul-put-pair-2 Inv-loop μ-loop
-mul-put-pair-2 c = search needs
-
-index-1-put-pair-2 : tie.Need-index-1-put-pair-2 Inv-loop μ-loop
-index-1-put-pair-2 c = search needs
-
-index-2-put-pair-2 : tie.Need-index-2-put-pair-2 Inv-loop μ-loop
-index-2-put-pair-2 c = search needs
+element-copy-out-put-pair : tie.Need-element-copy-out-put-pair Inv-loop μ-loop
+element-copy-out-put-pair c = search needs
 
 put-pair-requires : tie.Need-put-pair-requires Inv-loop μ-loop
 put-pair-requires c κs = search needs
@@ -44,7 +32,7 @@ loop-less : tie.Need-loop-less Inv-loop μ-loop
 loop-less c = search needs
 
 loop-again : tie.Need-loop-again Inv-loop μ-loop
-loop-again c = rowed-next (c .before .before .before .before .before .before .before .loop .inv) (c .before .before .before .before .before .before .loop-test .taken) (c .before .before .put-pair .ensures .0) (c .before .before .put-pair .ensures .1)
+loop-again c = rowed-next (c .before .before .before .before .before .before .loop .inv) (c .before .before .before .before .before .loop-test .taken) (c .before .before .put-pair .ensures .0) (c .before .before .put-pair .ensures .1)
 
 same-length : tie.Need-same-length Inv-loop μ-loop
 same-length c = long (c .before .loop .inv .wrote)
@@ -60,11 +48,7 @@ put-rows-spec =
     μ-loop
     loop-holds
     mul-put-pair
-    index-1-put-pair
-    index-2-put-pair
-    mul-put-pair-2
-    index-1-put-pair-2
-    index-2-put-pair-2
+    element-copy-out-put-pair
     put-pair-requires
     add-k
     loop-less
