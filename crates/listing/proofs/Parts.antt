@@ -19,7 +19,8 @@ use Rattle.layout.specs.Slots.{field, rowOf}
 use Rattle.layout.specs.Stands.{Laid, Once}
 use Rattle.boxstore.specs.Boxed.{Linked}
 use Rattle.boxstore.proofs.Depths.{deep, depth, depth-few, deep-is}
-use Rattle.listing.specs.Listing.{rowLine, linesOf, Listed, SomeListed, PrintsNode}
+use Rattle.printed.specs.Printed.{linesOf}
+use Rattle.listing.specs.Listing.{rowLine, Listed, SomeListed, PrintsNode}
 
 -- a leaf's mass: of more copies than one, and of one at most
 pub mass-less : {k n : ℕ} → k ≡ n → 1 < k → k - 1 ≡ leafMass n

@@ -26,6 +26,7 @@ use Rattle.cuttree.proofs.Room.{at-leaf, index-below, index-once, intervals-few
 use Rattle.wholetree.specs.Reading.{Reading}
 use Rattle.wholetree.specs.Whole.{whole, tab}
 use Rattle.wholetree.proofs.Laws.{whole-laws}
+use Rattle.printed.specs.Printed.{linesOf, printedTree}
 use Rattle.layout.specs.Slots.{rowOf, cutOf, lowOf, highOf, countAt}
 use Rattle.layout.specs.Layout.{Table, noRow, rootOf, slotIn, countIn, boxIn, tableOf}
 use Rattle.layout.specs.Stands.{Once, InRange}
@@ -38,8 +39,8 @@ use Rattle.randomcuttree.proofs.Parts.{capacity-is, root-is}
 use Rattle.randomcuttree.proofs.Given.{sound, in-range, once, stored}
 use Rattle.randomcuttree.proofs.Calls.{no-tree, a-tree}
 use Rattle.randomcuttree.proofs.Standing.{states-stand}
-use Rattle.listing.specs.Listing.{linesOf, Listed, SomeListed, PrintsNode}
-use Rattle.listing.specs.Printed.{printedTree, SomeRead, PrintsTree}
+use Rattle.listing.specs.Listing.{Listed, SomeListed, PrintsNode}
+use Rattle.listing.specs.Printed.{SomeRead, PrintsTree}
 
 -- what holds of each leaf in a tree holds of all
 all-by : (d : ℕ) (P : ℕ → Reading → ℕ → Type 0) (t : Tree (whole d)) → ((i : ℕ) (q : Reading) (n : ℕ) → In (whole d) (leaf i q n) t → P i q n) → All (whole d) P t

@@ -1,12 +1,13 @@
--- The lines of a tree's nodes, and a tree that stands in the arrays that they are read from. Definitions.
+-- A tree that stands in the arrays that its printed lines are read from. Definitions.
 use mathlib.Core.Path.{_≡_}
-use mathlib.Core.List.{List, [], _++_}
+use mathlib.Core.List.{List, []}
 use Prim.Native.Nat.{ℕ, _+_, _<_}
 use lib.ListN.{length, getD}
 use lib.Ieee.{Float, nan, binary32, toBits}
-use Rattle.lines.specs.Lines.{branchLine, leafLine, Wrote}
-use Rattle.cuttree.specs.Tree.{Tree, leaf, branch, id, mass, All}
+use Rattle.lines.specs.Lines.{branchLine, Wrote}
+use Rattle.cuttree.specs.Tree.{Tree, id, All}
 use Rattle.wholetree.specs.Whole.{whole}
+use Rattle.printed.specs.Printed.{linesOf}
 use Rattle.layout.specs.Slots.{field, rowOf, cutOf}
 use Rattle.layout.specs.Stands.{Laid, Once, InRange}
 
@@ -15,12 +16,6 @@ abbrev pub rowLine : List (List ℕ) → List Float → ℕ → List ℕ
 rowLine nodes cuts b = branchLine b (field nodes b 3) (toBits binary32 (getD cuts b nan)) (field nodes b 0) (field nodes b 1) (field nodes b 2)
 
 module _ (d c : ℕ) where
-  -- 'id dimension cut left right mass' of each node, 'branch before left before right'
-  abbrev pub linesOf : Tree (whole d) → List ℕ
-  linesOf (leaf i q n) = leafLine (id (whole d) c (leaf i q n)) (mass (whole d) (leaf i q n))
-  linesOf (branch b k g l r) =
-      branchLine b (k .channel) (toBits binary32 (k .value .value)) (id (whole d) c l) (id (whole d) c r) (mass (whole d) (branch b k g l r)) ++ linesOf l ++ linesOf r
-
   -- the tree's rows, cuts and copies stand in the arrays
   pub record Listed (nodes : List (List ℕ)) (cuts : List Float) (copies : List ℕ) (t : Tree (whole d)) : Type 0 where
     pub rows : Laid d c (rowOf d c) (λ (j : ℕ). getD nodes j []) t

@@ -1,22 +1,15 @@
--- The printed tree of a world, and the arrays of a state that it is read from. Definitions.
+-- The arrays of a state that a world's printed tree is read from. Definitions.
 use mathlib.Core.Path.{_≡_}
-use mathlib.Core.Option.{Option, none, some}
-use mathlib.Core.List.{List, _++_}
+use mathlib.Core.List.{List}
 use Prim.Native.Nat.{ℕ}
 use lib.Ieee.{Float}
-use Rattle.lines.specs.Lines.{namesLine, Wrote}
-use Rattle.cuttree.specs.Tree.{Tree}
+use Rattle.lines.specs.Lines.{Wrote}
 use Rattle.cuttree.specs.Run.{World}
 use Rattle.wholetree.specs.Whole.{whole}
+use Rattle.printed.specs.Printed.{printedTree}
 use Rattle.randomcuttree.specs.declared.RCFTree.{RCFTree}
 use Rattle.treestore.specs.Arrays.{Lent}
 use Rattle.randomcuttree.specs.State.{State, SomeState}
-use Rattle.listing.specs.Listing.{linesOf}
-
--- 'a line of names, then lines of values', and 'An empty tree prints the names line alone.'
-abbrev pub printedTree : (d c : ℕ) → Option (Tree (whole d)) → List ℕ
-printedTree d c none = namesLine
-printedTree d c (some t) = namesLine ++ linesOf d c t
 
 -- the arrays that a printed tree is read from
 pub record Reads (a : Lent) (nodes : List (List ℕ)) (cuts : List Float) (copies : List ℕ) : Type 0 where

@@ -114,7 +114,7 @@ module _ {d c : ℕ} {s : Float} {W : World (whole d)} {tree : RCFTree} {a : Len
             found-in : FoundIn d c t p before f path
             found-in = Calls.found-in H T m P F
 
-            walking : Walking d c k t (W .free) p (headerOf d c s W .root) (headerOf d c s W .manager) a points path (f .nodes) (f .leaf) (getD points i [])
+            walking : Walking d c k t (W .free) p (headerOf d c s W .root) (headerOf d c s W .manager) a points path (f .walk) (f .leaf) (getD points i [])
             walking = Calls.walking H T m P F
 
             total-of : tree .total ≡ total (whole d) t
@@ -127,11 +127,11 @@ module _ {d c : ℕ} {s : Float} {W : World (whole d)} {tree : RCFTree} {a : Len
             total-low = omega (arith, light, total-of)
 
             -- ---- a copy more
-            pub some-copied : SomeReached (a .nodes) (a .copies) path (f .nodes) (f .leaf) (totalLimit - 1)
+            pub some-copied : SomeReached (a .nodes) (a .copies) path (f .walk) (f .leaf) (totalLimit - 1)
             some-copied = record { channels = d; capacity = c; cuts = a .cuts; tree = t; reading = p; reached = reached walking; room = light }
 
             pub copied : (ws : List ℕ) → f .held ≡ true → (header : RCFTree) (N : List (List ℕ)) (K : List ℕ) → header ≡ headed tree (tree .root) (tree .total + 1) (tree .manager)
-                → ((d c : ℕ) (cuts : List Float) (t : Tree (whole d)) (p : Reading) → Reached d c (a .nodes) cuts (a .copies) path (f .nodes) (f .leaf) t p → Arrays d c N cuts K (some (addCopy (whole d) p t)))
+                → ((d c : ℕ) (cuts : List Float) (t : Tree (whole d)) (p : Reading) → Reached d c (a .nodes) cuts (a .copies) path (f .walk) (f .leaf) t p → Arrays d c N cuts K (some (addCopy (whole d) p t)))
                 → Done ws (Added header (f .leaf) 0) (lent N (a .cuts) K (a .free) (a .boxes))
             copied ws g header N K e h =
                 let boxes = copy-boxes d c k t p (walking .once) in
@@ -153,15 +153,15 @@ module _ {d c : ℕ} {s : Float} {W : World (whole d)} {tree : RCFTree} {a : Len
               no-number ws e g h = not-done ws (refused full) (NotAdded 10) (entered ws (some t) T ∙ cond-false _ _ _ absent ∙ cond-true _ _ _ (full-as e true g h)) refl
 
               module _ (e : Bool) (empty : e ≡ eqb (tree .manager .«last_in_use») 0) (some-left : e ≡ false) (ws : List ℕ) where
-                pub too-few : length ws < f .nodes → Done ws (NotAdded 11) a
+                pub too-few : length ws < f .walk → Done ws (NotAdded 11) a
                 too-few g = not-done ws (refused fewWords) (NotAdded 11) (entered ws (some t) T ∙ cond-false _ _ _ absent ∙ cond-false _ _ _ (full-as e false empty some-left)
                     ∙ cond-true _ _ _ (lt-ltb (length ws) (walk (whole d) t p) (omega (arith, g, found-in .walked .count)))) refl
 
-                module _ (enough : f .nodes ≤ length ws) where
+                module _ (enough : f .walk ≤ length ws) where
                   not-full : leaves (whole d) t < c
                   not-full = leb-false c (leaves (whole d) t) (full-as e false empty some-left)
 
-                  entering : Entering d c k t (W .free) p (headerOf d c s W .root) (headerOf d c s W .manager) a points path (f .nodes) (f .leaf) i ws (getD points i [])
+                  entering : Entering d c k t (W .free) p (headerOf d c s W .root) (headerOf d c s W .manager) a points path (f .walk) (f .leaf) i ws (getD points i [])
                   entering =
                       let S = sound (H .reachable) T in
                       let fresh = next-free (whole d) c (whole-laws d) (W .table) t (W .free) S not-full in
@@ -178,14 +178,14 @@ module _ {d c : ℕ} {s : Float} {W : World (whole d)} {tree : RCFTree} {a : Len
                         enough = enough;
                       }
 
-                  pub some-entering : SomeEntering (tree .capacity) (tree .cached) (tree .root) (tree .manager) a points path (f .nodes) (f .leaf) i ws (getD points i [])
-                  some-entering = subst (λ (x : RCFTree). SomeEntering (x .capacity) (x .cached) (x .root) (x .manager) a points path (f .nodes) (f .leaf) i ws (getD points i [])) (sym (H .header-is))
+                  pub some-entering : SomeEntering (tree .capacity) (tree .cached) (tree .root) (tree .manager) a points path (f .walk) (f .leaf) i ws (getD points i [])
+                  some-entering = subst (λ (x : RCFTree). SomeEntering (x .capacity) (x .cached) (x .root) (x .manager) a points path (f .walk) (f .leaf) i ws (getD points i [])) (sym (H .header-is))
                       (record { channels = d; tree = t; free = W .free; reading = p; entering = entering })
 
-                  pub inserted : (r : Edited) (b : Lent) → Enters (tree .capacity) (tree .cached) (tree .root) (tree .manager) a points path (f .nodes) (f .leaf) i ws (getD points i []) r b
-                      → (header : RCFTree) → header ≡ headed tree (r .root) (tree .total + 1) (r .manager) → Done ws (Added header i (f .nodes)) b
+                  pub inserted : (r : Edited) (b : Lent) → Enters (tree .capacity) (tree .cached) (tree .root) (tree .manager) a points path (f .walk) (f .leaf) i ws (getD points i []) r b
+                      → (header : RCFTree) → header ≡ headed tree (r .root) (tree .total + 1) (r .manager) → Done ws (Added header i (f .walk)) b
                   inserted r b h header g =
-                      let left = subst (λ (x : RCFTree). Enters (x .capacity) (x .cached) (x .root) (x .manager) a points path (f .nodes) (f .leaf) i ws (getD points i []) r b) (H .header-is) h d t (W .free) p entering in
-                      done ws (added i (walk (whole d) t p)) _ _ r (tree .total + 1) header b (Added header i (f .nodes))
+                      let left = subst (λ (x : RCFTree). Enters (x .capacity) (x .cached) (x .root) (x .manager) a points path (f .walk) (f .leaf) i ws (getD points i []) r b) (H .header-is) h d t (W .free) p entering in
+                      done ws (added i (walk (whole d) t p)) _ _ r (tree .total + 1) header b (Added header i (f .walk))
                       (entered ws (some t) T ∙ cond-false _ _ _ absent ∙ cond-false _ _ _ (full-as e false empty some-left) ∙ cond-false _ _ _ (le-ltb (length ws) (walk (whole d) t p) (omega (arith, enough, found-in .walked .count))))
                       (ap (λ x. Added header i x) (found-in .walked .count)) g (omega (arith, total-of, total-insert (whole d) (next (W .free)) i p (λ m. getD ws m 0) t)) left

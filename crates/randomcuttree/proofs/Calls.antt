@@ -103,7 +103,7 @@ module _ {d c : ℕ} {s : Float} {W : World (whole d)} {tree : RCFTree} {a : Len
       pub found-in : FoundIn d c t p before f path
       found-in = subst (λ (x : RCFTree). Finds (x .capacity) (x .root) (a .nodes) (a .cuts) points i before f path) (H .header-is) F d t p sought
 
-      pub walking : Walking d c k t (W .free) p (headerOf d c s W .root) (headerOf d c s W .manager) a points path (f .nodes) (f .leaf) (getD points i [])
+      pub walking : Walking d c k t (W .free) p (headerOf d c s W .root) (headerOf d c s W .manager) a points path (f .walk) (f .leaf) (getD points i [])
       walking =
           let S = sound (H .reachable) T in
           record {

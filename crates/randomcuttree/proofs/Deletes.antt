@@ -76,7 +76,7 @@ module _ {d c : ℕ} {s : Float} {W : World (whole d)} {tree : RCFTree} {a : Len
           found-in : FoundIn d c t p before f path
           found-in = Calls.found-in H T l P F
 
-          walking : Walking d c (cachedBy s c) t (W .free) p (headerOf d c s W .root) (headerOf d c s W .manager) a points path (f .nodes) (f .leaf) (getD points i [])
+          walking : Walking d c (cachedBy s c) t (W .free) p (headerOf d c s W .root) (headerOf d c s W .manager) a points path (f .walk) (f .leaf) (getD points i [])
           walking = Calls.walking H T l P F
 
           fewer : tree .total ≡ totalOf (whole d) (forget (whole d) p t) + 1
@@ -89,13 +89,13 @@ module _ {d c : ℕ} {s : Float} {W : World (whole d)} {tree : RCFTree} {a : Len
           not-held g = refusing (refused notHeld) _ (leaving (some t) T ∙ cond-true _ _ _ (ap not (sym (found-in .held-is) ∙ g))) refl
 
           module _ (g : f .held ≡ true) where
-            pub held : SomeHeld (tree .dimensions) (tree .capacity) (tree .cached) (tree .root) (tree .manager) a points path (f .nodes) (f .leaf) (getD points i [])
-            held = subst (λ (x : RCFTree). SomeHeld (x .dimensions) (x .capacity) (x .cached) (x .root) (x .manager) a points path (f .nodes) (f .leaf) (getD points i [])) (sym (H .header-is))
+            pub held : SomeHeld (tree .dimensions) (tree .capacity) (tree .cached) (tree .root) (tree .manager) a points path (f .walk) (f .leaf) (getD points i [])
+            held = subst (λ (x : RCFTree). SomeHeld (x .dimensions) (x .capacity) (x .cached) (x .root) (x .manager) a points path (f .walk) (f .leaf) (getD points i [])) (sym (H .header-is))
                 (record { tree = t; free = W .free; reading = p; walking = walking; held = sym (found-in .held-is) ∙ g })
 
-            pub one-less : (e : Edited) (b : Lent) → Forgets (tree .dimensions) (tree .capacity) (tree .cached) (tree .root) (tree .manager) a points path (f .nodes) (f .leaf) (getD points i []) e b
+            pub one-less : (e : Edited) (b : Lent) → Forgets (tree .dimensions) (tree .capacity) (tree .cached) (tree .root) (tree .manager) a points path (f .walk) (f .leaf) (getD points i []) e b
                 → (header : RCFTree) → header ≡ headed tree (e .root) (tree .total - 1) (e .manager) → Done (Deleted header (f .leaf)) b
             one-less e b G header h =
-                let left = subst (λ (x : RCFTree). Forgets (x .dimensions) (x .capacity) (x .cached) (x .root) (x .manager) a points path (f .nodes) (f .leaf) (getD points i []) e b) (H .header-is) G t (W .free) p walking (sym (found-in .held-is) ∙ g) in
+                let left = subst (λ (x : RCFTree). Forgets (x .dimensions) (x .capacity) (x .cached) (x .root) (x .manager) a points path (f .walk) (f .leaf) (getD points i []) e b) (H .header-is) G t (W .free) p walking (sym (found-in .held-is) ∙ g) in
                 Calls.changed H (deleteSays d) (call (whole d) c W (delete i)) (deleted (ending (whole d) t p .index)) _ e (tree .total - 1) header b (Deleted header (f .leaf))
                 (leaving (some t) T ∙ cond-false _ _ _ (ap not (sym (found-in .held-is) ∙ g))) (ap (Deleted header) (found-in .leaf-is)) h (omega (arith, fewer)) left refl (reachable-call d c W (delete i) (H .reachable))

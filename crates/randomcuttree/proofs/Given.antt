@@ -93,10 +93,10 @@ module _ {d c : ℕ} {s : Float} {W : World (whole d)} {tree : RCFTree} {a : Len
   boxes-of : a .boxes ≡ tab branchLimit (boxIn d c k (some t))
   boxes-of = boxes-are H ∙ ap (λ (o : Option (Tree (whole d))). tab branchLimit (boxIn d c k o)) T
 
-  rows-laid : Laid d c (rowOf d c) (λ (j : ℕ). getD (a .nodes) j []) t
+  pub rows-laid : Laid d c (rowOf d c) (λ (j : ℕ). getD (a .nodes) j []) t
   rows-laid = tab-laid d c (rowOf d c) noRow [] (a .nodes) t (H .limits .3) rows-are (once R T) (in-range R T)
 
-  values-laid : Laid d c (cutOf d c) (λ (j : ℕ). getD (a .cuts) j nan) t
+  pub values-laid : Laid d c (cutOf d c) (λ (j : ℕ). getD (a .cuts) j nan) t
   values-laid = tab-laid d c (cutOf d c) nought nan (a .cuts) t (H .limits .3) values-are (once R T) (in-range R T)
 
   pub stored : Stored d c (a .nodes) (a .cuts) (a .copies) t

@@ -307,7 +307,7 @@ impl RCFTree {
             index,
             &mut path,
         );
-        let n = found.nodes;
+        let n = found.walk;
         let leaf = found.leaf;
         if found.held {
             nodestore::add_copy(nodes, copies, &path, n, leaf);
@@ -378,7 +378,7 @@ impl RCFTree {
             index,
             &mut path,
         );
-        let n = found.nodes;
+        let n = found.walk;
         let leaf = found.leaf;
         if !found.held {
             return DeleteAnswer::NotDeleted(13);

@@ -2,19 +2,27 @@
 use mathlib.Core.List.{List, [], _∷_}
 use mathlib.Core.Bool.{Bool, true, false, _&&_}
 use Prim.Native.Nat.{ℕ}
+use Prim.Native.String.{String}
 use lib.Dec.{eqb}
 use lib.ListN.{length}
-use lib.Ieee.{binary32, binary64, ofBits, toBits, round, add, sub, mul, lt, le, eq}
+use lib.Ieee.{Float, binary32, binary64, ofBits, toBits, fits, round, add, sub, mul, lt, le, eq}
+use Rattle.readings.specs.Coordinate.{isCoordinate}
+use Rattle.readings.specs.Number.{isNumber, asNumber, zero, number}
 use Rattle.readings.specs.Word.{factorOf}
 use Rattle.readings.specs.Narrow.{narrowed}
+use Rattle.text.specs.Quoted.{bytes}
+use Rattle.lines.specs.Lines.{digit, decimalIn, decimal, hex, branchLine, leafLine}
 use Rattle.boundingbox.specs.Ends.{least, greatest}
 use Rattle.boundingbox.specs.Sides.{gapOf, total}
+use Rattle.boundingbox.specs.Contained.{every}
 use Rattle.cut.specs.declared.Separation.{Separation}
 use Rattle.cut.specs.declared.Separation.the-variants.{NoCut, Drawn}
-use Rattle.cuttree.specs.Run.{Call}
-use Rattle.wholetree.specs.Whole.{whole}
-use Rattle.wholetree.specs.Listed.{floats, listed}
 use Rattle.cut.specs.Draw.{outsideOf, outsideSum, sideOf, rangeOf, reaches, leftOf, sideFrom, moved, placed, parts, drawnAt, separation}
+use Rattle.intervalstoremanager.specs.Stack as Stack
+use Rattle.cuttree.specs.Run.{Answer, refused, written, added, deleted, copiesAre, branchIs, boxIs, Call, add as addCall, call, fresh, worldAfter}
+use Rattle.wholetree.specs.Reading.{isCoordinate32, isRow, coordinate, sameRow, padded, origin, asReading, reading}
+use Rattle.wholetree.specs.Whole.{tab, whole}
+use Rattle.printed.specs.Printed.{printedTree}
 
 -- Floats are given by their bits: words and f64s 16 hexadecimal digits, f32s 8.
 pub data Case : Type 0 where
@@ -22,18 +30,40 @@ pub data Case : Type 0 where
   cuts : List ℕ → List ℕ → ℕ → ℕ → ℕ → Case
   -- an f64, and the f32 it narrows to
   narrows : ℕ → ℕ → Case
-  -- channels, capacity, calls, then an add's index and words: the index and the words taken that it answers, and the tree printed after it
-  lists : (d c : ℕ) → List (Call (whole d)) → ℕ → List ℕ → ℕ → ℕ → List (List ℕ) → Case
+  -- channels, capacity, calls, then an add's index and words: the index and the words taken that it answers, and what the tree prints after it
+  lists : (d c : ℕ) → List (Call (whole d)) → ℕ → List ℕ → ℕ → ℕ → String → Case
+
+-- f32s by their bits
+abbrev pub floats : List ℕ → List Float
+floats [] = []
+floats (b ∷ bs) = ofBits binary32 b ∷ floats bs
 
 abbrev draws : Separation → ℕ → ℕ → Bool
 draws NoCut d v = false
 draws (Drawn k p) d v = eqb (k .dimension) d && eqb (toBits binary32 (k .value)) v && p
 
+abbrev isAdded : (d : ℕ) → Answer (whole d) → ℕ → ℕ → Bool
+isAdded d (refused e) j m = false
+isAdded d written j m = false
+isAdded d (added i n) j m = eqb i j && eqb n m
+isAdded d (deleted i) j m = false
+isAdded d (copiesAre n) j m = false
+isAdded d (branchIs r) j m = false
+isAdded d (boxIs b) j m = false
+
+abbrev alike : List ℕ → List ℕ → Bool
+alike [] [] = true
+alike [] (y ∷ ys) = false
+alike (x ∷ xs) [] = false
+alike (x ∷ xs) (y ∷ ys) = eqb x y && alike xs ys
+
 unfoldable pub holds : Case → Bool
-unfolding listed ofBits toBits round add sub mul lt le eq factorOf narrowed least greatest gapOf total outsideOf outsideSum sideOf rangeOf reaches leftOf sideFrom moved placed parts drawnAt separation
+unfolding Stack.fresh Stack.next Stack.afterGet Stack.afterRelease ofBits toBits fits round add sub mul lt le eq isCoordinate factorOf narrowed least greatest gapOf total every outsideOf outsideSum sideOf rangeOf reaches leftOf sideFrom moved placed parts drawnAt separation isNumber asNumber zero number isCoordinate32 isRow coordinate sameRow padded origin asReading reading tab digit decimalIn decimal hex branchLine leafLine
 holds (cuts q p w d v) = draws (separation (length q) (floats q) (floats q) (floats p) w) d v
 holds (narrows x y) = eqb (toBits binary32 (narrowed (ofBits binary64 x))) y
-holds (lists d c xs i ws j n rows) = listed d c xs i ws j n rows
+holds (lists d c xs i ws j n text) =
+    let r = call (whole d) c (worldAfter (whole d) c (fresh (whole d) c) xs) (addCall i ws) in
+    isAdded d (r .0) j n && alike (printedTree d c (r .1 .tree)) (bytes text)
 
 unfoldable pub all : List Case → Bool
 unfolding holds

@@ -2,9 +2,8 @@
 use mathlib.Core.Path.{_≡_, refl}
 use mathlib.Core.Bool.{true}
 use mathlib.Core.List.{List, [], _∷_}
-use Rattle.starred.specs.Cases.{Case, cuts, narrows, lists, all}
+use Rattle.starred.specs.Cases.{Case, cuts, narrows, lists, floats, all}
 use Rattle.cuttree.specs.Run.{put, add}
-use Rattle.wholetree.specs.Listed.{floats}
 
 -- f32 bits: 0 is 00000000, 2 is 40000000, 4 is 40800000, 6 is 40C00000, 8 is 41000000
 pub table : List Case
@@ -23,7 +22,7 @@ table =
     ∷ lists 1 4
     (put 0 (floats (0 ∷ [])) ∷ put 1 (floats (0x4100_0000 ∷ [])) ∷ put 2 (floats (0x4000_0000 ∷ [])) ∷ add 0 [] ∷ add 1 (0x8000_0000_0000_0000 ∷ []) ∷ [])
     2 (0x8000_0000_0000_0000 ∷ 0x8000_0000_0000_0000 ∷ []) 2 2
-    ((0 ∷ 0 ∷ 0x4080_0000 ∷ 1 ∷ 5 ∷ 3 ∷ []) ∷ (1 ∷ 0 ∷ 0x3f80_0000 ∷ 4 ∷ 6 ∷ 2 ∷ []) ∷ (4 ∷ 1 ∷ []) ∷ (6 ∷ 1 ∷ []) ∷ (5 ∷ 1 ∷ []) ∷ [])
+    "id dimension cut left right mass\n0 0 40800000 1 5 3\n1 0 3F800000 4 6 2\n4 - - - - 1\n6 - - - - 1\n5 - - - - 1\n"
     ∷ []
 
 pub starred : all table ≡ true

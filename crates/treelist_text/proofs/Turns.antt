@@ -20,7 +20,7 @@ use Rattle.form.specs.Rows.{Op, rowOf}
 use Rattle.form.proofs.Read.{NextRow, next-row, no-row}
 use Rattle.lines.specs.Lines.{refusedLine, Wrote}
 use Rattle.lines.proofs.Writes.{then}
-use Rattle.listing.specs.Printed.{printedTree}
+use Rattle.printed.specs.Printed.{printedTree}
 use Rattle.rowcalls.specs.Ops.{callOf, SomeOp}
 use Rattle.treelist_text.specs.Output.{toldRow, outputFrom}
 use Rattle.treelist_text.specs.Running.{Standing}

@@ -11,7 +11,7 @@ use Rattle.randomcuttree.specs.Making.{madeBy}
 use Rattle.form.specs.Rows.{Op}
 use Rattle.form.specs.Form.{Parsed, bad, read, parsed}
 use Rattle.lines.specs.Lines.{refusedLine}
-use Rattle.listing.specs.Printed.{printedTree}
+use Rattle.printed.specs.Printed.{printedTree}
 use Rattle.rowcalls.specs.Ops.{callOf}
 
 -- 'A refused row prints `refused N R` before the list, R being the op row from 1'

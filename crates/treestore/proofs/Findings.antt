@@ -35,5 +35,5 @@ module _ {d c root : ℕ} {nodes : List (List ℕ)} {cuts : List Float} {points 
           let x : getD points leaf [] ≡ ending (whole d) t p .value .row = ap (λ j. getD points j []) leaf-is ∙ all-ending (whole d) (λ j q n. getD points j [] ≡ q .row) p t (S .leaves) in
           rw (x, S .walks .point-is) refl
 
-      pub found-in : (before : List (List ℕ)) (held : Bool) → held ≡ sameRow (getD points leaf []) (getD points index []) → drop n path ≡ drop n before → FoundIn d c t p before (record { nodes = n; leaf = leaf; held = held }) path
+      pub found-in : (before : List (List ℕ)) (held : Bool) → held ≡ sameRow (getD points leaf []) (getD points index []) → drop n path ≡ drop n before → FoundIn d c t p before (record { walk = n; leaf = leaf; held = held }) path
       found-in before held e f = record { walked = w d t p (S .walks); leaf-is = leaf-is; held-is = e ∙ same-is; rest = f }

@@ -26,10 +26,10 @@ pub record SomeSought (c root : ℕ) (nodes : List (List ℕ)) (cuts : List Floa
 
 -- the walk of p in t, the leaf that it ends in, and whether that is p's; beyond the walk the path is as it was
 pub record FoundIn (d c : ℕ) (t : Tree (whole d)) (p : Reading) (before : List (List ℕ)) (r : Found) (path : List (List ℕ)) : Type 0 where
-  pub walked : Walked d c path (r .nodes) t p
+  pub walked : Walked d c path (r .walk) t p
   pub leaf-is : r .leaf ≡ ending (whole d) t p .index
   pub held-is : r .held ≡ found (whole d) t p
-  pub rest : drop (r .nodes) path ≡ drop (r .nodes) before
+  pub rest : drop (r .walk) path ≡ drop (r .walk) before
 
 -- Finding, whichever tree it is.
 abbrev pub Finds : (c root : ℕ) → List (List ℕ) → List Float → List (List Float) → ℕ → List (List ℕ) → Found → List (List ℕ) → Type 0

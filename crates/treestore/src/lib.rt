@@ -29,9 +29,9 @@ pub struct Edited {
     pub manager: IntervalStoreManager,
 }
 
-// A reading's walk: its nodes, the point index of the leaf that it ends in, and whether that leaf has the reading's value.
+// A reading's walk: how many nodes it has, the point index of the leaf that it ends in, and whether that leaf has the reading's value.
 pub struct Found {
-    pub nodes: usize,
+    pub walk: usize,
     pub leaf: usize,
     pub held: bool,
 }
@@ -54,7 +54,7 @@ pub fn find(
     let leaf = walk::leaf_at(path, n, capacity);
     let held = walk::same_point(&points[leaf], &points[index]);
     Found {
-        nodes: n,
+        walk: n,
         leaf,
         held,
     }

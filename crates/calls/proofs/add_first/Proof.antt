@@ -7,7 +7,7 @@ use Rattle.calls.proofs.add_first.Statement.{statement}
 use Rattle.calls.proofs.add_first.Tie as tie
 
 slice-aggregate-add : tie.Need-slice-aggregate-add
-slice-aggregate-add c = let s = c .before .before .before .before .before .before .before .before in sym (length-take-le (s .args .n) (s .args .words .now) (omega arith))
+slice-aggregate-add c = let s = c .before .before .before .before .before .before .before in sym (length-take-le (s .args .n) (s .args .words .now) (omega arith))
 
 add-requires : tie.Need-add-requires
 add-requires c κs = search needs

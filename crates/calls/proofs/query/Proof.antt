@@ -29,7 +29,7 @@ tell-box-requires : tie.Need-tell-box-requires
 tell-box-requires c κs = search needs
 
 returns-3 : tie.Need-returns-3
-returns-3 c = λ a marks g e f. box-does _ _ _ _ (c .before .before .before .before .if1 .left) (c .before .before .before .if2 .left) _ _ _ _ _ (c .before .before .box-of .ensures) (c .tell-box .ensures) a marks g
+returns-3 c = λ a marks g e f. box-does _ _ _ _ (c .before .before .before .before .if1 .left) (c .before .before .before .if2 .left) _ _ _ _ (c .before .before .box-of .ensures) (c .tell-box .ensures) a marks g
 
 pub query-spec : {M : Type 1} → statement M
 query-spec =

@@ -42,13 +42,13 @@ returns c =
 
 returns-2 : tie.Need-returns-2
 returns-2 c =
-    let s = c .before .before .before .before .before .before .before .before .before .before .before .before .before .before .before .before .before .before in
-    λ o e. does-op _ _ _ _ _ _ _ _ _ _ _ (is-add (s .args .row .now) _ (c .before .before .before .before .before .before .before .before .before .before .before .before .before .before .before .before .read-row .ensures) o e _ _ (c .before .before .before .before .before .before .before .before .before .before .before .before .before .before .index2 .given .1)) (c .add .ensures _ (c .before .before .before .before .before .before .before .before .before .before .before .first-words .ensures .0))
+    let s = c .before .before .before .before .before .before .before .before .before .before .before .before .before .before .before .before .before in
+    λ o e. does-op _ _ _ _ _ _ _ _ _ _ _ (is-add (s .args .row .now) _ (c .before .before .before .before .before .before .before .before .before .before .before .before .before .before .before .read-row .ensures) o e _ _ (c .before .before .before .before .before .before .before .before .before .before .before .before .before .index2 .given .1)) (c .add .ensures _ (c .before .before .before .before .before .before .before .before .before .before .first-words .ensures .0))
 
 returns-3 : tie.Need-returns-3
 returns-3 c =
-    let s = c .before .before .before .before .before .before .before .before .before .before .before .before .before .before .before in
-    λ o e. does-op _ _ _ _ _ _ _ _ _ _ _ (is-delete (s .args .row .now) _ (c .before .before .before .before .before .before .before .before .before .before .before .before .before .read-row .ensures) o e _ (c .before .before .before .before .before .before .before .before .before .before .before .index3 .given .1)) (c .delete .ensures)
+    let s = c .before .before .before .before .before .before .before .before .before .before .before .before .before .before in
+    λ o e. does-op _ _ _ _ _ _ _ _ _ _ _ (is-delete (s .args .row .now) _ (c .before .before .before .before .before .before .before .before .before .before .before .before .read-row .ensures) o e _ (c .before .before .before .before .before .before .before .before .before .before .index3 .given .1)) (c .delete .ensures)
 
 returns-4 : tie.Need-returns-4
 returns-4 c =

@@ -34,79 +34,79 @@ loop-holds c =
 
 call-at-requires : tie.Need-call-at-requires Inv-loop μ-loop
 call-at-requires c κs =
-    let s = c .before .before .before .before .before .before .before .before .before .before .before .before .before .before .before in
-    let l = c .before .before .before .before .before .before .before .before .before .before .before .loop in
+    let s = c .before .before .before .before .before .before .before .before .before .before .before .before .before .before in
+    let l = c .before .before .before .before .before .before .before .before .before .before .loop in
     let R = l .inv .2 _ _ (s .pre .1 .running) in
-    let h = below _ _ _ (c .before .before .before .before .before .before .before .before .before .before .loop-test .taken) (c .before .before .before .before .before .before .before .before .before .before .before .before .size-of .ensures) in
+    let h = below _ _ _ (c .before .before .before .before .before .before .before .before .before .loop-test .taken) (c .before .before .before .before .before .before .before .before .before .before .before .size-of .ensures) in
     (stands _ _ _ _ _ _ _ _ _ _ R h, some-state _ _ _ _ _ _ _ _ _ _ R h)
 
 number-at-requires : tie.Need-number-at-requires Inv-loop μ-loop
 number-at-requires c κs =
-    below _ _ _ (c .before .before .before .before .before .before .before .before .before .before .before .loop-test .taken) (c .before .before .before .before .before .before .before .before .before .before .before .before .before .size-of .ensures)
+    below _ _ _ (c .before .before .before .before .before .before .before .before .before .before .loop-test .taken) (c .before .before .before .before .before .before .before .before .before .before .before .before .size-of .ensures)
 
 answer-width-requires : tie.Need-answer-width-requires Inv-loop μ-loop
 answer-width-requires c κs =
-    let s = c .before .before .before .before .before .before .before .before .before .before .before .before .before .before .before .before .before in
-    let l = c .before .before .before .before .before .before .before .before .before .before .before .before .before .loop in
+    let s = c .before .before .before .before .before .before .before .before .before .before .before .before .before .before .before .before in
+    let l = c .before .before .before .before .before .before .before .before .before .before .before .before .loop in
     let R = l .inv .2 _ _ (s .pre .1 .running) in
-    let h = below _ _ _ (c .before .before .before .before .before .before .before .before .before .before .before .before .loop-test .taken) (c .before .before .before .before .before .before .before .before .before .before .before .before .before .before .size-of .ensures) in
+    let h = below _ _ _ (c .before .before .before .before .before .before .before .before .before .before .before .loop-test .taken) (c .before .before .before .before .before .before .before .before .before .before .before .before .before .size-of .ensures) in
     omega (arith, few-channels _ _ _ _ _ _ _ _ _ _ R h _ _ _ _ _ (c .before .call-at .ensures))
 
 slice-aggregate-write-reply : tie.Need-slice-aggregate-write-reply Inv-loop μ-loop
 slice-aggregate-write-reply c =
-    let s = c .before .before .before .before .before .before .before .before .before .before .before .before .before .before .before .before .before .before .before .before in
-    let l = c .before .before .before .before .before .before .before .before .before .before .before .before .before .before .before .before .loop in
+    let s = c .before .before .before .before .before .before .before .before .before .before .before .before .before .before .before .before .before .before .before in
+    let l = c .before .before .before .before .before .before .before .before .before .before .before .before .before .before .before .loop in
     let R = l .inv .2 _ _ (s .pre .1 .running) in
-    let h = below _ _ _ (c .before .before .before .before .before .before .before .before .before .before .before .before .before .before .before .loop-test .taken) (c .before .before .before .before .before .before .before .before .before .before .before .before .before .before .before .before .before .size-of .ensures) in
+    let h = below _ _ _ (c .before .before .before .before .before .before .before .before .before .before .before .before .before .before .loop-test .taken) (c .before .before .before .before .before .before .before .before .before .before .before .before .before .before .before .before .size-of .ensures) in
     reply-length _ _ _ _ _ _ _ _ _ _ R h _ _ _ _ _ (c .before .before .before .before .call-at .ensures)
 
 write-reply-requires : tie.Need-write-reply-requires Inv-loop μ-loop
 write-reply-requires c κs =
-    let s = c .before .before .before .before .before .before .before .before .before .before .before .before .before .before .before .before .before .before .before .before in
-    let l = c .before .before .before .before .before .before .before .before .before .before .before .before .before .before .before .before .loop in
+    let s = c .before .before .before .before .before .before .before .before .before .before .before .before .before .before .before .before .before .before .before in
+    let l = c .before .before .before .before .before .before .before .before .before .before .before .before .before .before .before .loop in
     let R = l .inv .2 _ _ (s .pre .1 .running) in
-    let h = below _ _ _ (c .before .before .before .before .before .before .before .before .before .before .before .before .before .before .before .loop-test .taken) (c .before .before .before .before .before .before .before .before .before .before .before .before .before .before .before .before .before .size-of .ensures) in
+    let h = below _ _ _ (c .before .before .before .before .before .before .before .before .before .before .before .before .before .before .loop-test .taken) (c .before .before .before .before .before .before .before .before .before .before .before .before .before .before .before .before .size-of .ensures) in
     let f = fits _ _ _ _ _ _ _ _ _ _ R h _ _ _ _ _ (c .before .before .before .before .call-at .ensures) _ (of-kind _ _ _ _ (c .before .before .answer-width .ensures .0) (c .before .before .before .number-at .ensures .0)) in
     (omega (arith, f .0, reply-length _ _ _ _ _ _ _ _ _ _ R h _ _ _ _ _ (c .before .before .before .before .call-at .ensures)), f .1)
 
 add-out : tie.Need-add-out Inv-loop μ-loop
 add-out c =
-    let s = c .before .before .before .before .before .before .before .before .before .before .before .before .before .before .before .before .before .before .before .before .before .before .before in
-    let l = c .before .before .before .before .before .before .before .before .before .before .before .before .before .before .before .before .before .before .before .loop in
+    let s = c .before .before .before .before .before .before .before .before .before .before .before .before .before .before .before .before .before .before .before .before .before .before in
+    let l = c .before .before .before .before .before .before .before .before .before .before .before .before .before .before .before .before .before .before .loop in
     let R = l .inv .2 _ _ (s .pre .1 .running) in
-    let h = below _ _ _ (c .before .before .before .before .before .before .before .before .before .before .before .before .before .before .before .before .before .before .loop-test .taken) (c .before .before .before .before .before .before .before .before .before .before .before .before .before .before .before .before .before .before .before .before .size-of .ensures) in
+    let h = below _ _ _ (c .before .before .before .before .before .before .before .before .before .before .before .before .before .before .before .before .before .loop-test .taken) (c .before .before .before .before .before .before .before .before .before .before .before .before .before .before .before .before .before .before .before .size-of .ensures) in
     let f = fits _ _ _ _ _ _ _ _ _ _ R h _ _ _ _ _ (c .before .before .before .before .before .before .before .call-at .ensures) _ (of-kind _ _ _ _ (c .before .before .before .before .before .answer-width .ensures .0) (c .before .before .before .before .before .before .number-at .ensures .0)) in
-    omega (arith, f .1, l .inv .1, s .good .1 .1 .1 .1 .1 .1 .1 .1 .1 .1 .0)
+    omega (arith, f .1, l .inv .1, s .good .1 .1 .1 .1 .1 .1 .1 .1 .1 .0)
 
 width-at-requires : tie.Need-width-at-requires Inv-loop μ-loop
 width-at-requires c κs =
-    let s = c .before .before .before .before .before .before .before .before .before .before .before .before .before .before .before .before .before .before .before .before .before .before .before in
-    let l = c .before .before .before .before .before .before .before .before .before .before .before .before .before .before .before .before .before .before .before .loop in
+    let s = c .before .before .before .before .before .before .before .before .before .before .before .before .before .before .before .before .before .before .before .before .before .before in
+    let l = c .before .before .before .before .before .before .before .before .before .before .before .before .before .before .before .before .before .before .loop in
     let R = l .inv .2 _ _ (s .pre .1 .running) in
-    let h = below _ _ _ (c .before .before .before .before .before .before .before .before .before .before .before .before .before .before .before .before .before .before .loop-test .taken) (c .before .before .before .before .before .before .before .before .before .before .before .before .before .before .before .before .before .before .before .before .size-of .ensures) in
+    let h = below _ _ _ (c .before .before .before .before .before .before .before .before .before .before .before .before .before .before .before .before .before .loop-test .taken) (c .before .before .before .before .before .before .before .before .before .before .before .before .before .before .before .before .before .before .before .size-of .ensures) in
     (h, making-whole (s .args .run .now) (s .pre .0))
 
 add-p : tie.Need-add-p Inv-loop μ-loop
 add-p c =
-    let s = c .before .before .before .before .before .before .before .before .before .before .before .before .before .before .before .before .before .before .before .before .before .before .before .before in
-    let l = c .before .before .before .before .before .before .before .before .before .before .before .before .before .before .before .before .before .before .before .before .loop in
+    let s = c .before .before .before .before .before .before .before .before .before .before .before .before .before .before .before .before .before .before .before .before .before .before .before in
+    let l = c .before .before .before .before .before .before .before .before .before .before .before .before .before .before .before .before .before .before .before .loop in
     let R = l .inv .2 _ _ (s .pre .1 .running) in
-    let h = below _ _ _ (c .before .before .before .before .before .before .before .before .before .before .before .before .before .before .before .before .before .before .before .loop-test .taken) (c .before .before .before .before .before .before .before .before .before .before .before .before .before .before .before .before .before .before .before .before .before .size-of .ensures) in
+    let h = below _ _ _ (c .before .before .before .before .before .before .before .before .before .before .before .before .before .before .before .before .before .before .loop-test .taken) (c .before .before .before .before .before .before .before .before .before .before .before .before .before .before .before .before .before .before .before .before .size-of .ensures) in
     omega (arith, h, c .width-at .ensures .2, s .good .1 .1 .1 .1 .1 .1 .1 .1 .1 .0)
 
 loop-less : tie.Need-loop-less Inv-loop μ-loop
 loop-less c =
-    let s = c .before .before .before .before .before .before .before .before .before .before .before .before .before .before .before .before .before .before .before .before .before .before .before .before in
-    let l = c .before .before .before .before .before .before .before .before .before .before .before .before .before .before .before .before .before .before .before .before .loop in
+    let s = c .before .before .before .before .before .before .before .before .before .before .before .before .before .before .before .before .before .before .before .before .before .before .before in
+    let l = c .before .before .before .before .before .before .before .before .before .before .before .before .before .before .before .before .before .before .before .loop in
     let R = l .inv .2 _ _ (s .pre .1 .running) in
-    let h = below _ _ _ (c .before .before .before .before .before .before .before .before .before .before .before .before .before .before .before .before .before .before .before .loop-test .taken) (c .before .before .before .before .before .before .before .before .before .before .before .before .before .before .before .before .before .before .before .before .before .size-of .ensures) in
+    let h = below _ _ _ (c .before .before .before .before .before .before .before .before .before .before .before .before .before .before .before .before .before .before .loop-test .taken) (c .before .before .before .before .before .before .before .before .before .before .before .before .before .before .before .before .before .before .before .before .size-of .ensures) in
     omega (arith, h, c .width-at .ensures .1)
 
 loop-again : tie.Need-loop-again Inv-loop μ-loop
 loop-again c =
-    let s = c .before .before .before .before .before .before .before .before .before .before .before .before .before .before .before .before .before .before .before .before .before .before .before .before in
-    let l = c .before .before .before .before .before .before .before .before .before .before .before .before .before .before .before .before .before .before .before .before .loop in
-    let h = below _ _ _ (c .before .before .before .before .before .before .before .before .before .before .before .before .before .before .before .before .before .before .before .loop-test .taken) (c .before .before .before .before .before .before .before .before .before .before .before .before .before .before .before .before .before .before .before .before .before .size-of .ensures) in
+    let s = c .before .before .before .before .before .before .before .before .before .before .before .before .before .before .before .before .before .before .before .before .before .before .before in
+    let l = c .before .before .before .before .before .before .before .before .before .before .before .before .before .before .before .before .before .before .before .loop in
+    let h = below _ _ _ (c .before .before .before .before .before .before .before .before .before .before .before .before .before .before .before .before .before .before .loop-test .taken) (c .before .before .before .before .before .before .before .before .before .before .before .before .before .before .before .before .before .before .before .before .size-of .ensures) in
     let g = c .width-at .ensures .0 in (
       omega (arith, g, within (s .args .run .now) (l .p) (stands _ _ _ _ _ _ _ _ _ _ (l .inv .2 _ _ (s .pre .1 .running)) h)),
       answers-length _ _ _ _ _ _ _ _ _ _ (l .inv .2 _ _ (s .pre .1 .running)) h _ _ _ _ _ (c .before .before .before .before .before .before .before .before .call-at .ensures) _ (of-kind _ _ _ _ (c .before .before .before .before .before .before .answer-width .ensures .0) (c .before .before .before .before .before .before .before .number-at .ensures .0)) _ (c .before .before .before .write-reply .ensures) ∙ l .inv .1,

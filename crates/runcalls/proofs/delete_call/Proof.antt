@@ -14,7 +14,7 @@ delete-requires : tie.Need-delete-requires
 delete-requires c κs = search needs
 
 returns : tie.Need-returns
-returns c = delete-given (c .before .before .before .before .before .before .before .before .before .before .args .run .now) _ _ _ _ _ _ _ _ _ _ _ (c .before .before .before .before .before .before .before .before .number-at .ensures .0) (c .delete .ensures)
+returns c = delete-given (c .before .before .before .before .before .before .before .before .before .args .run .now) _ _ _ _ _ _ _ _ _ _ _ (c .before .before .before .before .before .before .before .number-at .ensures .0) (c .delete .ensures)
 
 pub delete-call-spec : {M : Type 1} → statement M
 delete-call-spec =

@@ -27,7 +27,7 @@ enum-known-made-2 c = search needs
 
 run-rows-requires : tie.Need-run-rows-requires
 run-rows-requires c κs =
-    let s = c .before .before .before .before .before .before .before .before .before .before .before .before .before .before .before .before .before .before .before .before .before .before .before in (
+    let s = c .before .before .before .before .before .before .before .before .before .before .before .before .before .before .before .before .before .before .before .before .before in (
       s .pre .0,
       record {
         channels = _;
@@ -35,7 +35,7 @@ run-rows-requires c κs =
         share = _;
         world = _;
         ops = _;
-        standing = begun (c .before .before .before .before .before .before .before .before .before .before .before .before .new .ensures) _ (c .before .before .before .before .before .before .before .before .before .before .made2 .given .1) (s .args .text .now) _ _ _ (c .before .before .before .before .before .before .before .before .before .before .before .before .before .before .before .before .before .before .before .before .no-points .ensures) (c .before .before .before .before .before .before .before .before .before .before .before .before .before .before .before .before .before .before .before .no-marks .ensures) _ (s .pre .1 .rest);
+        standing = begun (c .before .before .before .before .before .before .before .before .before .before .before .new .ensures) _ (c .before .before .before .before .before .before .before .before .before .made2 .given .1) (s .args .text .now) _ _ _ (c .before .before .before .before .before .before .before .before .before .before .before .before .before .before .before .before .before .before .no-points .ensures) (c .before .before .before .before .before .before .before .before .before .before .before .before .before .before .before .before .before .no-marks .ensures) _ (s .pre .1 .rest);
       },
     )
 
@@ -51,10 +51,10 @@ same-length-2 c = search needs
 
 returns-2 : tie.Need-returns-2
 returns-2 c =
-    let s = c .before .before .before .before .before .before .before .before .before .before .before .before .before .before .before .before .before .before .before .before .before .before .before .before .before .before in
-    let m = c .before .before .before .before .before .before .before .before .before .before .before .before .before .before .before .new .ensures in
-    let h = c .before .before .before .before .before .before .before .before .before .before .before .before .before .made2 .given .1 in
-    λ os e. is-made m _ h os (c .before .before .run-rows .ensures _ _ _ _ os (begun m _ h (s .args .text .now) _ _ _ (c .before .before .before .before .before .before .before .before .before .before .before .before .before .before .before .before .before .before .before .before .before .before .before .no-points .ensures) (c .before .before .before .before .before .before .before .before .before .before .before .before .before .before .before .before .before .before .before .before .before .before .no-marks .ensures) os e))
+    let s = c .before .before .before .before .before .before .before .before .before .before .before .before .before .before .before .before .before .before .before .before .before .before .before .before in
+    let m = c .before .before .before .before .before .before .before .before .before .before .before .before .before .before .new .ensures in
+    let h = c .before .before .before .before .before .before .before .before .before .before .before .before .made2 .given .1 in
+    λ os e. is-made m _ h os (c .before .before .run-rows .ensures _ _ _ _ os (begun m _ h (s .args .text .now) _ _ _ (c .before .before .before .before .before .before .before .before .before .before .before .before .before .before .before .before .before .before .before .before .before .no-points .ensures) (c .before .before .before .before .before .before .before .before .before .before .before .before .before .before .before .before .before .before .before .before .no-marks .ensures) os e))
 
 pub print-by-spec : {M : Type 1} → statement M
 print-by-spec =
