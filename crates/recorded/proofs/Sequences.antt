@@ -16,7 +16,7 @@ use Rattle.lines.specs.Lines.{Wrote}
 use Rattle.lines.proofs.Writes.{then, long}
 use Rattle.recorded.specs.declared.intervals.Called.{Called}
 use Rattle.recorded.specs.declared.intervals.Reached.{Reached}
-use Rattle.recorded.specs.Sequences.{getting, looking, lookBytes, gotten, taken, called, rowsCalled, rowsTo, toldTop, toldNext, managerNext, rowsNext, Turned, new, after, sequenceAnswer}
+use Rattle.recorded.specs.Sequences.{getting, looking, lookBytes, gotten, taken, called, rowsCalled, rowsTo, toldNext, managerNext, rowsNext, Told, Turned, new, after, sequenceAnswer}
 use Rattle.recorded.proofs.Stores.{nothing}
 
 module _ (m : IntervalStoreManager) (rows : List (List ℕ)) (i : ℕ) {r : Called} {rows′ : List (List ℕ)} where
@@ -29,14 +29,19 @@ module _ (m : IntervalStoreManager) (rows : List (List ℕ)) (i : ℕ) {r : Call
   called-released h e f k = (rw (ne-eqb i getting h) (rw e at f), rw (ne-eqb i getting h) k)
 
 -- TURNS
-module _ (m : IntervalStoreManager) (rows : List (List ℕ)) (i : ℕ) {l : List ℕ} {at p : ℕ} {o : List ℕ} where
-  pub turn-look : i ≡ looking → Wrote l at (rowsTo rows branchLimit) p o × (p ≡ at + lookBytes) → Turned m rows i at l (record { manager = m; place = p }) rows o
+module _ (m : IntervalStoreManager) (rows : List (List ℕ)) (i : ℕ) {l : List ℕ} {at : ℕ} {o : List ℕ} where
+  pub turn-look : i ≡ looking → {p : ℕ} → Wrote l at (rowsTo rows branchLimit) p o × (p ≡ at + lookBytes) → Turned m rows i at l (record { manager = m; place = p }) rows o
   unfolding toldNext managerNext rowsNext
   turn-look h w = record { manager-is = rw (eq-eqb i looking h); rows-are = rw (eq-eqb i looking h); wrote = rw (eq-eqb i looking h) (w .0); few = omega (arith, w .1) }
 
-  pub turn-call : (i ≡ looking → ⊥) → {c : Called} {rows′ : List (List ℕ)} → c ≡ called m rows i → rows′ ≡ rowsCalled m rows i → Wrote l at (toldTop (c .answer) (c .manager) rows′) p o × (p ≡ at + 8) → Turned m rows i at l (record { manager = c .manager; place = p }) rows′ o
+  pub turn-call : (i ≡ looking → ⊥) → {c : Called} {t : Reached} {rows′ : List (List ℕ)} → c ≡ called m rows i → rows′ ≡ rowsCalled m rows i → Told c rows′ at l t o → Turned m rows i at l t rows′ o
   unfolding toldNext managerNext rowsNext
-  turn-call h {c} {rows′} e f w = record { manager-is = rw (ne-eqb i looking h, e); rows-are = rw (ne-eqb i looking h) f; wrote = rw (ne-eqb i looking h) (rw (e, f) at (w .0)); few = omega (arith, w .1) }
+  turn-call h {c} {t} {rows′} e f w = record {
+    manager-is = rw (ne-eqb i looking h) (rw e at (w .manager-is));
+    rows-are = rw (ne-eqb i looking h) f;
+    wrote = rw (ne-eqb i looking h) (rw (e, f) at (w .wrote));
+    few = omega (arith, w .next);
+  }
 
 -- A SEQUENCE, of which i numbers are done
 pub record Sequenced (given lent out : List ℕ) (state : Reached) (rows : List (List ℕ)) (i : ℕ) : Type 0 where
@@ -48,15 +53,15 @@ pub record Sequenced (given lent out : List ℕ) (state : Reached) (rows : List 
   pub few : state .place ≤ lookBytes * i
 
 module _ (given : List ℕ) {lent out : List ℕ} where
-  pub sequenced-start : (length given / 2 ≡ 0 → ⊥) → {size a : ℕ} {m : IntervalStoreManager} {rows : List (List ℕ)} {p : ℕ} → size ≡ little16 given 0 → m ≡ new size → rows ≡ layout (fresh size) → a ≡ m .capacity → Wrote lent 0 (toldTop a m rows) p out × (p ≡ 0 + 8) → Sequenced given lent out (record { manager = m; place = p }) rows 1
+  pub sequenced-start : (length given / 2 ≡ 0 → ⊥) → {size a : ℕ} {m : IntervalStoreManager} {rows : List (List ℕ)} {t : Reached} → size ≡ little16 given 0 → m ≡ new size → rows ≡ layout (fresh size) → a ≡ m .capacity → Told (record { answer = a; manager = m }) rows 0 lent t out → Sequenced given lent out t rows 1
   unfolding after
-  sequenced-start h {size} {a} {m} {rows} {p} e f g k w = record {
+  sequenced-start h {size} {a} {m} {rows} {t} e f g k w = record {
     some = omega arith;
     within = omega arith;
-    manager-is = rw e at f;
+    manager-is = w .manager-is ∙ (rw e at f);
     rows-are = rw e at g;
-    wrote = rw e at (rw (k, f, g) at (w .0));
-    few = omega (arith, w .1);
+    wrote = rw e at (rw (k, f, g) at (w .wrote));
+    few = omega (arith, w .next);
   }
 
   pub sequenced-all : {state : Reached} {rows : List (List ℕ)} {i : ℕ} → Sequenced given lent out state rows i → length given / 2 ≤ i → Wrote lent 0 (sequenceAnswer given) (state .place) out

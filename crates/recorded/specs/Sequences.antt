@@ -38,10 +38,6 @@ lookBytes = 4 * branchLimit
 unfoldable pub topOf : IntervalStoreManager → List (List ℕ) → List ℕ
 topOf m rows = cond (topped m) (getD rows (m .«last_in_use» - 1) []) (0 ∷ 0 ∷ [])
 
--- an answer, the rows in use after it, and the top one
-abbrev pub toldTop : ℕ → IntervalStoreManager → List (List ℕ) → List ℕ
-toldTop answer m rows = pairBytes (answer ∷ m .«last_in_use» ∷ []) ++ pairBytes (topOf m rows)
-
 -- the first n rows
 unfoldable pub rowsTo : List (List ℕ) → ℕ → List ℕ
 rowsTo rows zero = []
@@ -56,6 +52,10 @@ abbrev pub taken : IntervalStoreManager → ℕ → Released → Called
 taken m i (Done after) = record { answer = i; manager = after }
 taken m i Full = record { answer = refused; manager = m }
 
+-- an answer, the rows in use after it, and the top one
+abbrev pub toldTop : Called → List (List ℕ) → List ℕ
+toldTop c rows = pairBytes (c .answer ∷ c .manager .«last_in_use» ∷ []) ++ pairBytes (topOf (c .manager) rows)
+
 unfoldable pub called : IntervalStoreManager → List (List ℕ) → ℕ → Called
 called m rows i = cond (eqb i getting) (gotten m (gotOf m rows)) (taken m i (releasedOf m rows i))
 
@@ -64,7 +64,7 @@ rowsCalled m rows i = cond (eqb i getting) (rowsGot m rows) (rowsReleased m rows
 
 -- one number more, a look or a call: what is written, and the manager and the rows after it
 unfoldable pub toldNext : IntervalStoreManager → List (List ℕ) → ℕ → List ℕ
-toldNext m rows i = cond (eqb i looking) (rowsTo rows branchLimit) (toldTop (called m rows i .answer) (called m rows i .manager) (rowsCalled m rows i))
+toldNext m rows i = cond (eqb i looking) (rowsTo rows branchLimit) (toldTop (called m rows i) (rowsCalled m rows i))
 
 unfoldable pub managerNext : IntervalStoreManager → List (List ℕ) → ℕ → IntervalStoreManager
 managerNext m rows i = cond (eqb i looking) m (called m rows i .manager)
@@ -72,7 +72,12 @@ managerNext m rows i = cond (eqb i looking) m (called m rows i .manager)
 unfoldable pub rowsNext : IntervalStoreManager → List (List ℕ) → ℕ → List (List ℕ)
 rowsNext m rows i = cond (eqb i looking) rows (rowsCalled m rows i)
 
--- what a turn gives and leaves
+-- what is given and left by telling of a call, and by a turn
+pub record Told (c : Called) (rows : List (List ℕ)) (at : ℕ) (lent : List ℕ) (t : Reached) (out : List ℕ) : Type 0 where
+  pub manager-is : t .manager ≡ c .manager
+  pub wrote : Wrote lent at (toldTop c rows) (t .place) out
+  pub next : t .place ≡ at + 8
+
 pub record Turned (m : IntervalStoreManager) (rows : List (List ℕ)) (i at : ℕ) (lent : List ℕ) (t : Reached) (rows′ : List (List ℕ)) (out : List ℕ) : Type 0 where
   pub manager-is : t .manager ≡ managerNext m rows i
   pub rows-are : rows′ ≡ rowsNext m rows i
@@ -90,7 +95,7 @@ new size = record { capacity = size; «last_in_use» = length (fresh size) }
 
 -- a new manager answers its size
 abbrev pub begun : ℕ → Standing
-begun size = record { manager = new size; rows = layout (fresh size); written = toldTop size (new size) (layout (fresh size)) }
+begun size = record { manager = new size; rows = layout (fresh size); written = toldTop (record { answer = size; manager = new size }) (layout (fresh size)) }
 
 abbrev pub stepped : Standing → ℕ → Standing
 stepped s i = record { manager = managerNext (s .manager) (s .rows) i; rows = rowsNext (s .manager) (s .rows) i; written = s .written ++ toldNext (s .manager) (s .rows) i }

@@ -10,7 +10,7 @@ ghost use Prim.Native.Nat.{_+_, _*_, _≤_, _<_};
 ghost use lib.ListN.{length};
 ghost use Rattle.limits.specs.Limits.{branchLimit};
 ghost use Rattle.lines.specs.Lines.{Wrote};
-ghost use Rattle.recorded.specs.Sequences.{lookBytes, topOf, toldTop, rowsTo, gotten, taken, called, rowsCalled, Turned, sequenceAnswer};
+ghost use Rattle.recorded.specs.Sequences.{lookBytes, topOf, rowsTo, gotten, taken, called, rowsCalled, Told, Turned, sequenceAnswer};
 
 // What is given for a `get`, and for a look at all rows; any other number is released.
 const GET: u16 = 65535;
@@ -86,20 +86,17 @@ fn top_of(manager: IntervalStoreManager, rows: &Free) -> [u16; 2]
     rows[n - 1]
 }
 
-// Writes the answer, the rows in use and the top one.
-fn put_top(
-    out: &mut [u8],
-    at: usize,
-    answer: u16,
-    manager: IntervalStoreManager,
-    rows: &Free,
-) -> usize
+// Writes what a call answers, the rows in use after it and the top one.
+fn put_call(out: &mut [u8], at: usize, done: Called, rows: &Free) -> Reached
     requires { ⌜ at < 10000000000 ⌝ }
-    ensures wrote { λ r. ⌜ Wrote (now (out .entry)) at (toldTop answer manager (now (rows .entry))) r (now (out .exit)) ⌝ }
-    ensures next { λ r. ⌜ r ≡ at + 8 ⌝ }
+    ensures { λ r. ⌜ Told done (now (rows .entry)) at (now (out .entry)) r (now (out .exit)) ⌝ }
 {
-    let p = crate::words::put_pair(out, at, [answer, manager.last_in_use]);
-    crate::words::put_pair(out, p, top_of(manager, rows))
+    let manager = done.manager;
+    let p = crate::words::put_pair(out, at, [done.answer, manager.last_in_use]);
+    Reached {
+        manager,
+        place: crate::words::put_pair(out, p, top_of(manager, rows)),
+    }
 }
 
 // Writes all rows, those that are not in use too.
@@ -129,16 +126,12 @@ fn turn(
     ensures { λ r. ⌜ Turned manager (now (rows .entry)) number at (now (out .entry)) r (now (rows .exit)) (now (out .exit)) ⌝ }
 {
     if number == ROWS {
-        let p = put_rows(out, at, rows);
-        return Reached { manager, place: p };
+        return Reached {
+            manager,
+            place: put_rows(out, at, rows),
+        };
     }
-    let done = call(manager, number, rows);
-    let after = done.manager;
-    let p = put_top(out, at, done.answer, after, rows);
-    Reached {
-        manager: after,
-        place: p,
-    }
+    put_call(out, at, call(manager, number, rows), rows)
 }
 
 // The whole sequence: the size, then its calls in turn.
@@ -153,10 +146,11 @@ pub fn answer_sequence(given: &[u8], out: &mut [u8]) -> usize
     }
     let mut rows = [[0u16; 2]; BRANCHES];
     let manager = IntervalStoreManager::new(little::u16_at(given, 0), &mut rows);
-    let mut state = Reached {
+    let made = Called {
+        answer: manager.get_capacity(),
         manager,
-        place: put_top(out, 0, manager.get_capacity(), manager, &rows),
     };
+    let mut state = put_call(out, 0, made, &rows);
     let mut i: usize = 1;
     while i < n {
         let number = little::u16_at(given, 2 * i);
