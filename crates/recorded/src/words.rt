@@ -44,5 +44,9 @@ pub fn put_pair(out: &mut [u8], at: usize, pair: [u16; 2]) -> usize
     ensures wrote { λ r. ⌜ Wrote (now (out .entry)) at (pairBytes pair) r (now (out .exit)) ⌝ }
     ensures next { λ r. ⌜ r ≡ at + 4 ⌝ }
 {
-    put_word(out, at, casts::wide16(pair[0]) + 65536 * casts::wide16(pair[1]))
+    put_word(
+        out,
+        at,
+        casts::wide16(pair[0]) + 65536 * casts::wide16(pair[1]),
+    )
 }

@@ -1,7 +1,5 @@
 // Replays recorded answers of the Rust (RECORDED.md): what the port returns and writes for each is held to what was recorded, and standard output says
 // for each kind how many agree. What differs, and a record that cannot be replayed, is said too.
-mod report;
-
 use libc::STDIN_FILENO;
 use libc::STDOUT_FILENO;
 ghost use mathlib.Core.Path.{_≡_};
@@ -29,8 +27,8 @@ const HEAD: usize = 16;
 // So many records that differ are said; the others are only counted.
 const SAID: usize = 20;
 
-// Room for a label and a number.
-const TEXT: usize = 84;
+// Room for a space and a number.
+const FIELD: usize = 21;
 
 // Of each kind, how many records are compared and how many of them agree.
 type Counts = [[usize; 2]; KINDS];
@@ -59,13 +57,22 @@ fn read_bytes(bytes: &mut [u8], n: usize) -> usize
     io::read_full(STDIN_FILENO, &mut bytes[..n])
 }
 
-// Prints a label, and a number after it.
-fn say(label: &[u8], n: usize)
-    requires { ⌜ length (now label) ≤ 64 ⌝ }
-{
-    let mut text = [0u8; TEXT];
-    let end = report::put_labelled(&mut text, 0, label, n);
-    io::write_all(STDOUT_FILENO, &text[..end]);
+// Prints a number, after a space.
+fn say_number(n: usize) {
+    let mut field = [b' '; FIELD];
+    let end = lines::put_decimal(&mut field, 1, n);
+    io::write_all(STDOUT_FILENO, &field[..end]);
+}
+
+// Prints a line: a word, and numbers.
+fn say(word: &[u8], numbers: &[usize]) {
+    io::write_all(STDOUT_FILENO, word);
+    let mut i: usize = 0;
+    while i < numbers.len() {
+        say_number(numbers[i]);
+        i += 1;
+    }
+    io::write_all(STDOUT_FILENO, b"\n");
 }
 
 // How many bytes at the start of both are the same.
@@ -141,33 +148,29 @@ fn told(number: usize, before: State, returned: usize, got: usize, same: usize) 
     if before.said >= SAID {
         return before;
     }
-    say(b"record ", number);
-    say(b": the Rust returns ", returned);
-    say(b", the port ", got);
-    say(b"; bytes that are the same: ", same);
-    io::write_all(STDOUT_FILENO, b"\n");
+    say(b"differs", &[number, returned, got, same]);
     State {
         said: before.said + 1,
         going: true,
     }
 }
 
-// Says why the replay ends before the input does.
-fn ended(label: &[u8], number: usize) -> State
-    requires { ⌜ length (now label) ≤ 64 ⌝ }
-{
-    say(label, number);
-    io::write_all(STDOUT_FILENO, b"\n");
+// The end of the replay, with a word on it.
+fn ended(word: &[u8], number: usize) -> State {
+    say(word, &[number]);
     State {
         said: 0,
         going: false,
     }
 }
 
-// The end of the input, which has to have a record.
-fn stopped(number: usize) -> State {
+// The end of the input within a record, or before the first.
+fn stopped(number: usize, came: usize) -> State {
+    if came > 0 {
+        return ended(b"short", number);
+    }
     if number == 0 {
-        return ended(b"the input is empty: record ", number);
+        return ended(b"empty", number);
     }
     State {
         said: 0,
@@ -223,11 +226,10 @@ fn replay_body(number: usize, before: State, head: Head, counts: &mut Counts) ->
     let mut given = [0u8; ROOM];
     let mut expected = [LENT; ROOM];
     let size = head.size;
-    if read_bytes(&mut given, size) < size {
-        return ended(b"short: record ", number);
-    }
-    if read_bytes(&mut expected, head.count) < head.count {
-        return ended(b"short: record ", number);
+    let came = read_bytes(&mut given, size);
+    let wrote = read_bytes(&mut expected, head.count);
+    if came + wrote < size + head.count {
+        return stopped(number, HEAD);
     }
     replayed(number, before, head, &given[..size], &expected, counts)
 }
@@ -236,17 +238,14 @@ fn replay_body(number: usize, before: State, head: Head, counts: &mut Counts) ->
 fn replay_one(number: usize, before: State, counts: &mut Counts) -> State {
     let mut bytes = [0u8; HEAD];
     let came = read_bytes(&mut bytes, HEAD);
-    if came == 0 {
-        return stopped(number);
-    }
     if came < HEAD {
-        return ended(b"short: record ", number);
+        return stopped(number, came);
     }
     let head = head_of(&bytes);
     if is_head(head) {
         return replay_body(number, before, head, counts);
     }
-    ended(b"malformed: record ", number)
+    ended(b"malformed", number)
 }
 
 // A proved loop has to end, and nothing says that the input does; so records are counted up to a number that no input has.
@@ -262,20 +261,12 @@ fn replay_all(counts: &mut Counts) {
     }
 }
 
-// The line of a kind: how many of its records are compared, and how many of them agree.
-fn say_kind(kind: usize, counts: [usize; 2]) {
-    say(b"kind ", kind);
-    say(b": ", counts[0]);
-    say(b" compared, agree: ", counts[1]);
-    io::write_all(STDOUT_FILENO, b"\n");
-}
-
 fn main() {
     let mut counts = [[0usize; 2]; KINDS];
     replay_all(&mut counts);
     let mut kind: usize = 0;
     while kind < KINDS {
-        say_kind(kind, counts[kind]);
+        say(b"kind", &[kind, counts[kind][0], counts[kind][1]]);
         kind += 1;
     }
 }

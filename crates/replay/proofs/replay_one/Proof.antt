@@ -16,15 +16,6 @@ stopped-requires c κs = search needs
 returns : tie.Need-returns
 returns c = search needs
 
-slice-aggregate-ended : tie.Need-slice-aggregate-ended
-slice-aggregate-ended c = search needs
-
-ended-requires : tie.Need-ended-requires
-ended-requires c κs = search needs
-
-returns-2 : tie.Need-returns-2
-returns-2 c = search needs
-
 slice-aggregate-head-of : tie.Need-slice-aggregate-head-of
 slice-aggregate-head-of c = search needs
 
@@ -35,19 +26,19 @@ is-head-requires : tie.Need-is-head-requires
 is-head-requires c κs = search needs
 
 replay-body-requires : tie.Need-replay-body-requires
-replay-body-requires c κs = fits _ _ (c .before .before .is-head .ensures) (c .before .if3 .taken)
+replay-body-requires c κs = fits _ _ (c .before .before .is-head .ensures) (c .before .if2 .taken)
+
+returns-2 : tie.Need-returns-2
+returns-2 c = search needs
+
+slice-aggregate-ended : tie.Need-slice-aggregate-ended
+slice-aggregate-ended c = search needs
+
+ended-requires : tie.Need-ended-requires
+ended-requires c κs = search needs
 
 returns-3 : tie.Need-returns-3
 returns-3 c = search needs
-
-slice-aggregate-ended-2 : tie.Need-slice-aggregate-ended-2
-slice-aggregate-ended-2 c = search needs
-
-ended-requires-2 : tie.Need-ended-requires-2
-ended-requires-2 c κs = search needs
-
-returns-4 : tie.Need-returns-4
-returns-4 c = search needs
 
 pub replay-one-spec : {M : Type 1} → statement M
 replay-one-spec =
@@ -57,14 +48,11 @@ replay-one-spec =
     read-bytes-requires
     stopped-requires
     returns
-    slice-aggregate-ended
-    ended-requires
-    returns-2
     slice-aggregate-head-of
     head-of-requires
     is-head-requires
     replay-body-requires
-    returns-3
-    slice-aggregate-ended-2
-    ended-requires-2
-    returns-4)
+    returns-2
+    slice-aggregate-ended
+    ended-requires
+    returns-3)

@@ -1,36 +1,63 @@
--- `say` is safe: a label and a number have room. Assumes nothing.
-use mathlib.Core.Path.{sym}
-use native.Mathlib.Omega.{arith}
-use lib.Seq.{length-take-le}
+-- `say` is safe and ends. Assumes nothing.
+use Prim.Native.Nat.{_-_, _≤_}
+use lib.ListN.{length}
 use borrow.Author.Needs.{needs}
 use Rattle.replay.proofs.say.Statement.{statement}
 use Rattle.replay.proofs.say.Tie as tie
 
-slice-aggregate-put-labelled : tie.Need-slice-aggregate-put-labelled
-slice-aggregate-put-labelled c = search needs
+abbrev Inv-loop : tie.InvT-loop
+Inv-loop word numbers i₀ t4 i = i ≤ length numbers
 
-put-labelled-requires : tie.Need-put-labelled-requires
-put-labelled-requires c κs = search needs
+abbrev μ-loop : tie.MeasureT-loop
+μ-loop word numbers i₀ t4 i = length numbers - i
 
-array-share-prefix-text : tie.Need-array-share-prefix-text
-array-share-prefix-text c = search needs
-
-slice-aggregate-write-all : tie.Need-slice-aggregate-write-all
-slice-aggregate-write-all c = let w = c .before .before .put-labelled in sym (length-take-le (w .result) (w .last .0) (omega (arith, w .ensures .1, w .kept .0)))
-
-write-all-requires : tie.Need-write-all-requires
+write-all-requires : tie.Need-write-all-requires Inv-loop μ-loop
 write-all-requires c κs = search needs
 
-returns : tie.Need-returns
+loop-holds : tie.Need-loop-holds Inv-loop μ-loop
+loop-holds c = search needs
+
+mul-say-number : tie.Need-mul-say-number Inv-loop μ-loop
+mul-say-number c = search needs
+
+shared-slice-read-say-number : tie.Need-shared-slice-read-say-number Inv-loop μ-loop
+shared-slice-read-say-number c = search needs
+
+say-number-requires : tie.Need-say-number-requires Inv-loop μ-loop
+say-number-requires c κs = search needs
+
+add-i : tie.Need-add-i Inv-loop μ-loop
+add-i c = search needs
+
+loop-less : tie.Need-loop-less Inv-loop μ-loop
+loop-less c = search needs
+
+loop-again : tie.Need-loop-again Inv-loop μ-loop
+loop-again c = search needs
+
+slice-aggregate-write-all : tie.Need-slice-aggregate-write-all Inv-loop μ-loop
+slice-aggregate-write-all c = search needs
+
+write-all-requires-2 : tie.Need-write-all-requires-2 Inv-loop μ-loop
+write-all-requires-2 c κs = search needs
+
+returns : tie.Need-returns Inv-loop μ-loop
 returns c = search needs
 
 pub say-spec : {M : Type 1} → statement M
 say-spec =
     tie.close
     (tie.spec
-    slice-aggregate-put-labelled
-    put-labelled-requires
-    array-share-prefix-text
-    slice-aggregate-write-all
+    Inv-loop
+    μ-loop
     write-all-requires
+    loop-holds
+    mul-say-number
+    shared-slice-read-say-number
+    say-number-requires
+    add-i
+    loop-less
+    loop-again
+    slice-aggregate-write-all
+    write-all-requires-2
     returns)
