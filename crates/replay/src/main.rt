@@ -261,12 +261,17 @@ fn replay_all(counts: &mut Counts) {
     }
 }
 
+// The line of a kind.
+fn say_kind(kind: usize, counts: [usize; 2]) {
+    say(b"kind", &[kind, counts[0], counts[1]]);
+}
+
 fn main() {
     let mut counts = [[0usize; 2]; KINDS];
     replay_all(&mut counts);
     let mut kind: usize = 0;
     while kind < KINDS {
-        say(b"kind", &[kind, counts[kind][0], counts[kind][1]]);
+        say_kind(kind, counts[kind]);
         kind += 1;
     }
 }

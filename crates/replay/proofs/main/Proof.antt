@@ -6,10 +6,10 @@ use Rattle.replay.proofs.main.Statement.{statement}
 use Rattle.replay.proofs.main.Tie as tie
 
 abbrev Inv-loop : tie.InvT-loop
-Inv-loop counts kind₀ t3 kind = kind ≤ kinds
+Inv-loop counts kind₀ kind = kind ≤ kinds
 
 abbrev μ-loop : tie.MeasureT-loop
-μ-loop counts kind₀ t3 kind = kinds - kind
+μ-loop counts kind₀ kind = kinds - kind
 
 replay-all-requires : tie.Need-replay-all-requires Inv-loop μ-loop
 replay-all-requires c κs = search needs
@@ -17,32 +17,14 @@ replay-all-requires c κs = search needs
 loop-holds : tie.Need-loop-holds Inv-loop μ-loop
 loop-holds c = search needs
 
-slice-aggregate-say : tie.Need-slice-aggregate-say Inv-loop μ-loop
-slice-aggregate-say c = search needs
+mul-say-kind : tie.Need-mul-say-kind Inv-loop μ-loop
+mul-say-kind c = search needs
 
-mul-t12 : tie.Need-mul-t12 Inv-loop μ-loop
-mul-t12 c = search needs
+array-copy-out-say-kind : tie.Need-array-copy-out-say-kind Inv-loop μ-loop
+array-copy-out-say-kind c = search needs
 
-index-1-t17 : tie.Need-index-1-t17 Inv-loop μ-loop
-index-1-t17 c = search needs
-
-index-2-t17 : tie.Need-index-2-t17 Inv-loop μ-loop
-index-2-t17 c = search needs
-
-mul-t18 : tie.Need-mul-t18 Inv-loop μ-loop
-mul-t18 c = search needs
-
-index-1-t23 : tie.Need-index-1-t23 Inv-loop μ-loop
-index-1-t23 c = search needs
-
-index-2-t23 : tie.Need-index-2-t23 Inv-loop μ-loop
-index-2-t23 c = search needs
-
-slice-aggregate-say-2 : tie.Need-slice-aggregate-say-2 Inv-loop μ-loop
-slice-aggregate-say-2 c = search needs
-
-say-requires : tie.Need-say-requires Inv-loop μ-loop
-say-requires c κs = search needs
+say-kind-requires : tie.Need-say-kind-requires Inv-loop μ-loop
+say-kind-requires c κs = search needs
 
 add-kind : tie.Need-add-kind Inv-loop μ-loop
 add-kind c = search needs
@@ -64,15 +46,9 @@ main-spec =
     μ-loop
     replay-all-requires
     loop-holds
-    slice-aggregate-say
-    mul-t12
-    index-1-t17
-    index-2-t17
-    mul-t18
-    index-1-t23
-    index-2-t23
-    slice-aggregate-say-2
-    say-requires
+    mul-say-kind
+    array-copy-out-say-kind
+    say-kind-requires
     add-kind
     loop-less
     loop-again
