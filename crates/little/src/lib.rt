@@ -16,8 +16,10 @@ const SIGN64: u64 = 9223372036854775808;
 
 const INFINITE64: u64 = 9218868437227405312;
 
-// The pattern that `pattern_of` gives to NaN, of the many that it has.
+// The pattern that is given to NaN, of the many that it has.
 const NOT_A_NUMBER: u32 = 2143289344;
+
+const NOT_A_NUMBER64: u64 = 9221120237041090560;
 
 // A cast of what a call or an index gives asks that it fits; a call of one of these asks nothing.
 fn wide(x: u8) -> u16
@@ -92,6 +94,17 @@ pub fn double_of(bits: u64) -> f64
         return 0.0 / 0.0;
     }
     f64::from_bits(bits)
+}
+
+// The pattern of any f64.
+// Wrong here: 0 for NaN, which is a number's.
+pub fn pattern_of_double(x: f64) -> u64
+    ensures { λ r. ⌜ r ≡ toBits binary64 x ⌝ }
+{
+    if x != x {
+        return NOT_A_NUMBER64;
+    }
+    f64::to_bits(x)
 }
 
 // Writes the lowest byte of a number.

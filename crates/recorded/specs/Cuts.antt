@@ -1,24 +1,30 @@
 -- What is answered to a recorded cut choice. Definitions.
 use mathlib.Core.Bool.{Bool, true, _&&_, cond}
 use mathlib.Core.List.{List, [], _∷_, _++_}
-use Prim.Native.Nat.{ℕ, zero, suc, _+_}
+use Prim.Native.Nat.{ℕ, zero, suc, _+_, _*_}
 use lib.Dec.{eqb}
 use lib.ListN.{length}
 use lib.Ieee.{Float, binary32, ofBits, toBits, le}
+use Rattle.limits.specs.Limits.{width}
 use Rattle.readings.specs.Coordinate.{isCoordinate}
 use Rattle.boundingbox.specs.Ends.{channel}
-use Rattle.cut.specs.declared.Cut.{Cut}
 use Rattle.cut.specs.declared.Separation.{Separation}
 use Rattle.cut.specs.declared.Separation.the-variants.{NoCut, Drawn}
 use Rattle.cut.specs.Draw.{separation}
 use Rattle.little.specs.Little.{little32, little64, bytes32}
+use Rattle.recorded.specs.declared.cuts.Told.{Told}
 
-abbrev pub floatAt : List ℕ → ℕ → Float
-floatAt bytes at = ofBits binary32 (little32 bytes at)
+-- a row has an f32 for each channel; given are the lower ends of a box, its upper ends, a point and a word
+abbrev pub rowBytes : ℕ
+rowBytes = 4 * width
 
--- the floats of the eight channels, from byte `at` on
-unfoldable pub floatsAt : List ℕ → ℕ → List Float
-floatsAt b at = floatAt b at ∷ floatAt b (at + 4) ∷ floatAt b (at + 8) ∷ floatAt b (at + 12) ∷ floatAt b (at + 16) ∷ floatAt b (at + 20) ∷ floatAt b (at + 24) ∷ floatAt b (at + 28) ∷ []
+abbrev pub givenBytes : ℕ
+givenBytes = 3 * rowBytes + 8
+
+-- the floats of the first n channels, from byte `at` on
+unfoldable pub rowAt : List ℕ → ℕ → ℕ → List Float
+rowAt b at zero = []
+rowAt b at (suc n) = rowAt b at n ++ (ofBits binary32 (little32 b (at + 4 * n)) ∷ [])
 
 -- the ends of a side and a point's channel are coordinates, and the ends in order
 abbrev pub isReading : Float → Float → Float → Bool
@@ -29,28 +35,27 @@ unfoldable pub areReadings : List Float → List Float → List Float → ℕ �
 areReadings lo hi p zero = true
 areReadings lo hi p (suc n) = areReadings lo hi p n && isReading (channel lo n) (channel hi n) (channel p n)
 
--- a number, a cut's channel and its bits
-abbrev pub numbersOf : ℕ → Cut → List ℕ
-numbersOf n k = bytes32 n ++ bytes32 (k .dimension) ++ bytes32 (toBits binary32 (k .value))
-
 -- 1 for a cut that does not part, 2 for one that parts; for no cut all is 0
-unfoldable pub toldCut : Separation → List ℕ
-toldCut NoCut = numbersOf 0 (record { dimension = 0; value = ofBits binary32 0 })
-toldCut (Drawn k parts) = numbersOf (cond parts 2 1) k
+abbrev pub toldOf : Separation → Told
+toldOf NoCut = record { kind = 0; dimension = 0; bits = 0 }
+toldOf (Drawn k parts) = record { kind = 1 + cond parts 1 0; dimension = k .dimension; bits = toBits binary32 (k .value) }
 
--- the lower ends, the upper ends, the point and the word of 104 bytes; the cut that they draw, twice
+unfoldable pub toldCut : Separation → List ℕ
+toldCut drawn = bytes32 (toldOf drawn .kind) ++ bytes32 (toldOf drawn .dimension) ++ bytes32 (toldOf drawn .bits)
+
+-- the cut that is drawn of what is given, twice
 module _ (given : List ℕ) where
   abbrev pub low : List Float
-  low = floatsAt given 0
+  low = rowAt given 0 width
 
   abbrev pub high : List Float
-  high = floatsAt given 32
+  high = rowAt given rowBytes width
 
   abbrev pub point : List Float
-  point = floatsAt given 64
+  point = rowAt given (2 * rowBytes) width
 
   abbrev pub told : List ℕ
-  told = toldCut (separation 8 low high point (little64 given 96))
+  told = toldCut (separation width low high point (little64 given (3 * rowBytes)))
 
   unfoldable pub cutAnswer : List ℕ
-  cutAnswer = cond (eqb (length given) 104 && areReadings low high point 8) (told ++ told) []
+  cutAnswer = cond (eqb (length given) givenBytes && areReadings low high point width) (told ++ told) []

@@ -32,11 +32,15 @@ valueOf kind bits capacity =
     (cond (eqb kind 10) (toBits binary32 (single bits))
     (toBits binary64 (double bits))))))))
 
+-- the bytes of an input: its bits, and a capacity
+abbrev pub inputBytes : ℕ
+inputBytes = 12
+
 module _ (kind : ℕ) (given : List ℕ) where
-  -- the answers to the first n inputs, of 12 bytes each
+  -- the answers to the first n inputs
   unfoldable pub valuesTo : ℕ → List ℕ
   valuesTo zero = []
-  valuesTo (suc n) = valuesTo n ++ bytes64 (valueOf kind (little64 given (12 * n)) (little16 given (12 * n + 8)))
+  valuesTo (suc n) = valuesTo n ++ bytes64 (valueOf kind (little64 given (inputBytes * n)) (little16 given (inputBytes * n + 8)))
 
   abbrev pub floatsAnswer : List ℕ
-  floatsAnswer = valuesTo (length given / 12)
+  floatsAnswer = valuesTo (length given / inputBytes)

@@ -1,45 +1,12 @@
 // Recorded inputs of the functions of floats of `readings` and `little`, by the record's kind; each function's answer as a number of 64 bits.
 ghost use mathlib.Core.Path.{_≡_};
 ghost use Prim.Native.Nat.{_≤_, _<_};
-ghost use mathlib.Core.Bool.{cond};
 ghost use lib.ListN.{length};
-ghost use lib.Ieee.{binary64, toBits};
 ghost use Rattle.lines.specs.Lines.{Wrote};
 ghost use Rattle.recorded.specs.Floats.{valueOf, floatsAnswer};
 
-// An input has 12 bytes: its bits, and a capacity.
+// The bytes of an input: its bits, and a capacity.
 const INPUT: usize = 12;
-
-// The pattern of NaN.
-const NOT_A_NUMBER: u64 = 9221120237041090560;
-
-fn wide(x: u32) -> usize
-    ensures { λ r. ⌜ r ≡ x ⌝ }
-{
-    x as usize
-}
-
-fn wide64(x: u64) -> usize
-    ensures { λ r. ⌜ r ≡ x ⌝ }
-{
-    x as usize
-}
-
-fn bit(b: bool) -> usize
-    ensures { λ r. ⌜ r ≡ cond b 1 0 ⌝ }
-{
-    if b { 1 } else { 0 }
-}
-
-// The pattern of any f64.
-fn pattern_of_double(x: f64) -> u64
-    ensures { λ r. ⌜ r ≡ toBits binary64 x ⌝ }
-{
-    if x != x {
-        return NOT_A_NUMBER;
-    }
-    f64::to_bits(x)
-}
 
 // What the function of a kind answers to bits.
 fn value_of(kind: usize, bits: u64, capacity: u16) -> usize
@@ -48,27 +15,27 @@ fn value_of(kind: usize, bits: u64, capacity: u16) -> usize
     let x = little::float_of((bits % 4294967296) as u32);
     let y = little::double_of(bits);
     if kind == 4 {
-        return bit(readings::is_coordinate(x));
+        return crate::words::bit(readings::is_coordinate(x));
     }
     if kind == 5 {
-        return bit(readings::is_weight(x));
+        return crate::words::bit(readings::is_weight(x));
     }
     if kind == 6 {
-        return bit(readings::is_share(y));
+        return crate::words::bit(readings::is_share(y));
     }
     if kind == 7 {
-        return wide64(pattern_of_double(readings::factor(bits)));
+        return casts::wide64(little::pattern_of_double(readings::factor(bits)));
     }
     if kind == 8 {
-        return wide(little::pattern_of(readings::narrow(y)));
+        return casts::wide32(little::pattern_of(readings::narrow(y)));
     }
     if kind == 9 {
         return readings::cached_part(y, capacity);
     }
     if kind == 10 {
-        return wide(little::pattern_of(x));
+        return casts::wide32(little::pattern_of(x));
     }
-    wide64(pattern_of_double(y))
+    casts::wide64(little::pattern_of_double(y))
 }
 
 // The answers to all inputs, one after another.

@@ -1,15 +1,16 @@
 // A recorded sequence of an interval manager: a size, then calls, each answered with how many rows are in use after it and the top one; at some places all
-// 255 rows are looked at.
+// rows are looked at.
 use intervalstoremanager::Got;
 use intervalstoremanager::IntervalStoreManager;
 use intervalstoremanager::Released;
+use limits::BRANCHES;
+use limits::Free;
 ghost use mathlib.Core.Path.{_≡_};
 ghost use Prim.Native.Nat.{_+_, _*_, _≤_, _<_};
 ghost use lib.ListN.{length};
+ghost use Rattle.limits.specs.Limits.{branchLimit};
 ghost use Rattle.lines.specs.Lines.{Wrote};
-ghost use Rattle.recorded.specs.Sequences.{toldTop, rowsTo, gotten, taken, called, rowsCalled, Turned, sequenceAnswer};
-
-type Rows = [[u16; 2]; IntervalStoreManager::INTERVALS];
+ghost use Rattle.recorded.specs.Sequences.{lookBytes, topOf, rowsTo, gotten, taken, called, rowsCalled, Told, Turned, sequenceAnswer};
 
 // What is given for a `get`, and for a look at all rows; any other number is released.
 const GET: u16 = 65535;
@@ -29,12 +30,6 @@ pub struct Called {
 pub struct Reached {
     pub manager: IntervalStoreManager,
     pub place: usize,
-}
-
-fn index(x: u16) -> usize
-    ensures { λ r. ⌜ r ≡ x ⌝ }
-{
-    x as usize
 }
 
 fn after_get(manager: IntervalStoreManager, got: Got) -> Called
@@ -68,7 +63,7 @@ fn after_release(manager: IntervalStoreManager, number: u16, released: Released)
     }
 }
 
-fn call(manager: IntervalStoreManager, number: u16, rows: &mut Rows) -> Called
+fn call(manager: IntervalStoreManager, number: u16, rows: &mut Free) -> Called
     ensures { λ r. ⌜ r ≡ called manager (now (rows .entry)) number ⌝ ∗ ⌜ now (rows .exit) ≡ rowsCalled manager (now (rows .entry)) number ⌝ }
 {
     if number == GET {
@@ -77,39 +72,43 @@ fn call(manager: IntervalStoreManager, number: u16, rows: &mut Rows) -> Called
     after_release(manager, number, manager.release(rows, number))
 }
 
-// Writes the answer, the rows in use and the top one, or zeros where there is none.
-fn put_top(
-    out: &mut [u8],
-    at: usize,
-    answer: u16,
-    manager: IntervalStoreManager,
-    rows: &Rows,
-) -> usize
-    requires { ⌜ at < 10000000000 ⌝ }
-    ensures wrote { λ r. ⌜ Wrote (now (out .entry)) at (toldTop answer manager (now (rows .entry))) r (now (out .exit)) ⌝ }
-    ensures next { λ r. ⌜ r ≡ at + 8 ⌝ }
+// The top row, zeros where there is none.
+fn top_of(manager: IntervalStoreManager, rows: &Free) -> [u16; 2]
+    ensures { λ r. ⌜ r ≡ topOf manager (now (rows .entry)) ⌝ }
 {
-    let p = crate::words::put_pair(out, at, answer, manager.last_in_use);
-    let n = index(manager.last_in_use);
+    let n = casts::wide16(manager.last_in_use);
     if n == 0 {
-        return crate::words::put_word(out, p, 0);
+        return [0, 0];
     }
-    if IntervalStoreManager::INTERVALS < n {
-        return crate::words::put_word(out, p, 0);
+    if BRANCHES < n {
+        return [0, 0];
     }
-    crate::words::put_pair(out, p, rows[n - 1][0], rows[n - 1][1])
+    rows[n - 1]
+}
+
+// Writes what a call answers, the rows in use after it and the top one.
+fn put_call(out: &mut [u8], at: usize, done: Called, rows: &Free) -> Reached
+    requires { ⌜ at < 10000000000 ⌝ }
+    ensures { λ r. ⌜ Told done (now (rows .entry)) at (now (out .entry)) r (now (out .exit)) ⌝ }
+{
+    let manager = done.manager;
+    let p = crate::words::put_pair(out, at, [done.answer, manager.last_in_use]);
+    Reached {
+        manager,
+        place: crate::words::put_pair(out, p, top_of(manager, rows)),
+    }
 }
 
 // Writes all rows, those that are not in use too.
-fn put_rows(out: &mut [u8], at: usize, rows: &Rows) -> usize
+fn put_rows(out: &mut [u8], at: usize, rows: &Free) -> usize
     requires { ⌜ at < 10000000000 ⌝ }
-    ensures wrote { λ r. ⌜ Wrote (now (out .entry)) at (rowsTo (now (rows .entry)) 255) r (now (out .exit)) ⌝ }
-    ensures next { λ r. ⌜ r ≡ at + 1020 ⌝ }
+    ensures wrote { λ r. ⌜ Wrote (now (out .entry)) at (rowsTo (now (rows .entry)) branchLimit) r (now (out .exit)) ⌝ }
+    ensures next { λ r. ⌜ r ≡ at + lookBytes ⌝ }
 {
     let mut p = at;
     let mut k: usize = 0;
-    while k < IntervalStoreManager::INTERVALS {
-        p = crate::words::put_pair(out, p, rows[k][0], rows[k][1]);
+    while k < BRANCHES {
+        p = crate::words::put_pair(out, p, rows[k]);
         k += 1;
     }
     p
@@ -121,22 +120,18 @@ fn turn(
     at: usize,
     number: u16,
     manager: IntervalStoreManager,
-    rows: &mut Rows,
+    rows: &mut Free,
 ) -> Reached
     requires { ⌜ at < 10000000000 ⌝ }
     ensures { λ r. ⌜ Turned manager (now (rows .entry)) number at (now (out .entry)) r (now (rows .exit)) (now (out .exit)) ⌝ }
 {
     if number == ROWS {
-        let p = put_rows(out, at, rows);
-        return Reached { manager, place: p };
+        return Reached {
+            manager,
+            place: put_rows(out, at, rows),
+        };
     }
-    let done = call(manager, number, rows);
-    let after = done.manager;
-    let p = put_top(out, at, done.answer, after, rows);
-    Reached {
-        manager: after,
-        place: p,
-    }
+    put_call(out, at, call(manager, number, rows), rows)
 }
 
 // The whole sequence: the size, then its calls in turn.
@@ -149,12 +144,13 @@ pub fn answer_sequence(given: &[u8], out: &mut [u8]) -> usize
     if n == 0 {
         return 0;
     }
-    let mut rows = [[0u16; 2]; IntervalStoreManager::INTERVALS];
+    let mut rows = [[0u16; 2]; BRANCHES];
     let manager = IntervalStoreManager::new(little::u16_at(given, 0), &mut rows);
-    let mut state = Reached {
+    let made = Called {
+        answer: manager.get_capacity(),
         manager,
-        place: put_top(out, 0, manager.get_capacity(), manager, &rows),
     };
+    let mut state = put_call(out, 0, made, &rows);
     let mut i: usize = 1;
     while i < n {
         let number = little::u16_at(given, 2 * i);

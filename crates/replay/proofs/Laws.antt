@@ -1,21 +1,24 @@
--- The answer at each kind, one more record counted, and how far the report goes. Laws.
-use mathlib.Core.Path.{_≡_, ap, _∙_}
-use mathlib.Core.Bool.{Bool, true, false, cond, false≢true}
+-- The answer at each kind, what lies beyond a part that is read, and what is known of a record that begins well. Laws.
+use mathlib.Core.Path.{_≡_, sym, ap, _∙_}
+use mathlib.Core.Bool.{Bool, true, _&&_}
 use mathlib.Core.List.{List, _++_}
-use Prim.Native.Nat.{ℕ, _+_, _≤_}
+use Prim.Native.Nat.{ℕ}
 use native.Mathlib.Omega.{arith}
 use borrow.Author.Tests.{ne-eqb}
-use lib.ListN.{length, getD, set, drop}
+use lib.Dec.{T, ltb, leb, ltb→lt, leb→le}
+use lib.ListN.{length, drop}
 use lib.Seq.{drop-at}
+use lib.Ieee.Fits.{and-l, and-r}
+use Rattle.readings.proofs.Tests.{yes}
 use Rattle.lines.specs.Lines.{Wrote}
 use Rattle.run.specs.Outcome.{outcome}
 use Rattle.treelist_text.specs.Output.{output}
 use Rattle.recorded.specs.Cuts.{cutAnswer}
 use Rattle.recorded.specs.Sequences.{sequenceAnswer}
 use Rattle.recorded.specs.Floats.{floatsAnswer}
-use Rattle.replay.specs.declared.State.{State}
-use Rattle.replay.specs.Answers.{written, answered, more}
-use Rattle.replay.specs.States.{Kept, Goes}
+use Rattle.replay.specs.Answers.{kinds, room, written, answered}
+use Rattle.replay.specs.declared.Head.{Head}
+use Rattle.replay.specs.Heads.{Fits}
 
 -- what is written is all that is given
 pub all-written : {l : List ℕ} {s : List ℕ} {r : ℕ} {m : List ℕ} → Wrote l 0 s r m → _≡_ {A = ℕ × List ℕ} (r, m) (written s l)
@@ -42,20 +45,16 @@ module _ (k : ℕ) (given lent : List ℕ) where
   unfolding answered
   at-others h₀ h₁ h₂ h₃ = rw (ne-eqb k 0 h₀, ne-eqb k 1 h₁, ne-eqb k 2 h₂, ne-eqb k 3 h₃)
 
--- COUNTS
-pub counted : (b : Bool) (counts after : List ℕ) (k : ℕ) → b ≡ true → after ≡ set counts k (more (getD counts k 0)) → after ≡ cond b (set counts k (more (getD counts k 0))) counts
-counted b counts after k h e = rw h e
-
-pub not-counted : (b : Bool) (counts : List ℕ) (k : ℕ) → b ≡ false → counts ≡ cond b (set counts k (more (getD counts k 0))) counts
-not-counted b counts k h = rw h
-
 -- what lies beyond a part that keeps its length
 pub beyond : (x b : List ℕ) (n : ℕ) → length x ≡ n → drop n (x ++ drop n b) ≡ drop n b
 beyond x b n h = drop-at x (drop n b) n h
 
--- THE REPORT
-pub going : {s : State} → Kept s → Goes s
-going K = record { on = λ e. K; last = omega (arith, K .few, K .short) }
-
-pub at-end : {p d : ℕ} → p ≤ 10000 → Goes (record { place = p; differ = d; going = false })
-at-end h = record { on = λ e. absurd (false≢true e); last = h }
+pub fits : (h : Head) (r : Bool) → r ≡ (ltb (h .kind) kinds && (leb (h .size) room && leb (h .count) room)) → r ≡ true → Fits h
+fits h r e t =
+    let all : T (ltb (h .kind) kinds && (leb (h .size) room && leb (h .count) room)) = yes (sym e ∙ t) in
+    let both : T (leb (h .size) room && leb (h .count) room) = and-r (ltb (h .kind) kinds) _ all in
+    record {
+      kind = ltb→lt _ _ (and-l (ltb (h .kind) kinds) _ all);
+      size = leb→le _ _ (and-l (leb (h .size) room) _ both);
+      count = leb→le _ _ (and-r (leb (h .size) room) _ both);
+    }

@@ -1,15 +1,22 @@
--- What the port answers to what a record gives, and one more record counted. Definitions.
-use mathlib.Core.Bool.{cond}
-use mathlib.Core.List.{List}
+-- The kinds of records and their room, what the port answers to what a record gives, and one more record counted. Definitions.
+use mathlib.Core.Bool.{Bool, cond}
+use mathlib.Core.List.{List, [], _∷_}
 use Prim.Native.Nat.{ℕ, _+_, _%_, _^_}
 use lib.Dec.{eqb}
-use lib.ListN.{length}
+use lib.ListN.{length, getD}
 use lib.Seq.{sets}
 use Rattle.run.specs.Outcome.{outcome}
 use Rattle.treelist_text.specs.Output.{output}
 use Rattle.recorded.specs.Cuts.{cutAnswer}
 use Rattle.recorded.specs.Sequences.{sequenceAnswer}
 use Rattle.recorded.specs.Floats.{floatsAnswer}
+
+-- the kinds are the numbers below this; no record is given more bytes than this, or answered with more
+abbrev pub kinds : ℕ
+kinds = 12
+
+abbrev pub room : ℕ
+room = 16384
 
 -- bytes written from the start of what is lent, as far as it goes, and how many they are
 abbrev pub written : List ℕ → List ℕ → ℕ × List ℕ
@@ -27,3 +34,7 @@ answered kind given lent =
 -- One more, as a u64 has it: no input has so many records that it starts again at 0.
 abbrev pub more : ℕ → ℕ
 more n = (n + 1) % 2 ^ 64
+
+-- how many records are compared, and how many of them agree
+abbrev pub counted : List ℕ → Bool → List ℕ
+counted counts same = more (getD counts 0 0) ∷ cond same (more (getD counts 1 0)) (getD counts 1 0) ∷ []

@@ -1,4 +1,3 @@
 pub mod Agreeing
 pub mod Answers
-pub mod Lines
-pub mod States
+pub mod Heads

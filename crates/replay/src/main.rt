@@ -1,17 +1,16 @@
 // Replays recorded answers of the Rust (RECORDED.md): what the port returns and writes for each is held to what was recorded, and standard output says
 // for each kind how many agree. What differs, and a record that cannot be replayed, is said too.
-mod report;
-
 use libc::STDIN_FILENO;
 use libc::STDOUT_FILENO;
 ghost use mathlib.Core.Path.{_≡_};
-ghost use mathlib.Core.Bool.{true, _&&_, cond};
-ghost use Prim.Native.Nat.{_+_, _≤_, _<_};
-ghost use lib.Dec.{eqb};
+ghost use mathlib.Core.Bool.{_&&_};
+ghost use Prim.Native.Nat.{_≤_, _<_};
+ghost use lib.Dec.{eqb, ltb, leb};
+ghost use mathlib.Core.List.{[]};
 ghost use lib.ListN.{length, getD, drop, set};
 ghost use Rattle.replay.specs.Agreeing.{agreeing};
-ghost use Rattle.replay.specs.Answers.{answered, more};
-ghost use Rattle.replay.specs.States.{Kept, Goes};
+ghost use Rattle.replay.specs.Answers.{kinds, room, answered, counted};
+ghost use Rattle.replay.specs.Heads.{Fits};
 
 // The kinds of records are the numbers below this.
 const KINDS: usize = 12;
@@ -22,19 +21,29 @@ const ROOM: usize = 16384;
 // What is lent for an answer, before the call.
 const LENT: u8 = 170;
 
-// What a record begins with: its kind, the length of what is given, the number returned and the length of what is written.
+// The bytes that a record begins with.
 const HEAD: usize = 16;
 
 // So many records that differ are said; the others are only counted.
 const SAID: usize = 20;
 
-// The report has at most 20 lines on differences, one more and those of the kinds.
-const REPORT: usize = 16384;
+// Room for a space and a number.
+const FIELD: usize = 21;
 
-// How far the replay has come: the next place of the report, how many records differ, and whether it goes on.
+// Of each kind, how many records are compared and how many of them agree.
+type Counts = [[usize; 2]; KINDS];
+
+// What a record begins with: its kind, the length of what is given, the number returned and the length of what is written.
+pub struct Head {
+    pub kind: usize,
+    pub size: usize,
+    pub returned: usize,
+    pub count: usize,
+}
+
+// How many records that differ are said, and whether the replay goes on.
 pub struct State {
-    pub place: usize,
-    pub differ: usize,
+    pub said: usize,
     pub going: bool,
 }
 
@@ -46,6 +55,24 @@ fn read_bytes(bytes: &mut [u8], n: usize) -> usize
     ensures beyond { λ r. ⌜ drop n (now (bytes .exit)) ≡ drop n (now (bytes .entry)) ⌝ }
 {
     io::read_full(STDIN_FILENO, &mut bytes[..n])
+}
+
+// Prints a number, after a space.
+fn say_number(n: usize) {
+    let mut field = [b' '; FIELD];
+    let end = lines::put_decimal(&mut field, 1, n);
+    io::write_all(STDOUT_FILENO, &field[..end]);
+}
+
+// Prints a line: a word, and numbers.
+fn say(word: &[u8], numbers: &[usize]) {
+    io::write_all(STDOUT_FILENO, word);
+    let mut i: usize = 0;
+    while i < numbers.len() {
+        say_number(numbers[i]);
+        i += 1;
+    }
+    io::write_all(STDOUT_FILENO, b"\n");
 }
 
 // How many bytes at the start of both are the same.
@@ -69,7 +96,7 @@ fn agreeing_bytes(x: &[u8], y: &[u8]) -> usize
 // What the port answers to what is given by a record of a kind.
 // Wrong here: one kind's answer for another's.
 fn answer(kind: usize, given: &[u8], out: &mut [u8]) -> usize
-    requires { ⌜ length (now given) ≤ 16384 ⌝ }
+    requires { ⌜ length (now given) ≤ room ⌝ }
     ensures { λ r. ⌜ (r, now (out .exit)) ≡ answered kind (now (given .entry)) (now (out .entry)) ⌝ }
 {
     if kind == 0 {
@@ -90,295 +117,161 @@ fn answer(kind: usize, given: &[u8], out: &mut [u8]) -> usize
 // Whether the port returned the same number, and every byte lent is the same, those beyond the answer too.
 // Wrong here: only the bytes of the answer looked at.
 fn agrees(returned: usize, got: usize, same: usize) -> bool
-    ensures { λ r. ⌜ r ≡ eqb returned got && eqb same 16384 ⌝ }
+    ensures { λ r. ⌜ r ≡ eqb returned got && eqb same room ⌝ }
 {
-    if returned != got {
-        return false;
-    }
-    same == ROOM
+    (returned == got) & (same == ROOM)
 }
 
-// No input has so many records that a count starts again at 0.
-fn count(counts: &mut [usize; KINDS], kind: usize)
-    requires { ⌜ kind < 12 ⌝ }
-    ensures { λ _. ⌜ now (counts .exit) ≡ set (now (counts .entry)) kind (more (getD (now (counts .entry)) kind 0)) ⌝ }
-{
-    counts[kind] = std::num::wrapping_add_usize(counts[kind], 1);
-}
-
-// One record more of a kind is compared, and counted as one that agrees only if it does.
+// One record more is compared, and counted as one that agrees only if it does. No input has so many records that a count starts again at 0.
 // Wrong here: a difference counted as agreement.
-fn tally(compared: &mut [usize; KINDS], agree: &mut [usize; KINDS], kind: usize, same: bool)
-    requires { ⌜ kind < 12 ⌝ }
-    ensures compared { λ _. ⌜ now (compared .exit) ≡ set (now (compared .entry)) kind (more (getD (now (compared .entry)) kind 0)) ⌝ }
-    ensures agree { λ _. ⌜ now (agree .exit) ≡ cond same (set (now (agree .entry)) kind (more (getD (now (agree .entry)) kind 0))) (now (agree .entry)) ⌝ }
+fn count(counts: [usize; 2], same: bool) -> [usize; 2]
+    ensures { λ r. ⌜ r ≡ counted counts same ⌝ }
 {
-    count(compared, kind);
-    if !same {
-        return;
+    let compared = std::num::wrapping_add_usize(counts[0], 1);
+    if same {
+        return [compared, std::num::wrapping_add_usize(counts[1], 1)];
     }
-    count(agree, kind);
+    [compared, counts[1]]
 }
 
-// Says that a record differs, if not too many did.
-fn told(
-    number: usize,
-    before: State,
-    returned: usize,
-    got: usize,
-    same: usize,
-    report: &mut [u8],
-) -> State
-    requires { ⌜ Kept before ⌝ }
-    ensures { λ r. ⌜ Goes r ⌝ }
+// The same in the counts of all kinds.
+fn tally(counts: &mut Counts, kind: usize, same: bool)
+    requires { ⌜ kind < kinds ⌝ }
+    ensures { λ _. ⌜ now (counts .exit) ≡ set (now (counts .entry)) kind (counted (getD (now (counts .entry)) kind []) same) ⌝ }
 {
-    if before.differ == SAID {
+    counts[kind] = count(counts[kind], same);
+}
+
+// Says that a record differs, if not too many did: what was returned and what was to be, and how many bytes of the buffer are as recorded, from its
+// start on.
+fn told(number: usize, before: State, returned: usize, got: usize, same: usize) -> State {
+    if before.said >= SAID {
         return before;
     }
-    let place = report::put_difference(report, before.place, number, returned, got, same);
+    say(b"differs", &[number, returned, got, same]);
     State {
-        place,
-        differ: before.differ + 1,
+        said: before.said + 1,
         going: true,
     }
 }
 
-// Says why the replay ends before the input does.
-fn ended(before: State, label: &[u8], number: usize, report: &mut [u8]) -> State
-    requires { ⌜ Kept before × (length (now label) ≤ 64) ⌝ }
-    ensures { λ r. ⌜ Goes r ⌝ }
-{
-    let p = report::put_labelled(report, before.place, label, number);
-    let place = lines::put_bytes(report, p, b"\n");
+// The end of the replay, with a word on it.
+fn ended(word: &[u8], number: usize) -> State {
+    say(word, &[number]);
     State {
-        place,
-        differ: before.differ,
+        said: 0,
         going: false,
     }
 }
 
-// The end of the input, which has to have a record.
-fn stopped(before: State, number: usize, report: &mut [u8]) -> State
-    requires { ⌜ Kept before ⌝ }
-    ensures { λ r. ⌜ Goes r ⌝ }
-{
+// The end of the input within a record, or before the first.
+fn stopped(number: usize, came: usize) -> State {
+    if came > 0 {
+        return ended(b"short", number);
+    }
     if number == 0 {
-        return ended(before, b"the input is empty: record ", number, report);
+        return ended(b"empty", number);
     }
     State {
-        place: before.place,
-        differ: before.differ,
+        said: 0,
         going: false,
+    }
+}
+
+// What a record begins with, from its bytes.
+fn head_of(bytes: &[u8]) -> Head
+    requires { ⌜ length (now bytes) ≡ 16 ⌝ }
+{
+    Head {
+        kind: runlayout::number_at(bytes, 0),
+        size: runlayout::number_at(bytes, 1),
+        returned: runlayout::number_at(bytes, 2),
+        count: runlayout::number_at(bytes, 3),
     }
 }
 
 // Whether a record may begin so.
-fn is_head(kind: usize, size: usize, count: usize) -> bool
-    ensures { λ r. ⌜ (r ≡ true → (kind < 12) × (size ≤ 16384) × (count ≤ 16384)) ⌝ }
+fn is_head(head: Head) -> bool
+    ensures { λ r. ⌜ r ≡ ltb (head .kind) kinds && (leb (head .size) room && leb (head .count) room) ⌝ }
 {
-    if kind >= KINDS {
-        return false;
-    }
-    if size > ROOM {
-        return false;
-    }
-    count <= ROOM
+    (head.kind < KINDS) & ((head.size <= ROOM) & (head.count <= ROOM))
 }
 
 // Answers one record and holds the answer to what was recorded.
 fn replayed(
     number: usize,
     before: State,
-    kind: usize,
+    head: Head,
     given: &[u8],
-    size: usize,
-    returned: usize,
     expected: &[u8; ROOM],
-    compared: &mut [usize; KINDS],
-    agree: &mut [usize; KINDS],
-    report: &mut [u8],
+    counts: &mut Counts,
 ) -> State
-    requires { ⌜ Kept before × (kind < 12) × (size ≤ 16384) × (size ≤ length (now given)) ⌝ }
-    ensures { λ r. ⌜ Goes r ⌝ }
+    requires { ⌜ (head .kind < kinds) × (length (now given) ≤ room) ⌝ }
 {
     let mut answers = [LENT; ROOM];
-    let got = answer(kind, &given[..size], &mut answers);
+    let got = answer(head.kind, given, &mut answers);
     let same = agreeing_bytes(expected, &answers);
-    let is_same = agrees(returned, got, same);
-    tally(compared, agree, kind, is_same);
+    let is_same = agrees(head.returned, got, same);
+    tally(counts, head.kind, is_same);
     if is_same {
         return before;
     }
-    told(number, before, returned, got, same, report)
+    told(number, before, head.returned, got, same)
 }
 
 // Reads what a record gives and what was recorded, and replays it.
-fn replay_body(
-    number: usize,
-    before: State,
-    kind: usize,
-    size: usize,
-    returned: usize,
-    count: usize,
-    compared: &mut [usize; KINDS],
-    agree: &mut [usize; KINDS],
-    report: &mut [u8],
-) -> State
-    requires { ⌜ Kept before × (kind < 12) × (size ≤ 16384) × (count ≤ 16384) ⌝ }
-    ensures { λ r. ⌜ Goes r ⌝ }
+fn replay_body(number: usize, before: State, head: Head, counts: &mut Counts) -> State
+    requires { ⌜ Fits head ⌝ }
 {
     let mut given = [0u8; ROOM];
     let mut expected = [LENT; ROOM];
-    if read_bytes(&mut given, size) < size {
-        return ended(before, b"short: record ", number, report);
+    let size = head.size;
+    let came = read_bytes(&mut given, size);
+    let wrote = read_bytes(&mut expected, head.count);
+    if came + wrote < size + head.count {
+        return stopped(number, HEAD);
     }
-    if read_bytes(&mut expected, count) < count {
-        return ended(before, b"short: record ", number, report);
-    }
-    replayed(
-        number,
-        before,
-        kind,
-        &given,
-        size,
-        returned,
-        &expected,
-        compared,
-        agree,
-        report,
-    )
+    replayed(number, before, head, &given[..size], &expected, counts)
 }
 
 // The replay after one more record, or at its end.
-fn replay_one(
-    number: usize,
-    before: State,
-    compared: &mut [usize; KINDS],
-    agree: &mut [usize; KINDS],
-    report: &mut [u8],
-) -> State
-    requires { ⌜ Kept before ⌝ }
-    ensures { λ r. ⌜ Goes r ⌝ }
-{
-    let mut head = [0u8; HEAD];
-    let came = read_bytes(&mut head, HEAD);
-    if came == 0 {
-        return stopped(before, number, report);
-    }
+fn replay_one(number: usize, before: State, counts: &mut Counts) -> State {
+    let mut bytes = [0u8; HEAD];
+    let came = read_bytes(&mut bytes, HEAD);
     if came < HEAD {
-        return ended(before, b"short: record ", number, report);
+        return stopped(number, came);
     }
-    let kind = runlayout::number_at(&head, 0);
-    let size = runlayout::number_at(&head, 1);
-    let returned = runlayout::number_at(&head, 2);
-    let count = runlayout::number_at(&head, 3);
-    if is_head(kind, size, count) {
-        return replay_body(
-            number,
-            before,
-            kind,
-            size,
-            returned,
-            count,
-            compared,
-            agree,
-            report,
-        );
+    let head = head_of(&bytes);
+    if is_head(head) {
+        return replay_body(number, before, head, counts);
     }
-    ended(before, b"malformed: record ", number, report)
+    ended(b"malformed", number)
 }
 
 // A proved loop has to end, and nothing says that the input does; so records are counted up to a number that no input has.
-fn replay_all(compared: &mut [usize; KINDS], agree: &mut [usize; KINDS], report: &mut [u8]) -> usize
-    ensures { λ r. ⌜ r ≤ 10000 ⌝ }
-{
+fn replay_all(counts: &mut Counts) {
     let mut state = State {
-        place: 0,
-        differ: 0,
+        said: 0,
         going: true,
     };
     let mut number: usize = 0;
     while number < usize::MAX && state.going {
-        state = replay_one(number, state, compared, agree, report);
+        state = replay_one(number, state, counts);
         number += 1;
     }
-    state.place
-}
-
-// The line of a function of floats.
-fn put_function(report: &mut [u8], at: usize, kind: usize, compared: usize, agree: usize) -> usize
-    requires { ⌜ at < 10000000000 ⌝ }
-    ensures { λ r. ⌜ r ≤ at + 252 ⌝ }
-{
-    if kind == 4 {
-        return report::put_count(report, at, b"is_coordinate: ", compared, agree);
-    }
-    if kind == 5 {
-        return report::put_count(report, at, b"is_weight: ", compared, agree);
-    }
-    if kind == 6 {
-        return report::put_count(report, at, b"is_share: ", compared, agree);
-    }
-    if kind == 7 {
-        return report::put_count(report, at, b"factor: ", compared, agree);
-    }
-    if kind == 8 {
-        return report::put_count(report, at, b"narrow: ", compared, agree);
-    }
-    if kind == 9 {
-        return report::put_count(report, at, b"cached_part: ", compared, agree);
-    }
-    if kind == 10 {
-        return report::put_count(report, at, b"float_of, pattern_of: ", compared, agree);
-    }
-    report::put_count(report, at, b"double_of: ", compared, agree)
 }
 
 // The line of a kind.
-fn put_kind(report: &mut [u8], at: usize, kind: usize, compared: usize, agree: usize) -> usize
-    requires { ⌜ at < 10000000000 ⌝ }
-    ensures { λ r. ⌜ r ≤ at + 252 ⌝ }
-{
-    if kind == 0 {
-        return report::put_count(report, at, b"cut choices: ", compared, agree);
-    }
-    if kind == 1 {
-        return report::put_count(report, at, b"interval managers: ", compared, agree);
-    }
-    if kind == 2 {
-        return report::put_count(report, at, b"byte runs: ", compared, agree);
-    }
-    if kind == 3 {
-        return report::put_count(report, at, b"texts: ", compared, agree);
-    }
-    put_function(report, at, kind, compared, agree)
-}
-
-// The lines of all kinds.
-fn put_kinds(
-    compared: &[usize; KINDS],
-    agree: &[usize; KINDS],
-    report: &mut [u8],
-    at: usize,
-) -> usize
-    requires { ⌜ at ≤ 10000 ⌝ }
-{
-    let mut p = at;
-    let mut kind: usize = 0;
-    while kind < KINDS {
-        p = put_kind(report, p, kind, compared[kind], agree[kind]);
-        kind += 1;
-    }
-    p
+fn say_kind(kind: usize, counts: [usize; 2]) {
+    say(b"kind", &[kind, counts[0], counts[1]]);
 }
 
 fn main() {
-    let mut compared = [0usize; KINDS];
-    let mut agree = [0usize; KINDS];
-    let mut report = [0u8; REPORT];
-    let at = replay_all(&mut compared, &mut agree, &mut report);
-    let n = put_kinds(&compared, &agree, &mut report, at);
-    if n <= REPORT {
-        io::write_all(STDOUT_FILENO, &report[..n]);
+    let mut counts = [[0usize; 2]; KINDS];
+    replay_all(&mut counts);
+    let mut kind: usize = 0;
+    while kind < KINDS {
+        say_kind(kind, counts[kind]);
+        kind += 1;
     }
 }

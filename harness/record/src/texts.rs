@@ -41,12 +41,13 @@ impl Entry {
     }
 }
 
-/// All entries: document 01's text, texts in form, makings at their limits, filled texts, each
-/// break of a rule, and changed texts.
+/// All entries: document 01's text, small texts, texts in form, makings at their limits, filled
+/// texts, each break of a rule, and changed texts.
 pub fn entries() -> Vec<Entry> {
     let mut words = Words::new(SEED);
     let words = &mut words;
     let mut given = vec![generate::document()];
+    given.extend(generate::smalls());
     given.extend((0..WHOLE).map(|n| generate::whole(words, [300, 1_000, MOST_TEXT][n % 3])));
     given.extend((0..FULL).map(|_| generate::full(words, MOST_TEXT)));
     given.extend((0..MAKINGS.len()).map(|n| generate::made(n, words)));

@@ -16,31 +16,16 @@ id dimension cut left right mass
 const BEFORE: &str = "dimensions capacity cache16\n1 4 16\nop index rest\n";
 
 /// Op rows, and how many they are or the first bad one.
-const ROWS: [(&str, Result<usize, usize>); 24] = [
+const ROWS: [(&str, Result<usize, usize>); 9] = [
     ("", Ok(0)),
     ("0 0 0\n1 0\n2 0\n", Ok(3)),
     ("0 0\n0 0 1 2 3 4 5 6 7 8 9 10 -11\n", Ok(2)),
     ("1 0 8000000000000000 FFFFFFFFFFFFFFFF\n", Ok(1)),
     ("0 0 999999999\n0 999999999 -999999999\n", Ok(2)),
-    ("0 0 1000000000\n", Err(1)),
-    ("0 0 0\n1 0", Err(2)),
     ("0 0 0\n\n", Err(2)),
     ("\n", Err(1)),
     ("0 0 0\n3 0\n\n", Err(2)),
-    ("0 0 0\r\n", Err(1)),
-    ("0\t0 0\n", Err(1)),
-    ("0 0 0\0\n", Err(1)),
-    ("2 0 0\n", Err(1)),
-    ("2 0 \n", Err(1)),
-    ("0\n", Err(1)),
-    ("0  0 0\n", Err(1)),
-    (" 0 0 0\n", Err(1)),
-    ("0 0 -0\n", Err(1)),
-    ("0 0 +1\n", Err(1)),
-    ("0 -1 0\n", Err(1)),
     ("1 0 800000000000000\n", Err(1)),
-    ("1 0 80000000000000000\n", Err(1)),
-    ("1 0 abcdefabcdefabcd\n", Err(1)),
 ];
 
 /// Reads `count` generated texts; the answer is how many of them are in form.

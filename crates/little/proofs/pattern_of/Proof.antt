@@ -1,10 +1,8 @@
 -- `little::pattern_of` meets its contract: what differs from itself is NaN. Assumes nothing.
 use borrow.Author.Needs.{needs}
-use mathlib.Core.Path.{_≡_, refl, sym, ap, _∙_, subst}
-use mathlib.Core.Bool.{Bool, false, not}
-use lib.Dec.{T}
-use lib.Ieee.{Float, nan, inf, fin, binary32, isNan, ne, toBits}
-use lib.Ieee.Compare.{differs-from-itself}
+use mathlib.Core.Path.{_≡_, refl, _∙_}
+use lib.Ieee.{nan, binary32, toBits}
+use Rattle.little.proofs.Patterns.{number, nan-pattern}
 use Rattle.little.proofs.pattern_of.Statement.{statement}
 use Rattle.little.proofs.pattern_of.Tie as tie
 
@@ -12,14 +10,8 @@ of-nan : 2143289344 ≡ toBits binary32 nan
 unfolding toBits
 of-nan = refl
 
-number : (x : Float) → ne x x ≡ false → T (not (isNan x))
-unfolding isNan ne
-number nan h = subst (λ (b : Bool). T (not b)) (sym h) tt
-number (inf s) h = tt
-number (fin s m e) h = tt
-
 returns : tie.Need-returns
-returns c = of-nan ∙ ap (toBits binary32) (sym (differs-from-itself (c .before .args .x) (subst T (sym (c .if1 .taken)) tt)))
+returns c = of-nan ∙ nan-pattern binary32 (c .before .args .x) (c .if1 .taken)
 
 float-to-bits-result : tie.Need-float-to-bits-result
 float-to-bits-result c = number (c .before .args .x) (c .if1 .left)

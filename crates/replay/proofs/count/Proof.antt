@@ -1,36 +1,37 @@
--- `count` meets its contract. Assumes nothing.
-use mathlib.Core.Path.{ap}
-use Prim.Native.Nat.{ℕ}
-use lib.ListN.{set}
+-- `count` meets its contract, by whether the record agrees. Assumes nothing.
 use borrow.Author.Needs.{needs}
 use Rattle.replay.proofs.count.Statement.{statement}
 use Rattle.replay.proofs.count.Tie as tie
 
-mul-wrapping-add-usize : tie.Need-mul-wrapping-add-usize
-mul-wrapping-add-usize c = search needs
-
-element-copy-out-wrapping-add-usize : tie.Need-element-copy-out-wrapping-add-usize
-element-copy-out-wrapping-add-usize c = search needs
+array-read-wrapping-add-usize : tie.Need-array-read-wrapping-add-usize
+array-read-wrapping-add-usize c = search needs
 
 wrapping-add-usize-requires : tie.Need-wrapping-add-usize-requires
 wrapping-add-usize-requires c κs = search needs
 
-mul-counts : tie.Need-mul-counts
-mul-counts c = search needs
+array-read-wrapping-add-usize-2 : tie.Need-array-read-wrapping-add-usize-2
+array-read-wrapping-add-usize-2 c = search needs
 
-element-write-counts : tie.Need-element-write-counts
-element-write-counts c = search needs
+wrapping-add-usize-requires-2 : tie.Need-wrapping-add-usize-requires-2
+wrapping-add-usize-requires-2 c κs = search needs
 
 returns : tie.Need-returns
-returns c = ap (λ (n : ℕ). set (c .before .before .args .counts .now) (c .before .before .args .kind) n) (c .wrapping-add-usize .ensures)
+returns c = rw (c .before .if1 .taken, c .before .before .wrapping-add-usize .ensures, c .wrapping-add-usize2 .ensures)
+
+array-read-t7 : tie.Need-array-read-t7
+array-read-t7 c = search needs
+
+returns-2 : tie.Need-returns-2
+returns-2 c = rw (c .if1 .left, c .before .wrapping-add-usize .ensures)
 
 pub count-spec : {M : Type 1} → statement M
 count-spec =
     tie.close
     (tie.spec
-    mul-wrapping-add-usize
-    element-copy-out-wrapping-add-usize
+    array-read-wrapping-add-usize
     wrapping-add-usize-requires
-    mul-counts
-    element-write-counts
-    returns)
+    array-read-wrapping-add-usize-2
+    wrapping-add-usize-requires-2
+    returns
+    array-read-t7
+    returns-2)

@@ -1,48 +1,55 @@
 -- `main` is safe and ends. Assumes nothing.
-use mathlib.Core.Path.{sym}
-use native.Mathlib.Omega.{arith}
-use lib.Seq.{length-take-le}
+use Prim.Native.Nat.{_-_, _≤_}
+use Rattle.replay.specs.Answers.{kinds}
 use borrow.Author.Needs.{needs}
 use Rattle.replay.proofs.main.Statement.{statement}
 use Rattle.replay.proofs.main.Tie as tie
 
-slice-aggregate-replay-all : tie.Need-slice-aggregate-replay-all
-slice-aggregate-replay-all c = search needs
+abbrev Inv-loop : tie.InvT-loop
+Inv-loop counts kind₀ kind = kind ≤ kinds
 
-replay-all-requires : tie.Need-replay-all-requires
+abbrev μ-loop : tie.MeasureT-loop
+μ-loop counts kind₀ kind = kinds - kind
+
+replay-all-requires : tie.Need-replay-all-requires Inv-loop μ-loop
 replay-all-requires c κs = search needs
 
-slice-aggregate-put-kinds : tie.Need-slice-aggregate-put-kinds
-slice-aggregate-put-kinds c = search needs
+loop-holds : tie.Need-loop-holds Inv-loop μ-loop
+loop-holds c = search needs
 
-put-kinds-requires : tie.Need-put-kinds-requires
-put-kinds-requires c κs = search needs
+mul-say-kind : tie.Need-mul-say-kind Inv-loop μ-loop
+mul-say-kind c = search needs
 
-array-share-prefix-report : tie.Need-array-share-prefix-report
-array-share-prefix-report c = search needs
+array-copy-out-say-kind : tie.Need-array-copy-out-say-kind Inv-loop μ-loop
+array-copy-out-say-kind c = search needs
 
-slice-aggregate-write-all : tie.Need-slice-aggregate-write-all
-slice-aggregate-write-all c = let w = c .before .before .before .put-kinds in sym (length-take-le (w .result) (w .last .1 .1 .0) (omega (arith, c .before .if1 .taken, w .kept .1 .1 .0)))
+say-kind-requires : tie.Need-say-kind-requires Inv-loop μ-loop
+say-kind-requires c κs = search needs
 
-write-all-requires : tie.Need-write-all-requires
-write-all-requires c κs = search needs
+add-kind : tie.Need-add-kind Inv-loop μ-loop
+add-kind c = search needs
 
-returns : tie.Need-returns
+loop-less : tie.Need-loop-less Inv-loop μ-loop
+loop-less c = search needs
+
+loop-again : tie.Need-loop-again Inv-loop μ-loop
+loop-again c = search needs
+
+returns : tie.Need-returns Inv-loop μ-loop
 returns c = search needs
-
-returns-2 : tie.Need-returns-2
-returns-2 c = search needs
 
 pub main-spec : {M : Type 1} → statement M
 main-spec =
     tie.close
     (tie.spec
-    slice-aggregate-replay-all
+    Inv-loop
+    μ-loop
     replay-all-requires
-    slice-aggregate-put-kinds
-    put-kinds-requires
-    array-share-prefix-report
-    slice-aggregate-write-all
-    write-all-requires
-    returns
-    returns-2)
+    loop-holds
+    mul-say-kind
+    array-copy-out-say-kind
+    say-kind-requires
+    add-kind
+    loop-less
+    loop-again
+    returns)

@@ -7,12 +7,14 @@ mod full;
 mod long;
 mod makings;
 mod odd;
+mod small;
 mod whole;
 
 pub use broken::BREAKS;
 pub use example::document;
 pub use long::{text as long, LONGS};
 pub use makings::MAKINGS;
+pub use small::{smalls, SMALLS};
 
 use crate::text::Text;
 use oracle::Words;
@@ -41,24 +43,26 @@ impl Given {
 }
 
 /// The n-th text of a seed: document 01's, each break of a rule, each making at a limit, each long
-/// text, then drawn ones. Each has a generator of its own, so that it can be made without those
+/// text, each small one, then drawn ones. Each has a generator of its own, so that it can be made without those
 /// before it.
 pub fn nth(seed: u64, n: usize) -> Given {
     let mut of_seed = Words::new(seed);
     let mut words = Words::new(of_seed.word() ^ n as u64);
     let makings_from = 1 + BREAKS.len();
     let longs_from = makings_from + MAKINGS.len();
+    let smalls_from = longs_from + LONGS.len();
     match n {
         0 => document(),
         n if n < makings_from => broken(n - 1, &mut words),
         n if n < longs_from => made(n - makings_from, &mut words),
-        n if n < FIRST_DRAWN => long(&LONGS[n - longs_from], &mut words),
+        n if n < smalls_from => long(&LONGS[n - longs_from], &mut words),
+        n if n < FIRST_DRAWN => smalls().swap_remove(n - smalls_from),
         _ => drawn(&mut words),
     }
 }
 
 /// The number of the first text that is not one of a list.
-pub const FIRST_DRAWN: usize = 1 + BREAKS.len() + MAKINGS.len() + LONGS.len();
+pub const FIRST_DRAWN: usize = 1 + BREAKS.len() + MAKINGS.len() + LONGS.len() + SMALLS;
 
 fn drawn(words: &mut Words) -> Given {
     match words.below(24) {

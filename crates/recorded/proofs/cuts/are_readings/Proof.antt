@@ -1,68 +1,54 @@
 use mathlib.Core.Path.{_≡_}
 use Prim.Native.Nat.{_-_, _≤_}
+use Rattle.limits.specs.Limits.{width}
 use native.Mathlib.Omega.{arith}
 use Rattle.recorded.specs.Cuts.{areReadings}
-use Rattle.recorded.proofs.Laws.{readings-none, readings-more}
+use Rattle.recorded.proofs.Choices.{readings-none, readings-more}
 use borrow.Author.Needs.{needs}
 use Rattle.recorded.proofs.cuts.are_readings.Statement.{statement}
 use Rattle.recorded.proofs.cuts.are_readings.Tie as tie
-use Rattle.recorded.proofs.cuts.are_readings.Reads as reads
-use Rattle.recorded.proofs.cuts.are_readings.Lts as lts
-use Rattle.recorded.proofs.cuts.is_reading.Reads as is-reading-reads
 
 abbrev Inv-loop : tie.InvT-loop
-Inv-loop low high point all₀ i₀ all i = (i ≤ 8) × (all ≡ areReadings low high point i)
+Inv-loop low high point all₀ i₀ all i = (i ≤ width) × (all ≡ areReadings low high point i)
 
 abbrev μ-loop : tie.MeasureT-loop
-μ-loop low high point all₀ i₀ all i = 8 - i
+μ-loop low high point all₀ i₀ all i = width - i
 
--- src/cuts.rt:69:5
 loop-holds : tie.Need-loop-holds Inv-loop μ-loop
 loop-holds c = (omega arith, readings-none _ _ _)
 
--- src/cuts.rt:70:29
 mul-is-reading : tie.Need-mul-is-reading Inv-loop μ-loop
 mul-is-reading c = search needs
 
--- src/cuts.rt:70:29
 array-read-is-reading : tie.Need-array-read-is-reading Inv-loop μ-loop
 array-read-is-reading c = search needs
 
--- src/cuts.rt:70:37
 mul-is-reading-2 : tie.Need-mul-is-reading-2 Inv-loop μ-loop
 mul-is-reading-2 c = search needs
 
--- src/cuts.rt:70:37
 array-read-is-reading-2 : tie.Need-array-read-is-reading-2 Inv-loop μ-loop
 array-read-is-reading-2 c = search needs
 
--- src/cuts.rt:70:46
 mul-is-reading-3 : tie.Need-mul-is-reading-3 Inv-loop μ-loop
 mul-is-reading-3 c = search needs
 
--- src/cuts.rt:70:46
 array-read-is-reading-3 : tie.Need-array-read-is-reading-3 Inv-loop μ-loop
 array-read-is-reading-3 c = search needs
 
--- src/cuts.rt:70:13
 is-reading-requires : tie.Need-is-reading-requires Inv-loop μ-loop
 is-reading-requires c κs = search needs
 
--- src/cuts.rt:72:9
 add-i : tie.Need-add-i Inv-loop μ-loop
 add-i c = search needs
 
--- src/cuts.rt:69:5
 loop-less : tie.Need-loop-less Inv-loop μ-loop
 loop-less c = search needs
 
--- src/cuts.rt:69:5
 loop-again : tie.Need-loop-again Inv-loop μ-loop
 loop-again c = (omega arith, readings-more _ _ _ _ _ _ (c .before .before .loop .inv .1) (c .is-reading .ensures))
 
--- src/cuts.rt:64:1
 returns : tie.Need-returns Inv-loop μ-loop
-returns c = let z : c .before .loop .i ≡ 8 = omega arith in rw z at (c .before .loop .inv .1)
+returns c = let z : c .before .loop .i ≡ width = omega arith in rw z at (c .before .loop .inv .1)
 
 pub are-readings-spec : {M : Type 1} → statement M
 are-readings-spec =

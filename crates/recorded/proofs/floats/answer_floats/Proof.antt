@@ -2,7 +2,7 @@
 use mathlib.Core.Path.{_∙_}
 use Prim.Native.Nat.{_-_}
 use Rattle.lines.proofs.Writes.{long}
-use Rattle.recorded.proofs.Laws.{Valued, valued-none, valued-next, valued-all, value-same}
+use Rattle.recorded.proofs.Values.{Valued, valued-none, valued-next, valued-all, value-same}
 use borrow.Author.Needs.{needs}
 use Rattle.recorded.proofs.floats.answer_floats.Statement.{statement}
 use Rattle.recorded.proofs.floats.answer_floats.Tie as tie

@@ -6,7 +6,7 @@ use Rattle.readings.specs.Coordinate.{isCoordinate}
 use Rattle.readings.specs.Weight.{isWeight}
 use Rattle.readings.specs.Share.{isShare, cachedPart}
 use Rattle.readings.specs.Narrow.{narrowed}
-use Rattle.recorded.proofs.Laws.{at-4, at-5, at-6, at-7, at-8, at-9, at-10, at-none}
+use Rattle.recorded.proofs.Values.{at-4, at-5, at-6, at-7, at-8, at-9, at-10, at-none}
 use borrow.Author.Needs.{needs}
 use Rattle.recorded.proofs.floats.value_of.Statement.{statement}
 use Rattle.recorded.proofs.floats.value_of.Tie as tie
@@ -27,7 +27,7 @@ bit-requires : tie.Need-bit-requires
 bit-requires c κs = search needs
 
 returns : tie.Need-returns
-returns c = c .bit .ensures ∙ ap (λ (t : Bool). cond t 1 0) (c .before .is-coordinate .ensures ∙ ap isCoordinate (c .before .before .before .before .float-of .ensures)) ∙ sym (at-4 _ _ _ (c .before .before .if1 .taken))
+returns c = c .bit .ensures .0 ∙ ap (λ (t : Bool). cond t 1 0) (c .before .is-coordinate .ensures ∙ ap isCoordinate (c .before .before .before .before .float-of .ensures)) ∙ sym (at-4 _ _ _ (c .before .before .if1 .taken))
 
 is-weight-requires : tie.Need-is-weight-requires
 is-weight-requires c κs = search needs
@@ -36,7 +36,7 @@ bit-requires-2 : tie.Need-bit-requires-2
 bit-requires-2 c κs = search needs
 
 returns-2 : tie.Need-returns-2
-returns-2 c = c .bit2 .ensures ∙ ap (λ (t : Bool). cond t 1 0) (c .before .is-weight .ensures ∙ ap isWeight (c .before .before .before .before .before .float-of .ensures)) ∙ sym (at-5 _ _ _ (c .before .before .if2 .taken))
+returns-2 c = c .bit2 .ensures .0 ∙ ap (λ (t : Bool). cond t 1 0) (c .before .is-weight .ensures ∙ ap isWeight (c .before .before .before .before .before .float-of .ensures)) ∙ sym (at-5 _ _ _ (c .before .before .if2 .taken))
 
 is-share-requires : tie.Need-is-share-requires
 is-share-requires c κs = search needs
@@ -45,7 +45,7 @@ bit-requires-3 : tie.Need-bit-requires-3
 bit-requires-3 c κs = search needs
 
 returns-3 : tie.Need-returns-3
-returns-3 c = c .bit3 .ensures ∙ ap (λ (t : Bool). cond t 1 0) (c .before .is-share .ensures ∙ ap isShare (c .before .before .before .before .before .double-of .ensures)) ∙ sym (at-6 _ _ _ (c .before .before .if3 .taken))
+returns-3 c = c .bit3 .ensures .0 ∙ ap (λ (t : Bool). cond t 1 0) (c .before .is-share .ensures ∙ ap isShare (c .before .before .before .before .before .double-of .ensures)) ∙ sym (at-6 _ _ _ (c .before .before .if3 .taken))
 
 factor-requires : tie.Need-factor-requires
 factor-requires c κs = search needs
@@ -65,11 +65,11 @@ narrow-requires c κs = search needs
 pattern-of-requires : tie.Need-pattern-of-requires
 pattern-of-requires c κs = search needs
 
-wide-requires : tie.Need-wide-requires
-wide-requires c κs = search needs
+wide32-requires : tie.Need-wide32-requires
+wide32-requires c κs = search needs
 
 returns-5 : tie.Need-returns-5
-returns-5 c = c .wide .ensures ∙ c .before .pattern-of .ensures ∙ ap (toBits binary32) (c .before .before .narrow .ensures ∙ ap narrowed (c .before .before .before .before .before .before .before .before .double-of .ensures)) ∙ sym (at-8 _ _ _ (c .before .before .before .if5 .taken))
+returns-5 c = c .wide32 .ensures .0 ∙ c .before .pattern-of .ensures ∙ ap (toBits binary32) (c .before .before .narrow .ensures ∙ ap narrowed (c .before .before .before .before .before .before .before .before .double-of .ensures)) ∙ sym (at-8 _ _ _ (c .before .before .before .if5 .taken))
 
 cached-part-requires : tie.Need-cached-part-requires
 cached-part-requires c κs = search needs
@@ -80,11 +80,11 @@ returns-6 c = c .cached-part .ensures ∙ ap (λ (y : Float). cachedPart y (c .b
 pattern-of-requires-2 : tie.Need-pattern-of-requires-2
 pattern-of-requires-2 c κs = search needs
 
-wide-requires-2 : tie.Need-wide-requires-2
-wide-requires-2 c κs = search needs
+wide32-requires-2 : tie.Need-wide32-requires-2
+wide32-requires-2 c κs = search needs
 
 returns-7 : tie.Need-returns-7
-returns-7 c = c .wide2 .ensures ∙ c .before .pattern-of2 .ensures ∙ ap (toBits binary32) (c .before .before .before .before .before .before .before .before .before .before .float-of .ensures) ∙ sym (at-10 _ _ _ (c .before .before .if7 .taken))
+returns-7 c = c .wide322 .ensures .0 ∙ c .before .pattern-of2 .ensures ∙ ap (toBits binary32) (c .before .before .before .before .before .before .before .before .before .before .float-of .ensures) ∙ sym (at-10 _ _ _ (c .before .before .if7 .taken))
 
 pattern-of-double-requires-2 : tie.Need-pattern-of-double-requires-2
 pattern-of-double-requires-2 c κs = search needs
@@ -117,12 +117,12 @@ value-of-spec =
     returns-4
     narrow-requires
     pattern-of-requires
-    wide-requires
+    wide32-requires
     returns-5
     cached-part-requires
     returns-6
     pattern-of-requires-2
-    wide-requires-2
+    wide32-requires-2
     returns-7
     pattern-of-double-requires-2
     wide64-requires-2

@@ -1,5 +1,5 @@
 -- `call` meets its contract, by which call it is. Assumes nothing.
-use Rattle.recorded.proofs.Laws.{called-got, called-released}
+use Rattle.recorded.proofs.Sequences.{called-got, called-released}
 use borrow.Author.Needs.{needs}
 use Rattle.recorded.proofs.intervals.call.Statement.{statement}
 use Rattle.recorded.proofs.intervals.call.Tie as tie

@@ -1,5 +1,5 @@
 -- `turn` meets its contract, by whether the rows are looked at. Assumes nothing.
-use Rattle.recorded.proofs.Laws.{turn-look, turn-call}
+use Rattle.recorded.proofs.Sequences.{turn-look, turn-call}
 use borrow.Author.Needs.{needs}
 use Rattle.recorded.proofs.intervals.turn.Statement.{statement}
 use Rattle.recorded.proofs.intervals.turn.Tie as tie
@@ -16,14 +16,14 @@ returns c = turn-look _ _ _ (c .before .before .before .before .before .if1 .tak
 call-requires : tie.Need-call-requires
 call-requires c κs = search needs
 
-put-top-requires : tie.Need-put-top-requires
-put-top-requires c κs = search needs
+put-call-requires : tie.Need-put-call-requires
+put-call-requires c κs = search needs
 
 same-length-2 : tie.Need-same-length-2
 same-length-2 c = search needs
 
 returns-2 : tie.Need-returns-2
-returns-2 c = turn-call _ _ _ (c .before .before .before .before .before .before .before .before .if1 .left) (c .before .before .before .before .before .before .call .ensures .0) (c .before .before .before .before .before .before .call .ensures .1) (c .before .before .put-top .ensures)
+returns-2 c = turn-call _ _ _ (c .before .before .before .before .before .before .before .if1 .left) (c .before .before .before .before .call .ensures .0) (c .before .before .before .before .call .ensures .1) (c .before .before .put-call .ensures)
 
 pub turn-spec : {M : Type 1} → statement M
 turn-spec =
@@ -33,6 +33,6 @@ turn-spec =
     same-length
     returns
     call-requires
-    put-top-requires
+    put-call-requires
     same-length-2
     returns-2)

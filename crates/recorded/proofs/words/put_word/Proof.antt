@@ -1,6 +1,6 @@
 -- `put_word` meets its contract: the word's four bytes are those written. Assumes nothing.
 use borrow.Author.Needs.{needs}
-use Rattle.recorded.proofs.Laws.{stored}
+use Rattle.recorded.proofs.Stores.{stored}
 use Rattle.recorded.proofs.words.put_word.Statement.{statement}
 use Rattle.recorded.proofs.words.put_word.Tie as tie
 
