@@ -6,3 +6,4 @@ pub mod Lines
 pub mod Blocks
 pub mod Tells
 pub mod Read
+pub mod Sizes

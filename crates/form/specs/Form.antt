@@ -1,5 +1,5 @@
--- Treelist's text (document 01, 'Printed tree') for every list of bytes: the making and the op rows that it brings, or its first bad row. Definitions and a statement.
-use Prim.Native.Nat.{ℕ, _+_}
+-- Treelist's text (document 01, 'Printed tree') for every list of bytes: the making and the op rows that it brings, or its first bad row. Definitions and statements.
+use Prim.Native.Nat.{ℕ, _+_, _≤_, _<_}
 use mathlib.Core.Path.{_≡_, refl}
 use mathlib.Core.List.{List, [], _∷_}
 use mathlib.Core.Option.{Option, none, some}
@@ -85,6 +85,12 @@ document : parsed (bytes "dimensions capacity cache16\n1 4 16\nop index rest\n0 
     ∷ [])
 unfolding parsed blocks makingOf sameBytes rowsFrom rowOf rowBy pieces digitValue digitsFrom decimalOf wordOf capped coordinateOf ofInt ofBits
 document = refl
+
+-- A text that is read has at most 8,180 op rows: at least 48 bytes stand before them, and each has at least 4, the line feeds counted. A bad row's number has at
+-- most five digits. Proved of every text (`few-rows` in proofs/Sizes.antt).
+abbrev pub FewRows : Parsed → Type 0
+FewRows (bad r) = r < 100000
+FewRows (read m os) = length os ≤ 8180
 
 -- ---- what `check_form` answers
 -- Document 01, 'Printed tree': 'The form of the whole text is checked first: a bad text prints only `refused 17 R` for its first bad row'

@@ -3,7 +3,7 @@ use mathlib.Core.List.{List, [], _∷_, _++_}
 use Prim.Native.Nat.{ℕ, suc, _+_, _^_, _≤_, _<_}
 use native.Mathlib.Omega.{arith}
 use lib.ListN.{length, length-append}
-use Rattle.lines.specs.Lines.{decimal, hex, branchLine, leafLine}
+use Rattle.lines.specs.Lines.{decimal, hex, branchLine, leafLine, refusedLine}
 use Rattle.lines.proofs.Digits.{decimal-length, hex-length}
 
 record AtMost (n : ℕ) (xs : List ℕ) : Type 0 where
@@ -31,3 +31,10 @@ branch-few id dimension cut left right mass h d l r m =
     let bits : AtMost 8 (hex 8 cut) = record { few = omega (arith, hex-length 8 cut) } in
     let space : AtMost 1 (32 ∷ []) = record { few = omega arith } in
     both (both (both (both (both (both (ended 2 id 32 h) (ended 0 dimension 32 d)) bits) space) (ended 3 left 32 l)) (ended 3 right 32 r)) (ended 4 mass 10 m) .few
+
+-- a refusal's number has at most two digits
+pub refused-few : (k number row : ℕ) → number < 100 → row < 10 ^ suc k → length (refusedLine number row) ≤ k + 13
+unfolding refusedLine
+refused-few k number row h r =
+    let word : AtMost 8 (114 ∷ 101 ∷ 102 ∷ 117 ∷ 115 ∷ 101 ∷ 100 ∷ 32 ∷ []) = record { few = omega arith } in
+    omega (arith, both (both word (ended 1 number 32 h)) (ended k row 10 r) .few)

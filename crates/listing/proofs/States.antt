@@ -1,14 +1,12 @@
 -- The tree of a state stands in its arrays, to be printed from them; and how long its lines are. Laws.
 use mathlib.Core.Path.{_≡_, refl, sym, ap, _∙_}
-use mathlib.Core.Option.{Option, some}
+use mathlib.Core.Option.{Option, none, some}
 use mathlib.Core.Bool.{true}
 use mathlib.Core.List.{List, []}
 use Prim.Native.Nat.{ℕ, suc, _+_, _-_, _*_, _≤_, _<_}
 use native.Mathlib.Omega.{arith}
-use lib.Dec.{eqb}
 use lib.ListN.{length, getD, length-append}
 use lib.Ieee.{Float, nan, binary32, toBits}
-use borrow.Author.Tests.{eqb-true, eqb-false}
 use Rattle.limits.specs.Limits.{width, capacityLimit, pointLimit}
 use Rattle.readings.specs.Share.{isShare}
 use Rattle.readings.specs.Number.{nought}
@@ -18,7 +16,6 @@ use Rattle.lines.proofs.Writes.{then}
 use Rattle.cuttree.specs.Tree.{Tree, leaf, branch, id, sum, mass, total, leaves, All}
 use Rattle.cuttree.specs.Run.{World, Call, fresh, worldAfter}
 use Rattle.cuttree.specs.Sound.{Sound}
-use Rattle.cuttree.proofs.Tests.{by-test}
 use Rattle.cuttree.proofs.Nodes.{In, here, left, right}
 use Rattle.cuttree.proofs.Leaves.{leaves-branches}
 use Rattle.cuttree.proofs.Masses.{mass-most}
@@ -33,7 +30,7 @@ use Rattle.layout.specs.Stands.{Once, InRange}
 use Rattle.layout.proofs.Tabs.{entry-of}
 use Rattle.layout.proofs.Slots.{tab-laid}
 use Rattle.randomcuttree.specs.declared.RCFTree.{RCFTree}
-use Rattle.randomcuttree.specs.State.{cachedBy, State, headerOf}
+use Rattle.randomcuttree.specs.State.{cachedBy, State, Reachable, headerOf}
 use Rattle.treestore.specs.Arrays.{Lent, arraysOf}
 use Rattle.randomcuttree.proofs.Parts.{capacity-is, root-is}
 use Rattle.randomcuttree.proofs.Given.{sound, in-range, once, stored}
@@ -77,6 +74,14 @@ module _ (d c : ℕ) (f : ℕ → Option Reading) (t : Tree (whole d)) (u : List
       let e : branches d t + length u ≤ c - 1 = intervals-few (whole d) c (whole-laws d) f t u H in
       omega arith
 
+-- What a reachable world's tree prints: 255 branches of 31 bytes, 256 leaves of 19, and 33 bytes of names.
+pub printed-few : (d c : ℕ) (W : World (whole d)) → c ≤ capacityLimit → Reachable d c W → length (printedTree d c (W .tree)) ≤ 12802
+printed-few d c W m R = go (W .tree) refl
+  where
+    go : (o : Option (Tree (whole d))) → W .tree ≡ o → length (printedTree d c o) ≤ 12802
+    go none e = omega arith
+    go (some t) e = rw length-append (omega (arith, tree-few d c (W .table) t (W .free) (sound R e) m (in-range R e)))
+
 -- A STATE'S TREE
 module _ (d c : ℕ) (s : Float) (W : World (whole d)) (tree : RCFTree) (a : Lent) (points : List (List Float)) (marks : List ℕ) (S : State d c s W tree a points marks) where
   -- the tree that is there where there are copies
@@ -110,12 +115,6 @@ module _ (d c : ℕ) (s : Float) (W : World (whole d)) (tree : RCFTree) (a : Len
         };
         few = tree-few d c (W .table) t (W .free) H m R;
       }
-
-  -- 255 branches of 31 bytes, 256 leaves of 19, and 33 bytes of names
-  pub printed-few : length (printedTree d c (W .tree)) ≤ 12802
-  printed-few = by-test (eqb (tree .total) 0)
-      (λ e. rw (no-tree S (eqb-true (tree .total) 0 e)) (omega arith))
-      (λ e. let w = there (eqb-false (tree .total) 0 e) in rw (w .is, length-append) (omega (arith, w .few)))
 
 -- WHAT `print_tree` IS TOLD AND GIVES
 module _ (tree : RCFTree) (nodes : List (List ℕ)) (cuts : List Float) (copies : List ℕ) where

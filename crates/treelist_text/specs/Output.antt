@@ -1,6 +1,7 @@
--- What treelist prints for a text, for every list of bytes (document 01, 'Printed tree'). Definitions.
+-- What treelist prints for a text, for every list of bytes (document 01, 'Printed tree'), and how long it is at most. Definitions and a statement.
 use mathlib.Core.List.{List, [], _∷_, _++_}
-use Prim.Native.Nat.{ℕ, _+_}
+use Prim.Native.Nat.{ℕ, _+_, _*_, _≤_}
+use lib.ListN.{length}
 use lib.Ieee.{Float, binary64, ofBits, ofInt, div}
 use lib.IntN.{pos}
 use Rattle.cuttree.specs.Run.{World, Answer, refused, written, added, deleted, copiesAre, branchIs, boxIs, numberOf, call, fresh}
@@ -46,3 +47,12 @@ outputOf (read m os) = outputBy (m .channels) (m .capacity) (madeBy (m .channels
 
 abbrev pub output : List ℕ → List ℕ
 output t = outputOf (parsed t)
+
+-- 143,682 bytes: a text has at most 8,180 op rows (`FewRows`), a refused one prints at most 16 bytes, and a tree at most 12,802, which are a line of names of
+-- 33, 255 branches of 31 and 256 leaves of 19
+abbrev pub printedLimit : ℕ
+printedLimit = 8180 * 16 + 12802
+
+-- No text prints more; it is proved in proofs/Sizes.antt.
+abbrev pub OutputFits : Type 0
+OutputFits = (t : List ℕ) → length (output t) ≤ printedLimit

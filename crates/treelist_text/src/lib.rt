@@ -32,8 +32,11 @@ ghost use Rattle.randomcuttree.specs.Making.{madeBy};
 ghost use Rattle.form.specs.Rows.{Op};
 ghost use Rattle.form.specs.Form.{opRows, rowsFrom};
 ghost use Rattle.lines.specs.Lines.{refusedLine, Wrote};
-ghost use Rattle.treelist_text.specs.Output.{sixteenthsOf, outputFrom, outputBy, output};
+ghost use Rattle.treelist_text.specs.Output.{sixteenthsOf, outputFrom, outputBy, output, printedLimit};
 ghost use Rattle.treelist_text.specs.Running.{InForm, HasRows, Standing, SomeStanding};
+
+// A buffer of so many bytes has room for what any text prints: `printedLimit`.
+pub const PRINTED: usize = 8180 * 16 + 12802;
 
 // The cached share of a number of sixteenths, which has at most nine digits: an f64 has each such number.
 fn share_of(sixteenths: u64) -> f64
@@ -176,10 +179,11 @@ fn print_made(text: &[u8], out: &mut [u8]) -> usize
     }
 }
 
-// What `treelist` prints for a text, for every list of bytes, as far as the buffer goes; how many bytes it is.
+// What `treelist` prints for a text, for every list of bytes, as far as the buffer goes; how many bytes it is, which are never more than `PRINTED`.
 // Rules out a text with a bad row carried out up to that row, and op rows told by numbers from 0.
 pub fn treelist_output(text: &[u8], out: &mut [u8]) -> usize
-    ensures { λ r. ⌜ Wrote (now (out .entry)) 0 (output (now (text .entry))) r (now (out .exit)) ⌝ }
+    ensures wrote { λ r. ⌜ Wrote (now (out .entry)) 0 (output (now (text .entry))) r (now (out .exit)) ⌝ }
+    ensures fits { λ r. ⌜ r ≤ printedLimit ⌝ }
 {
     match form::check_form(text) {
         Form::Bad(row) => lines::put_refused(out, 0, 17, row),

@@ -39,7 +39,7 @@ same-length-4 : tie.Need-same-length-4
 same-length-4 c = search needs
 
 returns-4 : tie.Need-returns-4
-returns-4 c = all-written (c .before .before .treelist-output .ensures) ∙ at-3 _ _ _ (c .before .before .before .before .if4 .taken)
+returns-4 c = all-written (c .before .before .treelist-output .ensures .0) ∙ at-3 _ _ _ (c .before .before .before .before .if4 .taken)
 
 answer-floats-requires : tie.Need-answer-floats-requires
 answer-floats-requires c κs = search needs

@@ -28,22 +28,13 @@ array-share-prefix-out : tie.Need-array-share-prefix-out
 array-share-prefix-out c = search needs
 
 slice-aggregate-write-all : tie.Need-slice-aggregate-write-all
-slice-aggregate-write-all c = let w = c .before .before .before .treelist-output in sym (length-take-le (w .result) (w .last .1 .0) (omega (arith, c .before .if1 .taken, w .kept .1 .0)))
+slice-aggregate-write-all c = let w = c .before .before .treelist-output in sym (length-take-le (w .result) (w .last .1 .0) (omega (arith, w .ensures .1, w .kept .1 .0)))
 
 write-all-requires : tie.Need-write-all-requires
 write-all-requires c κs = search needs
 
-slice-aggregate-write-all-2 : tie.Need-slice-aggregate-write-all-2
-slice-aggregate-write-all-2 c = search needs
-
-write-all-requires-2 : tie.Need-write-all-requires-2
-write-all-requires-2 c κs = search needs
-
 returns : tie.Need-returns
 returns c = search needs
-
-returns-2 : tie.Need-returns-2
-returns-2 c = search needs
 
 pub main-spec : {M : Type 1} → statement M
 main-spec =
@@ -58,7 +49,4 @@ main-spec =
     array-share-prefix-out
     slice-aggregate-write-all
     write-all-requires
-    slice-aggregate-write-all-2
-    write-all-requires-2
-    returns
-    returns-2)
+    returns)

@@ -1,6 +1,7 @@
 -- `treelist_text::treelist_output` meets its contract. Assumes nothing.
 use borrow.Author.Needs.{needs}
 use Rattle.treelist_text.proofs.Reading.{bad-output, in-form}
+use Rattle.treelist_text.proofs.Sizes.{fitting}
 use Rattle.treelist_text.proofs.treelist_output.Statement.{statement}
 use Rattle.treelist_text.proofs.treelist_output.Tie as tie
 
@@ -23,13 +24,13 @@ same-length : tie.Need-same-length
 same-length c = search needs
 
 returns : tie.Need-returns
-returns c = bad-output _ _ _ (c .before .before .before .before .before .before .before .check-form .ensures) (c .before .before .before .before .before .row .given .1) (c .before .before .put-refused .ensures .0)
+returns c = fitting _ (bad-output _ _ _ (c .before .before .before .before .before .before .before .check-form .ensures) (c .before .before .before .before .before .row .given .1) (c .before .before .put-refused .ensures .0))
 
 same-length-2 : tie.Need-same-length-2
 same-length-2 c = search needs
 
 returns-2 : tie.Need-returns-2
-returns-2 c = c .before .before .print-made .ensures
+returns-2 c = fitting _ (c .before .before .print-made .ensures)
 
 pub treelist-output-spec : {M : Type 1} → statement M
 treelist-output-spec =
