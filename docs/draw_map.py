@@ -4,7 +4,8 @@
     docs/draw_map.py < crates.txt > docs/map.svg
 
 A comment line of crates.txt opens a layer. A line is drawn from a crate to each crate that it needs by itself: not to those that it
-needs only through another, and not to those of the lowest layer, which nearly all need.
+needs only through another, and not to those of the lowest layer, which nearly all need. What stands behind `# beside:` is listed for
+the order of checks alone, and left out.
 """
 import sys
 
@@ -19,8 +20,9 @@ def read(lines):
             layers.append((line[2:].strip().rstrip("."), []))
         elif ":" in line:
             name, rest = line.split(":", 1)
+            used, _, unused = rest.partition("# beside:")
             layers[-1][1].append(name)
-            needs[name] = rest.split()
+            needs[name] = [other for other in used.split() if other not in unused.split()]
     return [layer for layer in layers if layer[1]], needs
 
 
