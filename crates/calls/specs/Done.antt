@@ -10,10 +10,6 @@ use Rattle.wholetree.specs.Whole.{whole}
 use Rattle.randomcuttree.specs.declared.RCFTree.{RCFTree}
 use Rattle.treestore.specs.Arrays.{Lent}
 use Rattle.randomcuttree.specs.State.{State}
-use Rattle.randomcuttree.specs.declared.AddAnswer.{AddAnswer}
-use Rattle.randomcuttree.specs.declared.AddAnswer.the-variants.{Added, NotAdded}
-use Rattle.randomcuttree.specs.declared.DeleteAnswer.{DeleteAnswer}
-use Rattle.randomcuttree.specs.declared.DeleteAnswer.the-variants.{Deleted, NotDeleted}
 use Rattle.answers.specs.Said.{filled, said, replyWidth}
 
 -- the numbers of the answer, with 0 after them, and a state of the world after the call
@@ -25,15 +21,6 @@ pub record Done (d c : ℕ) (s : Float) (W : World (whole d)) (x : Call (whole d
 abbrev pub Does : ((d : ℕ) → Call (whole d)) → RCFTree → Lent → List (List Float) → List ℕ → RCFTree → Lent → List (List Float) → List ℕ → List ℕ → Type 0
 Does x tree a points marks tree′ a′ points′ marks′ reply =
     (d c : ℕ) (s : Float) (W : World (whole d)) → State d c s W tree a points marks → Done d c s W (x d) tree′ a′ points′ marks′ reply
-
--- the header after an answer: a refused call's is the one before
-abbrev pub headerAdded : RCFTree → AddAnswer → RCFTree
-headerAdded t (Added t′ j n) = t′
-headerAdded t (NotAdded r) = t
-
-abbrev pub headerDeleted : RCFTree → DeleteAnswer → RCFTree
-headerDeleted t (Deleted t′ j) = t′
-headerDeleted t (NotDeleted r) = t
 
 -- kind 8 asks for copies, 9 for a branch, 10 for a box
 abbrev pub queryOf : ℕ → ℕ → Query

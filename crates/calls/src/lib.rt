@@ -23,9 +23,9 @@ ghost use Rattle.cuttree.specs.Run.{put, add, delete, query};
 ghost use Rattle.pointstore.specs.Puts.{Puts};
 ghost use Rattle.treestore.specs.Arrays.{Lent, lent};
 ghost use Rattle.randomcuttree.specs.State.{SomeState};
-ghost use Rattle.randomcuttree.specs.Answers.{AddDone};
+ghost use Rattle.randomcuttree.specs.Answers.{AddDone, headerAdded, headerDeleted};
 ghost use Rattle.randomcuttree.specs.Queries.{BoxRead, SomeBoxRead};
-ghost use Rattle.calls.specs.Done.{Does, headerAdded, headerDeleted, queryOf};
+ghost use Rattle.calls.specs.Done.{Does, queryOf};
 
 // As many coordinates of a given list as are looked at: one more than any tree has.
 pub const COORDINATES: usize = CHANNELS + 1;

@@ -7,4 +7,5 @@ pub mod Told
 pub mod Calls
 pub mod Deletes
 pub mod Adds
+pub mod Headers
 pub mod Standing

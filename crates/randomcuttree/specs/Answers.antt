@@ -32,6 +32,15 @@ deleteSays d x (copiesAre n) = NotDeleted 0
 deleteSays d x (branchIs r) = NotDeleted 0
 deleteSays d x (boxIs b) = NotDeleted 0
 
+-- the header after an answer: a refused call's is the one before
+abbrev pub headerAdded : RCFTree → AddAnswer → RCFTree
+headerAdded x (Added y j n) = y
+headerAdded x (NotAdded r) = x
+
+abbrev pub headerDeleted : RCFTree → DeleteAnswer → RCFTree
+headerDeleted x (Deleted y j) = y
+headerDeleted x (NotDeleted r) = x
+
 -- What a call gives and leaves: `says` of its answer, and header and arrays of the world after it. The table is not written.
 pub record Called {R : Type 0} (d c : ℕ) (s : Float) (says : RCFTree → Answer (whole d) → R) (x : Answer (whole d) × World (whole d)) (r : R) (after : Lent) (points : List (List Float)) (marks : List ℕ) : Type 0 where
   pub answer : r ≡ says (headerOf d c s (x .1)) (x .0)

@@ -1,0 +1,6 @@
+pub mod Heard
+pub mod Asked
+pub mod Boxes
+pub mod Steps
+pub mod Claim
+pub mod Answered
