@@ -75,12 +75,12 @@ module _ (d c : ℕ) (f : ℕ → Option Reading) (t : Tree (whole d)) (u : List
       omega arith
 
 -- What a reachable world's tree prints: 255 branches of 31 bytes, 256 leaves of 19, and 33 bytes of names.
-pub printed-few : (d c : ℕ) (W : World (whole d)) → c ≤ capacityLimit → Reachable d c W → length (printedTree d c (W .tree)) ≤ 12802
-printed-few d c W m R = go (W .tree) refl
+pub printed-few : (d c : ℕ) (W : World (whole d)) → d ≤ width → c ≤ capacityLimit → Reachable d c W → length (printedTree d c (W .tree)) ≤ 12802
+printed-few d c W l m R = go (W .tree) refl
   where
     go : (o : Option (Tree (whole d))) → W .tree ≡ o → length (printedTree d c o) ≤ 12802
     go none e = omega arith
-    go (some t) e = rw length-append (omega (arith, tree-few d c (W .table) t (W .free) (sound R e) m (in-range R e)))
+    go (some t) e = rw length-append (omega (arith, tree-few d c (W .table) t (W .free) (sound R e) m (in-range R e l)))
 
 -- A STATE'S TREE
 module _ (d c : ℕ) (s : Float) (W : World (whole d)) (tree : RCFTree) (a : Lent) (points : List (List Float)) (marks : List ℕ) (S : State d c s W tree a points marks) where
@@ -99,7 +99,7 @@ module _ (d c : ℕ) (s : Float) (W : World (whole d)) (tree : RCFTree) (a : Len
       let t = T .0 in
       let m = S .limits .3 in
       let H = sound (S .reachable) (T .1) in
-      let R = in-range (S .reachable) (T .1) in
+      let R = in-range (S .reachable) (T .1) (S .limits .1) in
       let O = once (S .reachable) (T .1) in
       let A = stored S (T .1) .arrays in
       record {

@@ -58,7 +58,7 @@ module _ {d c : ℕ} {s : Float} {W : World (whole d)} {tree : RCFTree} {a : Len
 
   done : (ws : List ℕ) (y : Answer (whole d)) (o : Option (Tree (whole d))) (v : List (ℕ × ℕ)) (e : Edited) (n : ℕ) (header : RCFTree) (b : Lent) (r : AddAnswer) → call (whole d) c W (add i ws) ≡ (y, withTree (whole d) W o v) → r ≡ addSays d header y
       → header ≡ headed tree (e .root) n (e .manager) → n ≡ totalOf (whole d) o → EditDone d c k o v e b → Done ws r b
-  done ws y o v e n header b r f g h N L = Calls.changed H (addSays d) (call (whole d) c W (add i ws)) y (withTree (whole d) W o v) e n header b r f g h N L refl (reachable-call d c W (add i ws) (H .reachable))
+  done ws y o v e n header b r f g h N L = Calls.changed H (addSays d) (call (whole d) c W (add i ws)) y (withTree (whole d) W o v) e n header b r f g h N L refl (reachable-call d c (H .limits .0) (H .limits .1) W (add i ws) (H .reachable))
 
   pub above : (ws : List ℕ) → pointLimit ≤ i → Done ws (NotAdded 5) a
   above ws m = not-done ws (refused indexAbove) (NotAdded 5) (cond-true _ _ _ (le-leb pointLimit i m)) refl

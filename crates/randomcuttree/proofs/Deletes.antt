@@ -98,4 +98,4 @@ module _ {d c : ℕ} {s : Float} {W : World (whole d)} {tree : RCFTree} {a : Len
             one-less e b G header h =
                 let left = subst (λ (x : RCFTree). Forgets (x .dimensions) (x .capacity) (x .cached) (x .root) (x .manager) a points path (f .walk) (f .leaf) (getD points i []) e b) (H .header-is) G t (W .free) p walking (sym (found-in .held-is) ∙ g) in
                 Calls.changed H (deleteSays d) (call (whole d) c W (delete i)) (deleted (ending (whole d) t p .index)) _ e (tree .total - 1) header b (Deleted header (f .leaf))
-                (leaving (some t) T ∙ cond-false _ _ _ (ap not (sym (found-in .held-is) ∙ g))) (ap (Deleted header) (found-in .leaf-is)) h (omega (arith, fewer)) left refl (reachable-call d c W (delete i) (H .reachable))
+                (leaving (some t) T ∙ cond-false _ _ _ (ap not (sym (found-in .held-is) ∙ g))) (ap (Deleted header) (found-in .leaf-is)) h (omega (arith, fewer)) left refl (reachable-call d c (H .limits .0) (H .limits .1) W (delete i) (H .reachable))

@@ -29,7 +29,7 @@ use Rattle.boxstore.specs.Boxed.{Boxed}
 use Rattle.treestore.specs.Arrays.{Lent}
 use Rattle.treestore.proofs.Links.{linked}
 use Rattle.randomcuttree.specs.declared.RCFTree.{RCFTree}
-use Rattle.randomcuttree.specs.State.{cachedBy, InRow, Reachable, State}
+use Rattle.randomcuttree.specs.State.{cachedBy, OnChannels, Reachable, State}
 use Rattle.randomcuttree.proofs.Lookups as Lookups
 use Rattle.randomcuttree.proofs.Parts.{root-is, nodes-are, cuts-are, copies-are, boxes-are}
 
@@ -37,25 +37,17 @@ module _ {d c : ℕ} {W : World (whole d)} (R : Reachable d c W) {t : Tree (whol
   pub sound : Sound (whole d) c (record { table = W .table; tree = some t; free = W .free })
   sound = subst (λ (o : Option (Tree (whole d))). Sound (whole d) c (record { table = W .table; tree = o; free = W .free })) T (R .sound)
 
-  in-row : InRow d t
-  in-row = subst (OfTree (whole d) (InRow d)) T (R .in-row)
-
-  row-in : {u s : Tree (whole d)} → In (whole d) u s → InRow d s → InRow d u
-  row-in here h = h
-  row-in (left i) h = row-in i (h .1)
-  row-in (right i) h = row-in i (h .2)
-
-  range-in : (u : Tree (whole d)) → In (whole d) u t → InRange d c u
-  range-in (leaf i q n) h = index-below (whole d) c (whole-laws d) (W .table) t (W .free) sound h
-  range-in (branch b x g l r) h = (
+  range-in : d ≤ width → (u : Tree (whole d)) → In (whole d) u t → OnChannels d u → InRange d c u
+  range-in m (leaf i q n) h o = index-below (whole d) c (whole-laws d) (W .table) t (W .free) sound h
+  range-in m (branch b x g l r) h o = (
     omega (arith, number-below (whole d) c (whole-laws d) (W .table) t (W .free) sound b (uses-in (whole d) h)),
-    row-in h in-row .0,
-    range-in l (in-trans (whole d) (left here) h),
-    range-in r (in-trans (whole d) (right here) h),
+    omega (arith, o .0),
+    range-in m l (in-trans (whole d) (left here) h) (o .1),
+    range-in m r (in-trans (whole d) (right here) h) (o .2),
   )
 
-  pub in-range : InRange d c t
-  in-range = range-in t here
+  pub in-range : d ≤ width → InRange d c t
+  in-range m = range-in m t here (subst (OfTree (whole d) (OnChannels d)) T (R .on-channels))
 
   pub apart : (x : ℕ) → sum (whole d) (λ i q n. is (i + c) x) (λ b. is b x) t ≤ 1
   apart = nodes-one (whole d) c (whole-laws d) (W .table) t (W .free) sound
@@ -84,6 +76,9 @@ module _ {d c : ℕ} {s : Float} {W : World (whole d)} {tree : RCFTree} {a : Len
   abbrev R : Reachable d c W
   R = H .reachable
 
+  within : InRange d c t
+  within = in-range R T (H .limits .1)
+
   rows-are : a .nodes ≡ tab branchLimit (slot d c (rowOf d c) noRow t)
   rows-are = nodes-are H ∙ ap (λ (o : Option (Tree (whole d))). tab branchLimit (slotIn d c k (rowOf d c) noRow o)) T
 
@@ -94,17 +89,17 @@ module _ {d c : ℕ} {s : Float} {W : World (whole d)} {tree : RCFTree} {a : Len
   boxes-of = boxes-are H ∙ ap (λ (o : Option (Tree (whole d))). tab branchLimit (boxIn d c k o)) T
 
   pub rows-laid : Laid d c (rowOf d c) (λ (j : ℕ). getD (a .nodes) j []) t
-  rows-laid = tab-laid d c (rowOf d c) noRow [] (a .nodes) t (H .limits .3) rows-are (once R T) (in-range R T)
+  rows-laid = tab-laid d c (rowOf d c) noRow [] (a .nodes) t (H .limits .3) rows-are (once R T) within
 
   pub values-laid : Laid d c (cutOf d c) (λ (j : ℕ). getD (a .cuts) j nan) t
-  values-laid = tab-laid d c (cutOf d c) nought nan (a .cuts) t (H .limits .3) values-are (once R T) (in-range R T)
+  values-laid = tab-laid d c (cutOf d c) nought nan (a .cuts) t (H .limits .3) values-are (once R T) within
 
   pub stored : Stored d c (a .nodes) (a .cuts) (a .copies) t
   stored = record {
     small = H .limits .3;
     arrays = record { rows = rows-are; values = values-are; counts = copies-are H ∙ ap (λ (o : Option (Tree (whole d))). tab pointLimit (countIn d c k o)) T };
     apart = apart R T;
-    in-range = in-range R T;
+    in-range = within;
     filled = sound R T .filled;
     light = sound R T .light;
   }
@@ -113,7 +108,7 @@ module _ {d c : ℕ} {s : Float} {W : World (whole d)} {tree : RCFTree} {a : Len
   walks i p P = record {
     rows = rows-laid;
     values = values-laid;
-    in-range = in-range R T;
+    in-range = within;
     few = few R T (H .limits .2);
     root-is = root-is H ∙ ap (rootOf d c k) T;
     point-is = point-at R T (H .table-is) i p P;
@@ -123,6 +118,6 @@ module _ {d c : ℕ} {s : Float} {W : World (whole d)} {tree : RCFTree} {a : Len
   boxed = record {
     links = linked d c (a .nodes) t rows-laid;
     leaves = leaves-stand R T (H .table-is);
-    in-range = in-range R T;
-    cached = tab-boxes d c k (a .boxes) t (H .limits .3) boxes-of (once R T) (in-range R T);
+    in-range = within;
+    cached = tab-boxes d c k (a .boxes) t (H .limits .3) boxes-of (once R T) within;
   }

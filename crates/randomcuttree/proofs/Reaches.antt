@@ -1,4 +1,4 @@
--- What calls leave, beside soundness: every cut is on one of the eight channels of a row, and a reading has +0.0 beyond the tree's channels. Assumes nothing.
+-- What calls leave, beside soundness: every cut is on one of the tree's channels, and a reading has +0.0 beyond them. Assumes nothing.
 use mathlib.Core.Path.{_≡_, refl, sym, ap, _∙_, subst}
 use mathlib.Core.Bool.{true, not}
 use mathlib.Core.Option.{Option, none, some}
@@ -10,69 +10,68 @@ use lib.ListN.{length}
 use lib.Ieee.{Float}
 use Rattle.limits.specs.Limits.{width, pointLimit, totalLimit}
 use Rattle.cuttree.specs.Setting.{Cut, below}
-use Rattle.cuttree.specs.Tree.{Tree, leaf, branch, lo, hi, OfTree, parted, above, height, walk, found, leaves, insert, addCopy, forget, orLifted}
+use Rattle.cuttree.specs.Tree.{Tree, leaf, branch, All, OfTree, parted, above, height, walk, found, leaves, insert, addCopy, forget}
 use Rattle.cuttree.specs.Run.{World, Call, put, add, delete, query, call, fresh, Answer, withPoint, enter, leave, isLeaf, totalOf, write}
 use borrow.Author.Tests.{eqb-true, not-false}
 use Rattle.readings.proofs.Tests.{yes}
 use Rattle.boundingbox.specs.Ends.{channel}
 use Rattle.boundingbox.specs.Padding.{Padded}
 use Rattle.cuttree.proofs.Tests.{by-cond, nonsense}
+use Rattle.cuttree.proofs.Leaves.{lifted}
 use Rattle.cuttree.proofs.Keeps.{sound-call, inv-fresh}
 use Rattle.wholetree.specs.Reading.{Reading, reading}
 use Rattle.wholetree.specs.Whole.{whole, allCoordinates}
 use Rattle.wholetree.proofs.Readings.{padded-beyond, reading-row}
 use Rattle.wholetree.proofs.Laws.{whole-laws}
-use Rattle.treestore.proofs.Channels.{draw-channel}
-use Rattle.randomcuttree.specs.State.{InRow, Reachable}
+use Rattle.treestore.proofs.Channels.{tree-channel}
+use Rattle.randomcuttree.specs.State.{OnChannels, Reachable}
+use Rattle.randomcuttree.proofs.Given.{narrow}
 
 module _ (d : ℕ) where
-  above-in : (b : ℕ) (k : Cut (whole d)) (i : ℕ) (p : Reading) (t : Tree (whole d)) → k .channel < width → InRow d t → InRow d (above (whole d) b k i p t)
-  above-in b k i p t h w = by-cond (InRow d) (below (whole d) k p) _ _ (λ _. (h, tt, w)) (λ _. (h, w, tt))
+  above-in : (b : ℕ) (k : Cut (whole d)) (i : ℕ) (p : Reading) (t : Tree (whole d)) → k .channel < d → OnChannels d t → OnChannels d (above (whole d) b k i p t)
+  above-in b k i p t h w = by-cond (OnChannels d) (below (whole d) k p) _ _ (λ _. (h, tt, w)) (λ _. (h, w, tt))
 
-  insert-in : (b i : ℕ) (p : Reading) (w : ℕ → ℕ) (t : Tree (whole d)) → InRow d t → InRow d (insert (whole d) b i p w t)
-  insert-in b i p w (leaf j q n) h = above-in b _ i p (leaf j q n) (draw-channel d (lo (whole d) (leaf j q n)) (hi (whole d) (leaf j q n)) p (w 0)) tt
-  insert-in b i p w (branch a k g l r) h = by-cond (InRow d) (parted (whole d) (branch a k g l r) p (w (height (whole d) (branch a k g l r) p))) _ _
-      (λ _. above-in b _ i p (branch a k g l r) (draw-channel d (lo (whole d) (branch a k g l r)) (hi (whole d) (branch a k g l r)) p _) h)
-      (λ _. by-cond (InRow d) (below (whole d) k p) _ _ (λ _. (h .0, insert-in b i p w l (h .1), h .2)) (λ _. (h .0, h .1, insert-in b i p w r (h .2))))
+  insert-in : 1 ≤ d → d ≤ width → (b i : ℕ) (p : Reading) (w : ℕ → ℕ) → Padded (p .row) d width → (t : Tree (whole d)) → All (whole d) (λ i q n. Padded (q .row) d width) t → OnChannels d t → OnChannels d (insert (whole d) b i p w t)
+  insert-in o m b i p w z (leaf j q n) y h = above-in b _ i p (leaf j q n) (tree-channel d (leaf j q n) p (w 0) o m y z) tt
+  insert-in o m b i p w z (branch a k g l r) y h = by-cond (OnChannels d) (parted (whole d) (branch a k g l r) p (w (height (whole d) (branch a k g l r) p))) _ _
+      (λ _. above-in b _ i p (branch a k g l r) (tree-channel d (branch a k g l r) p _ o m y z) h)
+      (λ _. by-cond (OnChannels d) (below (whole d) k p) _ _ (λ _. (h .0, insert-in o m b i p w z l (y .0) (h .1), h .2)) (λ _. (h .0, h .1, insert-in o m b i p w z r (y .1) (h .2))))
 
-  copy-in : (p : Reading) (t : Tree (whole d)) → InRow d t → InRow d (addCopy (whole d) p t)
+  copy-in : (p : Reading) (t : Tree (whole d)) → OnChannels d t → OnChannels d (addCopy (whole d) p t)
   copy-in p (leaf i q n) h = tt
-  copy-in p (branch b k g l r) h = by-cond (InRow d) (below (whole d) k p) _ _ (λ _. (h .0, copy-in p l (h .1), h .2)) (λ _. (h .0, h .1, copy-in p r (h .2)))
+  copy-in p (branch b k g l r) h = by-cond (OnChannels d) (below (whole d) k p) _ _ (λ _. (h .0, copy-in p l (h .1), h .2)) (λ _. (h .0, h .1, copy-in p r (h .2)))
 
-  lifted-in : (o : Option (Tree (whole d))) (f : Tree (whole d) → Tree (whole d)) (s : Tree (whole d)) → OfTree (whole d) (InRow d) o → ((t : Tree (whole d)) → InRow d t → InRow d (f t)) → InRow d s → InRow d (orLifted (whole d) o f s)
-  lifted-in none f s h g w = w
-  lifted-in (some t) f s h g w = g t h
-
-  forget-in : (p : Reading) (t : Tree (whole d)) → InRow d t → OfTree (whole d) (InRow d) (forget (whole d) p t)
-  forget-in p (leaf i q n) h = by-cond (OfTree (whole d) (InRow d)) (ltb 1 n) _ _ (λ _. tt) (λ _. tt)
-  forget-in p (branch b k g l r) h = by-cond (InRow d) (below (whole d) k p) _ _
-      (λ _. lifted-in (forget (whole d) p l) (λ t. branch b k g t r) r (forget-in p l (h .1)) (λ t w. (h .0, w, h .2)) (h .2))
-      (λ _. lifted-in (forget (whole d) p r) (λ t. branch b k g l t) l (forget-in p r (h .2)) (λ t w. (h .0, h .1, w)) (h .1))
+  forget-in : (p : Reading) (t : Tree (whole d)) → OnChannels d t → OfTree (whole d) (OnChannels d) (forget (whole d) p t)
+  forget-in p (leaf i q n) h = by-cond (OfTree (whole d) (OnChannels d)) (ltb 1 n) _ _ (λ _. tt) (λ _. tt)
+  forget-in p (branch b k g l r) h = by-cond (OnChannels d) (below (whole d) k p) _ _
+      (λ _. lifted (whole d) (OnChannels d) (OnChannels d) (forget (whole d) p l) (λ t. branch b k g t r) r (forget-in p l (h .1)) (h .2) (λ t w. (h .0, w, h .2)))
+      (λ _. lifted (whole d) (OnChannels d) (OnChannels d) (forget (whole d) p r) (λ t. branch b k g l t) l (forget-in p r (h .2)) (h .1) (λ t w. (h .0, h .1, w)))
 
   -- after a call
   abbrev After : Answer (whole d) × World (whole d) → Type 0
-  After x = OfTree (whole d) (InRow d) (x .1 .tree)
+  After x = OfTree (whole d) (OnChannels d) (x .1 .tree)
+
+  module _ (o : 1 ≤ d) (m : d ≤ width) (c : ℕ) (W : World (whole d)) (R : Reachable d c W) where
+    point-in : (o : Option Reading) (g : Reading → Answer (whole d) × World (whole d)) → ((p : Reading) → o ≡ some p → After (g p)) → After (withPoint (whole d) W o g)
+    point-in none g f = R .on-channels
+    point-in (some p) g f = f p refl
+
+    enter-in : (o : Option (Tree (whole d))) → W .tree ≡ o → OfTree (whole d) (OnChannels d) o → (i : ℕ) (p : Reading) (ws : List ℕ) → W .table i ≡ some p → After (enter (whole d) c W o i p ws)
+    enter-in none e h i p ws z = tt
+    enter-in (some t) e h i p ws z = by-cond After (found (whole d) t p) _ _ (λ _. copy-in p t h)
+        (λ _. by-cond After (leb c (leaves (whole d) t)) _ _ (λ _. R .on-channels) (λ _. by-cond After (ltb (length ws) (walk (whole d) t p)) _ _ (λ _. R .on-channels) (λ _. insert-in o m _ i p _ (R .narrow i p z) t (narrow R e) h)))
+
+    leave-in : (o : Option (Tree (whole d))) → OfTree (whole d) (OnChannels d) o → (p : Reading) → After (leave (whole d) W o p)
+    leave-in none h p = R .on-channels
+    leave-in (some t) h p = by-cond After (not (found (whole d) t p)) _ _ (λ _. R .on-channels) (λ _. forget-in p t h)
+
+    call-in : (x : Call (whole d)) → After (call (whole d) c W x)
+    call-in (put i xs) = by-cond After (leb pointLimit i) _ _ (λ _. R .on-channels) (λ _. by-cond After (not (whole d .counted xs)) _ _ (λ _. R .on-channels) (λ _. by-cond After (not (whole d .good xs)) _ _ (λ _. R .on-channels) (λ _. by-cond After (isLeaf (whole d) (W .tree) i) _ _ (λ _. R .on-channels) (λ _. R .on-channels))))
+    call-in (add i ws) = by-cond After (leb pointLimit i) _ _ (λ _. R .on-channels) (λ _. point-in (W .table i) _ (λ p e. by-cond After (eqb (totalOf (whole d) (W .tree)) totalLimit) _ _ (λ _. R .on-channels) (λ _. enter-in (W .tree) refl (R .on-channels) i p ws e)))
+    call-in (delete i) = by-cond After (leb pointLimit i) _ _ (λ _. R .on-channels) (λ _. point-in (W .table i) _ (λ p e. leave-in (W .tree) (R .on-channels) p))
+    call-in (query q) = R .on-channels
 
   module _ (c : ℕ) where
-    point-in : (W : World (whole d)) (o : Option Reading) (g : Reading → Answer (whole d) × World (whole d)) → OfTree (whole d) (InRow d) (W .tree) → ((p : Reading) → After (g p)) → After (withPoint (whole d) W o g)
-    point-in W none g h f = h
-    point-in W (some p) g h f = f p
-
-    enter-in : (W : World (whole d)) (o : Option (Tree (whole d))) → OfTree (whole d) (InRow d) (W .tree) → OfTree (whole d) (InRow d) o → (i : ℕ) (p : Reading) (ws : List ℕ) → After (enter (whole d) c W o i p ws)
-    enter-in W none h w i p ws = tt
-    enter-in W (some t) h w i p ws = by-cond After (found (whole d) t p) _ _ (λ _. copy-in p t w)
-        (λ _. by-cond After (leb c (leaves (whole d) t)) _ _ (λ _. h) (λ _. by-cond After (ltb (length ws) (walk (whole d) t p)) _ _ (λ _. h) (λ _. insert-in _ i p _ t w)))
-
-    leave-in : (W : World (whole d)) (o : Option (Tree (whole d))) → OfTree (whole d) (InRow d) (W .tree) → OfTree (whole d) (InRow d) o → (p : Reading) → After (leave (whole d) W o p)
-    leave-in W none h w p = h
-    leave-in W (some t) h w p = by-cond After (not (found (whole d) t p)) _ _ (λ _. h) (λ _. forget-in p t w)
-
-    call-in : (W : World (whole d)) (x : Call (whole d)) → OfTree (whole d) (InRow d) (W .tree) → After (call (whole d) c W x)
-    call-in W (put i xs) h = by-cond After (leb pointLimit i) _ _ (λ _. h) (λ _. by-cond After (not (whole d .counted xs)) _ _ (λ _. h) (λ _. by-cond After (not (whole d .good xs)) _ _ (λ _. h) (λ _. by-cond After (isLeaf (whole d) (W .tree) i) _ _ (λ _. h) (λ _. h))))
-    call-in W (add i ws) h = by-cond After (leb pointLimit i) _ _ (λ _. h) (λ _. point-in W (W .table i) _ h (λ p. by-cond After (eqb (totalOf (whole d) (W .tree)) totalLimit) _ _ (λ _. h) (λ _. enter-in W (W .tree) h h i p ws)))
-    call-in W (delete i) h = by-cond After (leb pointLimit i) _ _ (λ _. h) (λ _. point-in W (W .table i) _ h (λ p. leave-in W (W .tree) h h p))
-    call-in W (query q) h = h
-
     -- ---- the table: a put that is taken has as many coordinates as channels, and no other call writes it
     abbrev Same : World (whole d) → Answer (whole d) × World (whole d) → Type 0
     Same W x = x .1 .table ≡ W .table
@@ -115,8 +114,8 @@ module _ (d : ℕ) where
     narrow-call W (query q) h = h
 
     -- every call leaves a world that calls leave
-    pub reachable-call : (W : World (whole d)) (x : Call (whole d)) → Reachable d c W → Reachable d c (call (whole d) c W x .1)
-    reachable-call W x R = record { sound = sound-call (whole d) c (whole-laws d) W x (R .sound); in-row = call-in W x (R .in-row); narrow = narrow-call W x (R .narrow) }
+    pub reachable-call : 1 ≤ d → d ≤ width → (W : World (whole d)) (x : Call (whole d)) → Reachable d c W → Reachable d c (call (whole d) c W x .1)
+    reachable-call o m W x R = record { sound = sound-call (whole d) c (whole-laws d) W x (R .sound); on-channels = call-in o m c W R x; narrow = narrow-call W x (R .narrow) }
 
     pub reachable-fresh : 2 ≤ c → Reachable d c (fresh (whole d) c)
-    reachable-fresh h = record { sound = inv-fresh (whole d) c h .sound; in-row = tt; narrow = λ i p e. nonsense (cc) }
+    reachable-fresh h = record { sound = inv-fresh (whole d) c h .sound; on-channels = tt; narrow = λ i p e. nonsense (cc) }

@@ -2,10 +2,10 @@
 use mathlib.Core.Path.{_≡_, refl, sym, _∙_}
 use mathlib.Core.Bool.{not}
 use mathlib.Core.List.{List, [], _∷_}
-use Prim.Native.Nat.{ℕ}
+use Prim.Native.Nat.{ℕ, _≤_}
 use lib.Dec.{leb}
 use lib.Ieee.{Float}
-use Rattle.limits.specs.Limits.{pointLimit}
+use Rattle.limits.specs.Limits.{width, pointLimit}
 use Rattle.cuttree.specs.Run.{World, Call, Answer, put, call, worldAfter, fresh, isLeaf}
 use Rattle.cuttree.proofs.Tests.{by-cond}
 use Rattle.wholetree.specs.Whole.{whole}
@@ -17,12 +17,12 @@ use Rattle.randomcuttree.specs.Standing.{StatesStand, PutsKeep}
 use Rattle.randomcuttree.proofs.Reaches.{reachable-call, reachable-fresh}
 use Rattle.randomcuttree.proofs.Parts.{copies-are}
 
-reachable-after : (d c : ℕ) (W : World (whole d)) → Reachable d c W → (cs : List (Call (whole d))) → Reachable d c (worldAfter (whole d) c W cs)
-reachable-after d c W R [] = R
-reachable-after d c W R (x ∷ cs) = reachable-after d c (call (whole d) c W x .1) (reachable-call d c W x R) cs
+reachable-after : (d c : ℕ) → 1 ≤ d → d ≤ width → (W : World (whole d)) → Reachable d c W → (cs : List (Call (whole d))) → Reachable d c (worldAfter (whole d) c W cs)
+reachable-after d c l m W R [] = R
+reachable-after d c l m W R (x ∷ cs) = reachable-after d c l m (call (whole d) c W x .1) (reachable-call d c l m W x R) cs
 
 pub states-stand : StatesStand
-states-stand d c s l m n o p cs = record { header-is = refl; arrays-are = refl; table-is = refl; reachable = reachable-after d c (fresh (whole d) c) (reachable-fresh d c n) cs; limits = (l, m, n, o, p) }
+states-stand d c s l m n o p cs = record { header-is = refl; arrays-are = refl; table-is = refl; reachable = reachable-after d c l m (fresh (whole d) c) (reachable-fresh d c n) cs; limits = (l, m, n, o, p) }
 
 -- a put writes no tree
 abbrev Kept : (d : ℕ) → World (whole d) → Answer (whole d) × World (whole d) → Type 0
@@ -38,4 +38,4 @@ puts-keep d c s W tree a points marks H = (record { table = H .table-is; leaves 
     after : (i : ℕ) (xs : List Float) (points′ : List (List Float)) (marks′ : List ℕ) (r : PutAnswer) → PutDone d c W i xs points′ marks′ r → State d c s (call (whole d) c W (put i xs) .1) tree a points′ marks′
     after i xs points′ marks′ r P =
         let e = put-kept d c W i xs in
-        record { header-is = rw (e .0, e .1) (H .header-is); arrays-are = rw (e .0, e .1) (H .arrays-are); table-is = P .table; reachable = reachable-call d c W (put i xs) (H .reachable); limits = H .limits }
+        record { header-is = rw (e .0, e .1) (H .header-is); arrays-are = rw (e .0, e .1) (H .arrays-are); table-is = P .table; reachable = reachable-call d c (H .limits .0) (H .limits .1) W (put i xs) (H .reachable); limits = H .limits }

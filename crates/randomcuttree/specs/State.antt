@@ -22,15 +22,15 @@ use Rattle.randomcuttree.specs.declared.RCFTree.{RCFTree}
 abbrev pub cachedBy : Float → ℕ → ℕ
 cachedBy s c = min (cachedPart s c) (c - 1)
 
--- every branch is cut on one of the channels of a row
-abbrev pub InRow : (d : ℕ) → Tree (whole d) → Type 0
-InRow d (leaf i q n) = Unit {0}
-InRow d (branch b k g l r) = (k .channel < width) × InRow d l × InRow d r
+-- every branch is cut on one of the tree's d channels
+abbrev pub OnChannels : (d : ℕ) → Tree (whole d) → Type 0
+OnChannels d (leaf i q n) = Unit {0}
+OnChannels d (branch b k g l r) = (k .channel < d) × OnChannels d l × OnChannels d r
 
 -- a world that a making and its calls leave
 pub record Reachable (d c : ℕ) (W : World (whole d)) : Type 0 where
   pub sound : Sound (whole d) c W
-  pub in-row : OfTree (whole d) (InRow d) (W .tree)
+  pub on-channels : OfTree (whole d) (OnChannels d) (W .tree)
   -- a reading has +0.0 in the channels beyond the tree's
   pub narrow : (i : ℕ) (p : Reading) → W .table i ≡ some p → Padded (p .row) d width
 

@@ -6,7 +6,7 @@ use Prim.Native.Nat.{ℕ, _+_, _*_, _≤_, _<_}
 use native.Mathlib.Omega.{arith}
 use lib.Ieee.{Float}
 use lib.ListN.{length, length-append}
-use Rattle.limits.specs.Limits.{capacityLimit}
+use Rattle.limits.specs.Limits.{width, capacityLimit}
 use Rattle.readings.specs.Share.{isShare}
 use Rattle.cuttree.specs.Run.{World, Refusal, indexAbove, coordinateCount, badCoordinate, indexIsLeaf, neverWritten, full, fewWords, treeEmpty, notHeld, noSuchNode, Answer, refused, written, added, deleted, copiesAre, branchIs, boxIs, numberOf, call, fresh}
 use Rattle.cuttree.proofs.Tests.{by-cond}
@@ -49,13 +49,13 @@ told-few d (branchIs r) n h = omega arith
 told-few d (boxIs b) n h = omega arith
 
 -- ---- the op rows and the tree: each row leaves a reachable world
-module _ (d c : ℕ) (m : c ≤ capacityLimit) where
+module _ (d c : ℕ) (l : 1 ≤ d) (m : d ≤ width) (k : c ≤ capacityLimit) where
   rows-few : (W : World (whole d)) → Reachable d c W → (n : ℕ) (os : List Op) → n + length os < 10000 → length (outputFrom d c W n os) ≤ 16 * length os + 12802
-  rows-few W R n [] h = omega (arith, printed-few d c W m R)
+  rows-few W R n [] h = omega (arith, printed-few d c W m k R)
   rows-few W R n (o ∷ os) h =
       let x = call (whole d) c W (callOf d o) in
       let here = told-few d (x .0) (n + 1) (omega arith) in
-      let rest = rows-few (x .1) (reachable-call d c W (callOf d o) R) (n + 1) os (omega arith) in
+      let rest = rows-few (x .1) (reachable-call d c l m W (callOf d o) R) (n + 1) os (omega arith) in
       rw length-append (omega (arith, here, rest))
 
 -- ---- the making
@@ -66,13 +66,13 @@ module _ (d c : ℕ) (s : Float) (os : List Op) (few : length os ≤ 8180) where
   not-made : (r : ℕ) → r < 100 → Fits (NotMade r)
   not-made r h = omega (arith, refused-few 3 r 0 h (omega arith))
 
-  is-made : capacityTaken c ≡ true → Fits (Tree (emptyTree d c s))
-  is-made e = let z = in-bounds 2 capacityLimit c e in omega (arith, rows-few d c (z .1) (fresh (whole d) c) (reachable-fresh d c (z .0)) 0 os (omega arith))
+  is-made : channelsTaken d ≡ true → capacityTaken c ≡ true → Fits (Tree (emptyTree d c s))
+  is-made f e = let y = in-bounds 1 width d f in let z = in-bounds 2 capacityLimit c e in omega (arith, rows-few d c (y .0) (y .1) (z .1) (fresh (whole d) c) (reachable-fresh d c (z .0)) 0 os (omega arith))
 
   by-few : Fits (madeBy d c s)
   unfolding madeBy
   by-few = by-cond Fits (channelsTaken d) _ _
-      (λ _. by-cond Fits (capacityTaken c) _ _ (λ e. by-cond Fits (isShare s) _ _ (λ _. is-made e) (λ _. not-made 3 (omega arith))) (λ _. not-made 2 (omega arith)))
+      (λ f. by-cond Fits (capacityTaken c) _ _ (λ e. by-cond Fits (isShare s) _ _ (λ _. is-made f e) (λ _. not-made 3 (omega arith))) (λ _. not-made 2 (omega arith)))
       (λ _. not-made 1 (omega arith))
 
 -- ---- every text

@@ -1,7 +1,7 @@
 -- The tree's draw is document 01's cut on the tree's own channels, and so the paper's: the channels beyond hold +0.0 and cut nothing.
 use mathlib.Core.Path.{_≡_, refl, sym, ap, _∙_, subst}
 use mathlib.Core.Bool.{Bool, false}
-use Prim.Native.Nat.{ℕ, _^_, _<_}
+use Prim.Native.Nat.{ℕ, _^_, _≤_, _<_}
 use lib.Ieee.{Float}
 use Rattle.limits.specs.Limits.{width}
 use Rattle.boundingbox.specs.Padding.{Padded}
@@ -35,6 +35,10 @@ module _ {d : ℕ} {lo hi : ℕ → Number} {p : Reading} (C : OfChannels d lo h
   readings : Readings (ends lo) (ends hi) (p .row) d
   readings = fewer d width (ends lo) (ends hi) (p .row) (C .in-row) (are-readings (C .box) p)
 
+  -- the d channels draw what the whole row draws
+  pub drawn-on-channels : (w : ℕ) → w < 2 ^ 64 → separation width (ends lo) (ends hi) (p .row) w ≡ separation d (ends lo) (ends hi) (p .row) w
+  drawn-on-channels w W = padding-cuts-nothing d width (ends lo) (ends hi) (p .row) w rows-padded (are-readings (C .box) p) W
+
   module _ (w : ℕ) (W : w < 2 ^ 64) (o : holds d lo hi p ≡ false) where
     abbrev k : Cut
     k = cutOf (lowWith lo p) (highWith hi p) d w
@@ -44,7 +48,7 @@ module _ {d : ℕ} {lo hi : ℕ → Number} {p : Reading} (C : OfChannels d lo h
 
     drawn-is : separation width (ends lo) (ends hi) (p .row) w ≡ Drawn k b
     unfolding documentCut
-    drawn-is = padding-cuts-nothing d width (ends lo) (ends hi) (p .row) w rows-padded (are-readings (C .box) p) W ∙ as-document d (ends lo) (ends hi) (p .row) w readings W ∙ rw o
+    drawn-is = drawn-on-channels w W ∙ as-document d (ends lo) (ends hi) (p .row) w readings W ∙ rw o
 
     cut-is : asCut (whole d .draw lo hi p w) ≡ k
     cut-is =
@@ -70,6 +74,8 @@ ends-padded d {m} E t h i a l =
     ends-at (end (whole d) m t) i l
     ∙ chosen d E (λ (x : Number). x .value ≡ nought) t i (all-map (whole d) (λ j q n. Padded (q .row) d width) (λ j q n. coordinate q i .value ≡ nought) t (λ j q n z. coordinate-is q i l ∙ z i a l) h)
 
+pub tree-channels : (d : ℕ) (t : Tree (whole d)) (p : Reading) → d ≤ width → All (whole d) (λ i q n. Padded (q .row) d width) t → Padded (p .row) d width → OfChannels d (lo (whole d) t) (hi (whole d) t) p
+tree-channels d t p l h z = record { in-row = l; box = tree-box d t; lower = ends-padded d (least-end (whole d) (whole-laws d)) t h; upper = ends-padded d (most-end (whole d) (whole-laws d)) t h; point = z }
+
 pub trees-draw-paper-cut : TreesDrawPaperCut
-trees-draw-paper-cut d t p w l h z o W = draws-paper-cut d (lo (whole d) t) (hi (whole d) t) p w
-    (record { in-row = l; box = tree-box d t; lower = ends-padded d (least-end (whole d) (whole-laws d)) t h; upper = ends-padded d (most-end (whole d) (whole-laws d)) t h; point = z }) o W
+trees-draw-paper-cut d t p w l h z o W = draws-paper-cut d (lo (whole d) t) (hi (whole d) t) p w (tree-channels d t p l h z) o W
