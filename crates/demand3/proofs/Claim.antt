@@ -15,6 +15,7 @@ use Rattle.demand3.specs.Steps.{Kept, Step}
 use Rattle.demand3.specs.Claim.{StateClaim, Holds, Demand3OfCode}
 use Rattle.demand3.proofs.Asked.{asked-is}
 use Rattle.demand3.proofs.Boxes.{cached-boxes}
+use Rattle.demand3.proofs.Channels.{on-channels}
 use Rattle.demand3.proofs.Steps.{StateOf, step-is}
 
 module _ (d c : ℕ) (s : Float) where
@@ -25,6 +26,7 @@ module _ (d c : ℕ) (s : Float) where
     value = λ n. refl;
     tree = tree-claim (whole d) c (whole-laws d) W K I;
     boxes = cached-boxes d c s W x K S I;
+    channels = on-channels d c W K I (S .reachable .on-channels);
   }
 
   holds : (W : World (whole d)) (x : Kept) (K : Counts (whole d)) (es : List (Call (whole d))) → StateOf d c s W x → Inv (whole d) c W K → Holds d c s x K es

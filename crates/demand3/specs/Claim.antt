@@ -40,13 +40,14 @@ module _ (d c : ℕ) (s : Float) where
     pub bound : (b : ℕ) (r : Row (whole d)) → IsBranch (whole d) G b r → ltb b (x .tree .cached) ≡ ltb b (cachedPart s c)
 
   -- After some calls: the tree that the code's queries give, with the points that the counts keep, is as demand 3 says, and so are the
-  -- cached boxes.
+  -- cached boxes. Each branch is cut on one of the tree's channels.
   pub record StateClaim (x : Kept) (K : Counts (whole d)) : Type 0 where
     pub view : View (whole d)
     pub asked : (q : Query) (a : Answer (whole d)) (y : Kept) → Step d x (query q) a y → a ≡ view .asked q
     pub value : (n : ℕ) → view .value n ≡ K .kept (n - c)
     pub tree : TreeClaim (whole d) c view K
     pub boxes : CachedBoxes x view
+    pub channels : (b : ℕ) (r : Row (whole d)) → IsBranch (whole d) view b r → r .cut .channel < d
 
   -- Before each call and after the last; and of each call, whatever its contract lets it answer and leave. The counts are fed its answer.
   abbrev pub Holds : Kept → Counts (whole d) → List (Call (whole d)) → Type 0

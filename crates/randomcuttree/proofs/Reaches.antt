@@ -51,7 +51,7 @@ module _ (d : ℕ) where
   abbrev After : Answer (whole d) × World (whole d) → Type 0
   After x = OfTree (whole d) (OnChannels d) (x .1 .tree)
 
-  module _ (o : 1 ≤ d) (m : d ≤ width) (c : ℕ) (W : World (whole d)) (R : Reachable d c W) where
+  module _ (l : 1 ≤ d) (m : d ≤ width) (c : ℕ) (W : World (whole d)) (R : Reachable d c W) where
     point-in : (o : Option Reading) (g : Reading → Answer (whole d) × World (whole d)) → ((p : Reading) → o ≡ some p → After (g p)) → After (withPoint (whole d) W o g)
     point-in none g f = R .on-channels
     point-in (some p) g f = f p refl
@@ -59,7 +59,7 @@ module _ (d : ℕ) where
     enter-in : (o : Option (Tree (whole d))) → W .tree ≡ o → OfTree (whole d) (OnChannels d) o → (i : ℕ) (p : Reading) (ws : List ℕ) → W .table i ≡ some p → After (enter (whole d) c W o i p ws)
     enter-in none e h i p ws z = tt
     enter-in (some t) e h i p ws z = by-cond After (found (whole d) t p) _ _ (λ _. copy-in p t h)
-        (λ _. by-cond After (leb c (leaves (whole d) t)) _ _ (λ _. R .on-channels) (λ _. by-cond After (ltb (length ws) (walk (whole d) t p)) _ _ (λ _. R .on-channels) (λ _. insert-in o m _ i p _ (R .narrow i p z) t (narrow R e) h)))
+        (λ _. by-cond After (leb c (leaves (whole d) t)) _ _ (λ _. R .on-channels) (λ _. by-cond After (ltb (length ws) (walk (whole d) t p)) _ _ (λ _. R .on-channels) (λ _. insert-in l m _ i p _ (R .narrow i p z) t (narrow R e) h)))
 
     leave-in : (o : Option (Tree (whole d))) → OfTree (whole d) (OnChannels d) o → (p : Reading) → After (leave (whole d) W o p)
     leave-in none h p = R .on-channels
@@ -115,7 +115,7 @@ module _ (d : ℕ) where
 
     -- every call leaves a world that calls leave
     pub reachable-call : 1 ≤ d → d ≤ width → (W : World (whole d)) (x : Call (whole d)) → Reachable d c W → Reachable d c (call (whole d) c W x .1)
-    reachable-call o m W x R = record { sound = sound-call (whole d) c (whole-laws d) W x (R .sound); on-channels = call-in o m c W R x; narrow = narrow-call W x (R .narrow) }
+    reachable-call l m W x R = record { sound = sound-call (whole d) c (whole-laws d) W x (R .sound); on-channels = call-in l m c W R x; narrow = narrow-call W x (R .narrow) }
 
     pub reachable-fresh : 2 ≤ c → Reachable d c (fresh (whole d) c)
     reachable-fresh h = record { sound = inv-fresh (whole d) c h .sound; on-channels = tt; narrow = λ i p e. nonsense (cc) }
