@@ -14,7 +14,7 @@ pub fn get_fill_fraction(current_size: u16, capacity: u16) -> f64
 }
 
 // The chance of an arrival to start: 1 below the initial share, and from there down to 0 at a full sample, each operation rounded.
-// Rules out a division by zero at share 1, and the fall counted from an empty sample in place of the share.
+// Rules out a full sample that starts at share 1, and a fall that begins at an empty sample in place of the share.
 pub fn initial_accept_probability(fill_fraction: f64, initial_accept_fraction: f64) -> f64
     ensures { λ r. ⌜ r ≡ chanceOf «fill_fraction» «initial_accept_fraction» ⌝ }
 {
