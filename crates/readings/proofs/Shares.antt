@@ -151,16 +151,16 @@ module _ (a c n : ℕ) (C : 0 < c) (N : n ≤ 2 ^ 53) (h : a ≤ n * c) where
   least : T (le zero64 r)
   least = subst (λ (x : Float). T (le x r)) zero-is (round-mono binary64 0 1 a c (zero-lt-suc 0) C (le-trans (le-of-eq (zero-mul c)) zero-le))
 
-  sized : HasValue r false (grid binary64 a c) (2 ^ 1074)
-  sized = round-val binary64 a c (round-under binary64 a c (between zero64 r y tt (value-finite y false n 1 whole) least most))
+  pub rounded-value : HasValue r false (grid binary64 a c) (2 ^ 1074)
+  rounded-value = round-val binary64 a c (round-under binary64 a c (between zero64 r y tt (value-finite y false n 1 whole) least most))
 
-  under : grid binary64 a c ≤ n * 2 ^ 1074
-  under = leb→le (grid binary64 a c) (n * 2 ^ 1074) (subst T (le-value r y (grid binary64 a c) (n * 2 ^ 1074) (2 ^ 1074) (pow-pos 1074) sized (scale-up y false n 1 (2 ^ 1074) whole)) most)
+  pub rounded-under : grid binary64 a c ≤ n * 2 ^ 1074
+  rounded-under = leb→le (grid binary64 a c) (n * 2 ^ 1074) (subst T (le-value r y (grid binary64 a c) (n * 2 ^ 1074) (2 ^ 1074) (pow-pos 1074) rounded-value (scale-up y false n 1 (2 ^ 1074) whole)) most)
 
   floor : (toUnsigned 64 r ≡ num r / den r) × (toUnsigned 64 r ≤ n)
   floor =
-      let u = to-unsigned r (grid binary64 a c) (2 ^ 1074) n (pow-pos 1074) sized under (lt-of-le-of-lt N (leb→le (suc (2 ^ 53)) (2 ^ 64) tt)) in
-      (u .0 ∙ sym (div-same (num r) (den r) (grid binary64 a c) (2 ^ 1074) (den-pos r) (pow-pos 1074) (value→cross r (grid binary64 a c) (2 ^ 1074) sized)), le-trans (le-of-eq (u .0)) (u .1))
+      let u = to-unsigned r (grid binary64 a c) (2 ^ 1074) n (pow-pos 1074) rounded-value rounded-under (lt-of-le-of-lt N (leb→le (suc (2 ^ 53)) (2 ^ 64) tt)) in
+      (u .0 ∙ sym (div-same (num r) (den r) (grid binary64 a c) (2 ^ 1074) (den-pos r) (pow-pos 1074) (value→cross r (grid binary64 a c) (2 ^ 1074) rounded-value)), le-trans (le-of-eq (u .0)) (u .1))
 
 -- the product of -0 is -0
 minus-zero : (m : ℕ) (e : ℤ) (y : Float) (c : ℕ) → m ≡ 0 → HasValue y false c 1 → mul binary64 (fin true m e) y ≡ round binary64 true 0 1
