@@ -1,16 +1,18 @@
--- What an op row of treelist's text says, for every list of fields. Definitions.
-use Prim.Native.Nat.{ℕ}
+-- What an op row of treelist's text says, for every list of fields, and how it is answered. Definitions and a statement.
+use Prim.Native.Nat.{ℕ, _+_}
+use mathlib.Core.Path.{_≡_, refl}
 use mathlib.Core.List.{List, [], _∷_, map}
 use mathlib.Core.Option.{Option, none, some}
 use mathlib.Core.Bool.{Bool, true, false, cond}
 use lib.ListN.{length}
 use lib.Dec.{eqb}
-use lib.Ieee.{Float}
+use lib.Ieee.{Float, ofBits, ofInt}
 use Rattle.text.specs.declared.Number.{Number}
 use Rattle.text.specs.declared.Number.the-variants.{Is, NoNumber}
-use Rattle.text.specs.Pieces.{all}
-use Rattle.text.specs.Numbers.{decimalOf, wordOf}
-use Rattle.text.specs.Coordinates.{coordinateOf}
+use Rattle.text.specs.Quoted.{bytes}
+use Rattle.text.specs.Pieces.{pieces, bytesBefore, pieceEnd, all}
+use Rattle.text.specs.Numbers.{digitValue, digitsFrom, decimalOf, wordOf}
+use Rattle.text.specs.Coordinates.{capped, coordinateOf}
 use Rattle.text.specs.Fields.{numberInForm, numberOrZero, coordinateInForm, coordinateOrZero, wordsFrom, coordinatesFrom}
 use Rattle.form.specs.declared.Row.{Row}
 use Rattle.form.specs.declared.Row.the-variants.{Put, Add, Delete, NoRow}
@@ -48,12 +50,36 @@ abbrev pub isSome : {A : Type 0} → Option A → Bool
 isSome none = false
 isSome (some x) = true
 
--- what `read_row` answers of a row s says: the fields of the rest are those from the place k on
+-- where a row's rest starts: past the space after its second field
+unfoldable pub restAt : List ℕ → ℕ
+restAt s = pieceEnd 32 s (pieceEnd 32 s 0 + 1) + 1
+
+-- an op as `read_row` answers it, with the place k of the rest in place of its fields
+abbrev pub answerAt : ℕ → Option Op → Row
+answerAt k none = NoRow
+answerAt k (some (put i xs)) = Put i k
+answerAt k (some (add i ws)) = Add i k
+answerAt k (some (delete i)) = Delete i
+
+-- what `read_row` answers of a row
+unfoldable pub readRow : List ℕ → Row
+readRow s = answerAt (restAt s) (rowOf (pieces 32 s))
+
+-- the rest of this row starts at its third 0
+third : readRow (bytes "0 0 0") ≡ Put 0 4
+unfolding readRow restAt pieceEnd bytesBefore rowOf rowBy pieces digitValue digitsFrom decimalOf capped coordinateOf ofInt ofBits
+third = refl
+
+-- what an answer says of a row s: the fields of the rest are those from the place k on
 unfoldable pub rowSays : List ℕ → Row → Option Op
 rowSays s (Put i k) = some (put i (coordinatesFrom s k))
 rowSays s (Add i k) = some (add i (wordsFrom s k))
 rowSays s (Delete i) = some (delete i)
 rowSays s NoRow = none
+
+-- The answer says what the row is. Proved of every row (`row-tells` in proofs/Rows.antt).
+abbrev pub RowTells : List ℕ → Type 0
+RowTells s = rowSays s (readRow s) ≡ rowOf (pieces 32 s)
 
 -- whether it is a row at all
 abbrev pub isOp : Row → Bool

@@ -10,7 +10,7 @@ ghost use Rattle.text.specs.Pieces.{piecesFrom, pieces};
 ghost use Rattle.text.specs.Numbers.{decimalOf, wordOf};
 ghost use Rattle.text.specs.Coordinates.{coordinateOf};
 ghost use Rattle.text.specs.Fields.{numberInForm, numberOrZero, coordinateInForm};
-ghost use Rattle.form.specs.Rows.{areCoordinates, areWords, rowBy, rowOf, rowSays, isOp, isSome};
+ghost use Rattle.form.specs.Rows.{areCoordinates, areWords, rowBy, rowOf, answerAt, readRow, isOp, isSome};
 ghost use Rattle.form.specs.Making.{makingBy, makingOf, makingSays, isMakingRow};
 ghost use Rattle.form.specs.Form.{rowsFrom, sameBytes, blocks, formFrom, formOf};
 ghost use Rattle.form.specs.Lines.{rowsForm, FirstLines};
@@ -94,7 +94,7 @@ fn all_coordinates(row: &[u8], start: usize) -> bool
 // The row of an op and an index whose rest starts at a place; past the row's end it has no rest.
 fn row_by_op(row: &[u8], op: u64, index: u64, start: usize) -> Row
     requires { ⌜ start ≤ length (now row) + 1 ⌝ }
-    ensures { λ r. ⌜ rowBy (Number.Is op) index (piecesFrom 32 (now (row .entry)) start) ≡ rowSays (now (row .entry)) r ⌝ }
+    ensures { λ r. ⌜ r ≡ answerAt start (rowBy (Number.Is op) index (piecesFrom 32 (now (row .entry)) start)) ⌝ }
 {
     if op == 0 {
         if all_coordinates(row, start) {
@@ -119,7 +119,7 @@ fn row_by_op(row: &[u8], op: u64, index: u64, start: usize) -> Row
 
 fn row_by_numbers(row: &[u8], op: Number, index: Number, start: usize) -> Row
     requires { ⌜ start ≤ length (now row) + 1 ⌝ }
-    ensures { λ r. ⌜ cond (numberInForm index) (rowBy op (numberOrZero index) (piecesFrom 32 (now (row .entry)) start)) none ≡ rowSays (now (row .entry)) r ⌝ }
+    ensures { λ r. ⌜ r ≡ answerAt start (cond (numberInForm index) (rowBy op (numberOrZero index) (piecesFrom 32 (now (row .entry)) start)) none) ⌝ }
 {
     match index {
         Number::NoNumber => Row::NoRow,
@@ -131,9 +131,9 @@ fn row_by_numbers(row: &[u8], op: Number, index: Number, start: usize) -> Row
 }
 
 // What an op row is.
-// Rules out a delete with a rest taken, and an add whose last word is out of form.
+// Rules out a delete with a rest taken, and a rest told to start one byte late.
 pub fn read_row(row: &[u8]) -> Row
-    ensures { λ r. ⌜ rowOf (pieces 32 (now (row .entry))) ≡ rowSays (now (row .entry)) r ⌝ }
+    ensures { λ r. ⌜ r ≡ readRow (now (row .entry)) ⌝ }
 {
     let first = text::piece_end(row, 0, 32);
     if first == row.len() {

@@ -22,8 +22,7 @@ module _ {A : Type 0} where
 
   -- in a buffer of so many places, of fields read by f
   pub first-fields : (f : List ℕ → A) (fields : List (List ℕ)) (n m size : ℕ) (l after : List A) → length l ≡ size → m ≡ length fields → n ≡ min m size → after ≡ sets l 0 (map f fields)
-      → (take n after ≡ take size (map f fields)) × (n ≡ min (length (map f fields)) size)
+      → take n after ≡ take size (map f fields)
   first-fields f fields n m size l after e h k g =
       let z : length (map f fields) ≡ length fields = length-map fields f in
-      let y : n ≡ min (length (map f fields)) (length l) = omega arith in
-      (ap (λ (r : List A). take n r) g ∙ take-sets n l (map f fields) y ∙ ap (λ (i : ℕ). take i (map f fields)) e, omega arith)
+      ap (take n) g ∙ take-sets n l (map f fields) (omega arith) ∙ ap (λ (i : ℕ). take i (map f fields)) e

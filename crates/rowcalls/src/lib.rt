@@ -1,8 +1,6 @@
 // One op row of treelist's text, carried out on the lent state.
 use answers::Reply;
 use calls::COORDINATES;
-use calls::Coordinates;
-use calls::Words;
 use form::Row;
 use limits::Boxes;
 use limits::CAPACITY;
@@ -15,31 +13,69 @@ use limits::Points;
 use randomcuttree::RCFTree;
 ghost use mathlib.Core.Path.{_≡_};
 ghost use mathlib.Core.Option.{some};
-ghost use Prim.Native.Nat.{_+_, min};
-ghost use lib.ListN.{length, take};
-ghost use Rattle.limits.specs.Limits.{width, capacityLimit};
+ghost use Rattle.cuttree.specs.Run.{put, add};
 ghost use Rattle.text.specs.Pieces.{pieces};
 ghost use Rattle.text.specs.Fields.{wordsFrom, coordinatesFrom};
 ghost use Rattle.form.specs.Rows.{Op, rowOf};
-ghost use Rattle.treestore.specs.Arrays.{lent};
+ghost use Rattle.treestore.specs.Arrays.{Lent, lent};
 ghost use Rattle.randomcuttree.specs.State.{SomeState};
 ghost use Rattle.calls.specs.Done.{Does};
 ghost use Rattle.rowcalls.specs.Ops.{callOf, SomeOp};
 
-// The first coordinates of a row, from a place on, as many as a put looks at, and how many of them there are.
-fn first_coordinates(row: &[u8], start: usize, coordinates: &mut Coordinates) -> usize
-    ensures first { λ r. ⌜ take r (now (coordinates .exit)) ≡ take (width + 1) (coordinatesFrom (now (row .entry)) start) ⌝ }
-    ensures count { λ r. ⌜ r ≡ min (length (coordinatesFrom (now (row .entry)) start)) (width + 1) ⌝ }
+// The put of a row whose coordinates start at a place: those that a put looks at.
+fn put_row(
+    tree: RCFTree,
+    copies: &Copies,
+    points: &mut Points,
+    written: &mut Marks,
+    row: &[u8],
+    index: usize,
+    start: usize,
+    reply: &mut Reply,
+)
+    ensures { λ _. ⌜ ((a : Lent) → a .copies ≡ now (copies .entry) → Does (λ d. put index (coordinatesFrom (now (row .entry)) start)) tree a (now (points .entry)) (now (written .entry)) tree a (now (points .exit)) (now (written .exit)) (now (reply .exit))) ⌝ }
 {
-    casts::at_most(text::read_coordinates(row, start, coordinates), COORDINATES)
+    let mut coordinates = [0.0f32; COORDINATES];
+    let given = text::read_coordinates(row, start, &mut coordinates);
+    let n = casts::at_most(given, COORDINATES);
+    calls::put(tree, copies, points, written, index, &coordinates, n, reply);
 }
 
-// The first words of a row, from a place on, as many as an add looks at, and how many of them there are.
-fn first_words(row: &[u8], start: usize, words: &mut Words) -> usize
-    ensures first { λ r. ⌜ take r (now (words .exit)) ≡ take capacityLimit (wordsFrom (now (row .entry)) start) ⌝ }
-    ensures count { λ r. ⌜ r ≡ min (length (wordsFrom (now (row .entry)) start)) capacityLimit ⌝ }
+// The add of a row whose words start at a place: those that an add looks at.
+fn add_row(
+    tree: RCFTree,
+    nodes: &mut Nodes,
+    cuts: &mut Cuts,
+    copies: &mut Copies,
+    free: &mut Free,
+    boxes: &mut Boxes,
+    points: &Points,
+    written: &Marks,
+    row: &[u8],
+    index: usize,
+    start: usize,
+    reply: &mut Reply,
+) -> RCFTree
+    requires { ⌜ SomeState tree (lent (now nodes) (now cuts) (now copies) (now free) (now boxes)) (now points) (now written) ⌝ }
+    ensures { λ r. ⌜ Does (λ d. add index (wordsFrom (now (row .entry)) start)) tree (lent (now (nodes .entry)) (now (cuts .entry)) (now (copies .entry)) (now (free .entry)) (now (boxes .entry))) (now (points .entry)) (now (written .entry)) r (lent (now (nodes .exit)) (now (cuts .exit)) (now (copies .exit)) (now (free .exit)) (now (boxes .exit))) (now (points .entry)) (now (written .entry)) (now (reply .exit)) ⌝ }
 {
-    casts::at_most(text::read_words(row, start, words), CAPACITY)
+    let mut words = [0u64; CAPACITY];
+    let given = text::read_words(row, start, &mut words);
+    let n = casts::at_most(given, CAPACITY);
+    calls::add(
+        tree,
+        nodes,
+        cuts,
+        copies,
+        free,
+        boxes,
+        points,
+        written,
+        index,
+        &words,
+        n,
+        reply,
+    )
 }
 
 // The call of an op row: its answer's numbers in the reply, with 0 after them, and the header after it.
@@ -54,8 +90,6 @@ pub fn call_row(
     points: &mut Points,
     written: &mut Marks,
     row: &[u8],
-    coordinates: &mut Coordinates,
-    words: &mut Words,
     reply: &mut Reply,
 ) -> RCFTree
     requires { ⌜ SomeOp (now row) × SomeState tree (lent (now nodes) (now cuts) (now copies) (now free) (now boxes)) (now points) (now written) ⌝ }
@@ -64,36 +98,32 @@ pub fn call_row(
 {
     match form::read_row(row) {
         Row::Put(index, start) => {
-            let n = first_coordinates(row, start, coordinates);
-            calls::put(
+            put_row(
                 tree,
                 copies,
                 points,
                 written,
+                row,
                 index as usize,
-                coordinates,
-                n,
+                start,
                 reply,
             );
             tree
         }
-        Row::Add(index, start) => {
-            let n = first_words(row, start, words);
-            calls::add(
-                tree,
-                nodes,
-                cuts,
-                copies,
-                free,
-                boxes,
-                points,
-                written,
-                index as usize,
-                words,
-                n,
-                reply,
-            )
-        }
+        Row::Add(index, start) => add_row(
+            tree,
+            nodes,
+            cuts,
+            copies,
+            free,
+            boxes,
+            points,
+            written,
+            row,
+            index as usize,
+            start,
+            reply,
+        ),
         Row::Delete(index) => calls::delete(
             tree,
             nodes,

@@ -4,7 +4,7 @@ use mathlib.Core.List.{List}
 use Prim.Native.Nat.{ℕ, _+_, _*_, min}
 use native.Mathlib.Omega.{arith}
 use lib.ListN.{take, length-take}
-use lib.Seq.{getD-take}
+use lib.Seq.{sets, getD-take}
 use lib.Ieee.{Float, binary32, ofBits}
 use Rattle.limits.specs.Limits.{width, capacityLimit}
 use Rattle.cuttree.specs.Run.{put, add, delete}
@@ -30,12 +30,13 @@ module _ (bytes : List ℕ) (p : ℕ) (tree : RCFTree) (a : Lent) (points : List
       let few = e ∙ ap (λ (y : ℕ). min y (width + 1)) l in
       subst (λ (y : ℕ). Does (λ d. put y (coordinatesAt bytes p)) tree a points marks tree′ b points′ marks′ reply) at (D (coordinatesAt bytes p) (s ∙ sym (take-tab _ (width + 1) _ n few)))
 
-  pub add-given : (m n : ℕ) (first : List ℕ) → m ≡ number bytes (p + 2) → n ≡ min m capacityLimit → first ≡ tab n (λ (j : ℕ). double bytes (p + 3 + 2 * j))
-      → ((ws : List ℕ) → first ≡ take capacityLimit ws → Does (λ d. add i ws) tree a points marks tree′ b points′ marks′ reply)
-      → Does (λ d. add (number bytes (p + 1)) (wordsAt bytes p)) tree a points marks tree′ b points′ marks′ reply
-  add-given m n first l e s D =
-      let few = e ∙ ap (λ (y : ℕ). min y capacityLimit) l in
-      subst (λ (y : ℕ). Does (λ d. add y (wordsAt bytes p)) tree a points marks tree′ b points′ marks′ reply) at (D (wordsAt bytes p) (s ∙ sym (take-tab _ capacityLimit _ n few)))
+  -- and the lent words after it, l₀ before it
+  pub add-given : (m n : ℕ) (l₀ l : List ℕ) → m ≡ number bytes (p + 2) → n ≡ min m capacityLimit → (l ≡ sets l₀ 0 (tab n (λ (j : ℕ). double bytes (p + 3 + 2 * j)))) × (take n l ≡ tab n (λ (j : ℕ). double bytes (p + 3 + 2 * j)))
+      → ((ws : List ℕ) → take n l ≡ take capacityLimit ws → Does (λ d. add i ws) tree a points marks tree′ b points′ marks′ reply)
+      → Does (λ d. add (number bytes (p + 1)) (wordsAt bytes p)) tree a points marks tree′ b points′ marks′ reply × (l ≡ sets l₀ 0 (take capacityLimit (wordsAt bytes p)))
+  add-given m n l₀ l k e s D =
+      let few : tab n (λ (j : ℕ). double bytes (p + 3 + 2 * j)) ≡ take capacityLimit (wordsAt bytes p) = sym (take-tab _ capacityLimit _ n (e ∙ ap (λ (y : ℕ). min y capacityLimit) k)) in
+      (subst (λ (y : ℕ). Does (λ d. add y (wordsAt bytes p)) tree a points marks tree′ b points′ marks′ reply) at (D (wordsAt bytes p) (s .1 ∙ few)), s .0 ∙ ap (sets l₀ 0) few)
 
   pub delete-given : Does (λ d. delete i) tree a points marks tree′ b points′ marks′ reply → Does (λ d. delete (number bytes (p + 1))) tree a points marks tree′ b points′ marks′ reply
   delete-given = subst (λ (y : ℕ). Does (λ d. delete y) tree a points marks tree′ b points′ marks′ reply) at

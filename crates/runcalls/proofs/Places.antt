@@ -5,8 +5,11 @@ use mathlib.Core.List.{List}
 use Prim.Native.Nat.{ℕ, _+_, _*_, _≤_}
 use native.Mathlib.Omega.{arith}
 use lib.Dec.{eqb}
+use lib.ListN.{take}
+use lib.Seq.{sets}
 use lib.Ieee.{Float}
 use borrow.Author.Tests.{leb-true, eq-eqb, ne-eqb}
+use Rattle.limits.specs.Limits.{capacityLimit}
 use Rattle.cuttree.specs.Run.{Call, put, add, delete, query, copiesOf, branchOf, boxOf}
 use Rattle.cuttree.proofs.Tests.{clash, by-cond, by-test, cond-true, cond-false}
 use Rattle.wholetree.specs.Whole.{whole}
@@ -16,6 +19,7 @@ use Rattle.randomcuttree.specs.State.{SomeState}
 use Rattle.randomcuttree.specs.Queries.{SomeBoxRead}
 use Rattle.calls.specs.Done.{Does, Done, queryOf}
 use Rattle.runlayout.specs.Layout.{size, number, coordinatesAt, wordsAt, callAt, widthAt, standsAt, isCall}
+use Rattle.runcalls.specs.Words.{wordsAfter}
 
 both : (a b : Bool) → a && b ≡ true → b ≡ true
 both true b e = e
@@ -48,6 +52,14 @@ module _ (bytes : List ℕ) (p : ℕ) where
 
     pub any-inside : p + 2 ≤ size bytes
     any-inside = of-any (number bytes p) (number bytes (p + 2)) p (size bytes) inside
+
+  -- the lent words after it, by its kind k
+  module _ (k : ℕ) (e : k ≡ number bytes p) (words : List ℕ) where
+    pub words-read : k ≡ 4 → sets words 0 (take capacityLimit (wordsAt bytes p)) ≡ wordsAfter bytes p words
+    words-read f = sym (cond-true _ _ _ (eq-eqb (number bytes p) 4 (sym e ∙ f)))
+
+    pub words-kept : (k ≡ 4 → ⊥) → words ≡ wordsAfter bytes p words
+    words-kept f = sym (cond-false _ _ _ (ne-eqb (number bytes p) 4 (λ x. f (e ∙ x))))
 
   -- from what the call of the kind did to what the call at the place did
   module _ (tree : RCFTree) (a : Lent) (points : List (List Float)) (marks : List ℕ) (tree′ : RCFTree) (b : Lent) (points′ : List (List Float)) (marks′ reply : List ℕ) (k : ℕ) (e : k ≡ number bytes p) where

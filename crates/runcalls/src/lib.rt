@@ -16,6 +16,7 @@ ghost use mathlib.Core.Path.{_≡_};
 ghost use mathlib.Core.Bool.{true};
 ghost use Prim.Native.Nat.{ℕ, _+_, _*_, _≤_};
 ghost use lib.ListN.{length, take};
+ghost use lib.Seq.{sets};
 ghost use lib.Ieee.{binary32, ofBits};
 ghost use Rattle.limits.specs.Limits.{width, capacityLimit};
 ghost use Rattle.cuttree.specs.Run.{put, add, delete};
@@ -24,6 +25,7 @@ ghost use Rattle.treestore.specs.Arrays.{Lent, lent};
 ghost use Rattle.randomcuttree.specs.State.{SomeState};
 ghost use Rattle.calls.specs.Done.{Does};
 ghost use Rattle.runlayout.specs.Layout.{size, number, double, coordinatesAt, wordsAt, callAt, standsAt};
+ghost use Rattle.runcalls.specs.Words.{wordsAfter};
 
 // n coordinates from a place on.
 fn coordinates_at(run: &[u8], from: usize, n: usize) -> Coordinates
@@ -39,10 +41,10 @@ fn coordinates_at(run: &[u8], from: usize, n: usize) -> Coordinates
     coordinates
 }
 
-// n words from a place on.
+// Writes n words from a place on, from the front; the others stay.
 fn fill_words(run: &[u8], from: usize, n: usize, words: &mut [u64])
     requires { ⌜ (n ≤ length (now words)) × (from + 2 * n ≤ size (now run)) ⌝ }
-    ensures { λ _. ⌜ take n (now (words .exit)) ≡ tab n (λ (i : ℕ). double (now (run .entry)) (from + 2 * i)) ⌝ }
+    ensures { λ _. ⌜ now (words .exit) ≡ sets (now (words .entry)) 0 (tab n (λ (i : ℕ). double (now (run .entry)) (from + 2 * i))) ⌝ }
 {
     let mut i: usize = 0;
     while i < n {
@@ -54,7 +56,8 @@ fn fill_words(run: &[u8], from: usize, n: usize, words: &mut [u64])
 // The same in the room lent for words. A walk takes no more words than a tree has leaves.
 fn read_words(run: &[u8], from: usize, n: usize, words: &mut Words)
     requires { ⌜ (n ≤ capacityLimit) × (from + 2 * n ≤ size (now run)) ⌝ }
-    ensures { λ _. ⌜ take n (now (words .exit)) ≡ tab n (λ (i : ℕ). double (now (run .entry)) (from + 2 * i)) ⌝ }
+    ensures all { λ _. ⌜ now (words .exit) ≡ sets (now (words .entry)) 0 (tab n (λ (i : ℕ). double (now (run .entry)) (from + 2 * i))) ⌝ }
+    ensures first { λ _. ⌜ take n (now (words .exit)) ≡ tab n (λ (i : ℕ). double (now (run .entry)) (from + 2 * i)) ⌝ }
 {
     fill_words(run, from, n, words);
 }
@@ -92,7 +95,8 @@ fn add_call(
     reply: &mut Reply,
 ) -> RCFTree
     requires { ⌜ (p + 3 + 2 * number (now run) (p + 2) ≤ size (now run)) × SomeState tree (lent (now nodes) (now cuts) (now copies) (now free) (now boxes)) (now points) (now written) ⌝ }
-    ensures { λ r. ⌜ Does (λ d. add (number (now (run .entry)) (p + 1)) (wordsAt (now (run .entry)) p)) tree (lent (now (nodes .entry)) (now (cuts .entry)) (now (copies .entry)) (now (free .entry)) (now (boxes .entry))) (now (points .entry)) (now (written .entry)) r (lent (now (nodes .exit)) (now (cuts .exit)) (now (copies .exit)) (now (free .exit)) (now (boxes .exit))) (now (points .entry)) (now (written .entry)) (now (reply .exit)) ⌝ }
+    ensures done { λ r. ⌜ Does (λ d. add (number (now (run .entry)) (p + 1)) (wordsAt (now (run .entry)) p)) tree (lent (now (nodes .entry)) (now (cuts .entry)) (now (copies .entry)) (now (free .entry)) (now (boxes .entry))) (now (points .entry)) (now (written .entry)) r (lent (now (nodes .exit)) (now (cuts .exit)) (now (copies .exit)) (now (free .exit)) (now (boxes .exit))) (now (points .entry)) (now (written .entry)) (now (reply .exit)) ⌝ }
+    ensures words { λ _. ⌜ now (words .exit) ≡ sets (now (words .entry)) 0 (take capacityLimit (wordsAt (now (run .entry)) p)) ⌝ }
 {
     let index = runlayout::number_at(run, p + 1);
     let n = casts::at_most(runlayout::number_at(run, p + 2), CAPACITY);
@@ -144,8 +148,8 @@ fn delete_call(
     )
 }
 
-// The call at a place of the run: its answer's numbers in the reply, with 0 after them, and the header after it.
-// Rules out a call read from another place, and an answer's numbers in another order.
+// The call at a place of the run: its answer's numbers in the reply, with 0 after them, and the header after it. An add reads its words into the lent ones.
+// Rules out a call read from another place, and lent words written by a put.
 pub fn call_at(
     tree: RCFTree,
     nodes: &mut Nodes,
@@ -161,7 +165,8 @@ pub fn call_at(
     reply: &mut Reply,
 ) -> RCFTree
     requires { ⌜ (standsAt (now run) p ≡ true) × SomeState tree (lent (now nodes) (now cuts) (now copies) (now free) (now boxes)) (now points) (now written) ⌝ }
-    ensures { λ r. ⌜ Does (λ d. callAt (now (run .entry)) d p) tree (lent (now (nodes .entry)) (now (cuts .entry)) (now (copies .entry)) (now (free .entry)) (now (boxes .entry))) (now (points .entry)) (now (written .entry)) r (lent (now (nodes .exit)) (now (cuts .exit)) (now (copies .exit)) (now (free .exit)) (now (boxes .exit))) (now (points .exit)) (now (written .exit)) (now (reply .exit)) ⌝ }
+    ensures done { λ r. ⌜ Does (λ d. callAt (now (run .entry)) d p) tree (lent (now (nodes .entry)) (now (cuts .entry)) (now (copies .entry)) (now (free .entry)) (now (boxes .entry))) (now (points .entry)) (now (written .entry)) r (lent (now (nodes .exit)) (now (cuts .exit)) (now (copies .exit)) (now (free .exit)) (now (boxes .exit))) (now (points .exit)) (now (written .exit)) (now (reply .exit)) ⌝ }
+    ensures words { λ _. ⌜ now (words .exit) ≡ wordsAfter (now (run .entry)) p (now (words .entry)) ⌝ }
 {
     let kind = runlayout::number_at(run, p);
     if kind == 3 {

@@ -1,12 +1,10 @@
 // What `treelist` prints for a text (document 01, 'Printed tree'), written to a lent buffer: the form is checked first, then the op rows are carried out
 // on a bare tree, and the tree is printed after the rows that are refused.
 use answers::REPLY;
-use calls::COORDINATES;
 use form::Form;
 use form::MakingRow;
 use limits::BRANCHES;
 use limits::Boxes;
-use limits::CAPACITY;
 use limits::CHANNELS;
 use limits::Copies;
 use limits::Cuts;
@@ -77,8 +75,6 @@ fn run_rows(
     ensures { λ r. ⌜ ((d c : ℕ) (s : Float) (W : World (whole d)) (os : List Op) → Standing d c s W os (now (text .entry)) start 0 tree (lent (now (nodes .entry)) (now (cuts .entry)) (now (copies .entry)) (now (free .entry)) (now (boxes .entry))) (now (points .entry)) (now (written .entry))
         → Wrote (now (out .entry)) 0 (outputFrom d c W 0 os) r (now (out .exit))) ⌝ }
 {
-    let mut coordinates = [0.0f32; COORDINATES];
-    let mut words = [0u64; CAPACITY];
     let mut reply = [0usize; REPLY];
     let mut current = tree;
     let mut at = start;
@@ -99,8 +95,6 @@ fn run_rows(
             points,
             written,
             &text[at..end],
-            &mut coordinates,
-            &mut words,
             &mut reply,
         );
         row += 1;

@@ -1,4 +1,3 @@
-use Rattle.form.specs.Rows.{rowSays}
 use Rattle.form.proofs.Rows.{row-one, row-two}
 use borrow.Author.Needs.{needs}
 use Rattle.form.proofs.read_row.Statement.{statement}
@@ -13,7 +12,6 @@ piece-end-requires : tie.Need-piece-end-requires
 piece-end-requires c κs = search needs
 
 returns : tie.Need-returns
-unfolding rowSays
 returns c = row-one _ (c .before .piece-end .ensures) (c .if1 .taken)
 
 add-start : tie.Need-add-start

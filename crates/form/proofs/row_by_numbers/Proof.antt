@@ -1,4 +1,3 @@
-use Rattle.form.specs.Rows.{rowSays}
 use Rattle.form.proofs.Rows.{no-op, some-op}
 use borrow.Author.Needs.{needs}
 use Rattle.form.proofs.row_by_numbers.Statement.{statement}
@@ -23,15 +22,13 @@ row-by-op-requires : tie.Need-row-by-op-requires
 row-by-op-requires c κs = search needs
 
 returns : tie.Need-returns
-unfolding rowSays
 returns c = search needs
 
 returns-2 : tie.Need-returns-2
-unfolding rowSays
-returns-2 c = no-op _ (c .before .before .before .index .given .1) (c .enum-told2 .given .1)
+returns-2 c = no-op _ _ (c .before .before .before .index .given .1) (c .enum-told2 .given .1)
 
 returns-3 : tie.Need-returns-3
-returns-3 c = some-op _ (c .before .before .before .before .before .index .given .1) (c .before .before .op .given .1) (c .row-by-op .ensures)
+returns-3 c = some-op _ _ (c .before .before .before .before .before .index .given .1) (c .before .before .op .given .1) (c .row-by-op .ensures)
 
 pub row-by-numbers-spec : {M : Type 1} → statement M
 row-by-numbers-spec =

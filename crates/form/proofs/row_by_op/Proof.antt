@@ -1,4 +1,3 @@
-use Rattle.form.specs.Rows.{rowSays}
 use Rattle.form.proofs.Rows.{put-good, put-bad, add-good, add-bad, delete-good, delete-bad, other}
 use borrow.Author.Needs.{needs}
 use Rattle.form.proofs.row_by_op.Statement.{statement}
@@ -12,35 +11,28 @@ all-coordinates-requires : tie.Need-all-coordinates-requires
 all-coordinates-requires c κs = search needs
 
 returns : tie.Need-returns
-unfolding rowSays
-returns c = put-good _ _ (c .before .before .if1 .taken) (c .before .all-coordinates .ensures) (c .if2 .taken)
+returns c = put-good _ _ _ (c .before .before .if1 .taken) (c .before .all-coordinates .ensures) (c .if2 .taken)
 
 returns-2 : tie.Need-returns-2
-unfolding rowSays
-returns-2 c = put-bad _ _ (c .before .before .if1 .taken) (c .before .all-coordinates .ensures) (c .if2 .left)
+returns-2 c = put-bad _ _ _ (c .before .before .if1 .taken) (c .before .all-coordinates .ensures) (c .if2 .left)
 
 all-words-requires : tie.Need-all-words-requires
 all-words-requires c κs = search needs
 
 returns-3 : tie.Need-returns-3
-unfolding rowSays
-returns-3 c = add-good _ _ (c .before .before .if3 .taken) (c .before .all-words .ensures) (c .if4 .taken)
+returns-3 c = add-good _ _ _ (c .before .before .if3 .taken) (c .before .all-words .ensures) (c .if4 .taken)
 
 returns-4 : tie.Need-returns-4
-unfolding rowSays
-returns-4 c = add-bad _ _ (c .before .before .if3 .taken) (c .before .all-words .ensures) (c .if4 .left)
+returns-4 c = add-bad _ _ _ (c .before .before .if3 .taken) (c .before .all-words .ensures) (c .if4 .left)
 
 returns-5 : tie.Need-returns-5
-unfolding rowSays
 returns-5 c = delete-good _ _ _ (c .before .if5 .taken) (c .if6 .taken)
 
 returns-6 : tie.Need-returns-6
-unfolding rowSays
 returns-6 c = delete-bad _ _ _ (c .before .if5 .taken) (c .if6 .left)
 
 returns-7 : tie.Need-returns-7
-unfolding rowSays
-returns-7 c = other _ _ (c .before .before .if1 .left) (c .before .if3 .left) (c .if5 .left)
+returns-7 c = other _ _ _ (c .before .before .if1 .left) (c .before .if3 .left) (c .if5 .left)
 
 pub row-by-op-spec : {M : Type 1} → statement M
 row-by-op-spec =

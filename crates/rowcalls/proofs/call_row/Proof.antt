@@ -11,20 +11,14 @@ read-row-requires c κs = search needs
 enum-known-index : tie.Need-enum-known-index
 enum-known-index c = search needs
 
-first-coordinates-requires : tie.Need-first-coordinates-requires
-first-coordinates-requires c κs = search needs
-
-put-requires : tie.Need-put-requires
-put-requires c κs = search needs
+put-row-requires : tie.Need-put-row-requires
+put-row-requires c κs = search needs
 
 enum-known-index-2 : tie.Need-enum-known-index-2
 enum-known-index-2 c = search needs
 
-first-words-requires : tie.Need-first-words-requires
-first-words-requires c κs = search needs
-
-add-requires : tie.Need-add-requires
-add-requires c κs = search needs
+add-row-requires : tie.Need-add-row-requires
+add-row-requires c κs = search needs
 
 enum-known-index-3 : tie.Need-enum-known-index-3
 enum-known-index-3 c = search needs
@@ -37,13 +31,13 @@ enum-told c = search needs
 
 returns : tie.Need-returns
 returns c =
-    let s = c .before .before .before .before .before .before .before .before .before .before .before .before .before in
-    λ o e. does-op _ _ _ _ _ _ _ _ _ _ _ (is-put (s .args .row .now) _ (c .before .before .before .before .before .before .before .before .before .before .before .read-row .ensures) o e _ _ (c .before .before .before .before .before .before .before .before .before .index .given .1)) (c .put .ensures _ _ refl (c .before .before .before .before .before .before .first-coordinates .ensures .0))
+    let s = c .before .before .before .before .before .before .before .before .before .before in
+    λ o e. does-op _ _ _ _ _ _ _ _ _ _ _ (is-put (s .args .row .now) _ (c .before .before .before .before .before .before .before .before .read-row .ensures) o e _ _ (c .before .before .before .before .before .before .index .given .1)) (c .put-row .ensures _ refl)
 
 returns-2 : tie.Need-returns-2
 returns-2 c =
-    let s = c .before .before .before .before .before .before .before .before .before .before .before .before .before .before .before .before .before in
-    λ o e. does-op _ _ _ _ _ _ _ _ _ _ _ (is-add (s .args .row .now) _ (c .before .before .before .before .before .before .before .before .before .before .before .before .before .before .before .read-row .ensures) o e _ _ (c .before .before .before .before .before .before .before .before .before .before .before .before .before .index2 .given .1)) (c .add .ensures _ (c .before .before .before .before .before .before .before .before .before .before .first-words .ensures .0))
+    let s = c .before .before .before .before .before .before .before .before .before .before .before .before .before .before in
+    λ o e. does-op _ _ _ _ _ _ _ _ _ _ _ (is-add (s .args .row .now) _ (c .before .before .before .before .before .before .before .before .before .before .before .before .read-row .ensures) o e _ _ (c .before .before .before .before .before .before .before .before .before .before .index2 .given .1)) (c .add-row .ensures)
 
 returns-3 : tie.Need-returns-3
 returns-3 c =
@@ -61,11 +55,9 @@ call-row-spec =
     (tie.spec
     read-row-requires
     enum-known-index
-    first-coordinates-requires
-    put-requires
+    put-row-requires
     enum-known-index-2
-    first-words-requires
-    add-requires
+    add-row-requires
     enum-known-index-3
     delete-requires
     enum-told

@@ -50,7 +50,7 @@ answer-width-requires c κs =
     let l = c .before .before .before .before .before .before .before .before .before .before .before .before .loop in
     let R = l .inv .2 _ _ (s .pre .1 .running) in
     let h = below _ _ _ (c .before .before .before .before .before .before .before .before .before .before .before .loop-test .taken) (c .before .before .before .before .before .before .before .before .before .before .before .before .before .size-of .ensures) in
-    omega (arith, few-channels _ _ _ _ _ _ _ _ _ _ R h _ _ _ _ _ (c .before .call-at .ensures))
+    omega (arith, few-channels _ _ _ _ _ _ _ _ _ _ R h _ _ _ _ _ (c .before .call-at .ensures .0))
 
 slice-aggregate-write-reply : tie.Need-slice-aggregate-write-reply Inv-loop μ-loop
 slice-aggregate-write-reply c =
@@ -58,7 +58,7 @@ slice-aggregate-write-reply c =
     let l = c .before .before .before .before .before .before .before .before .before .before .before .before .before .before .before .loop in
     let R = l .inv .2 _ _ (s .pre .1 .running) in
     let h = below _ _ _ (c .before .before .before .before .before .before .before .before .before .before .before .before .before .before .loop-test .taken) (c .before .before .before .before .before .before .before .before .before .before .before .before .before .before .before .before .size-of .ensures) in
-    reply-length _ _ _ _ _ _ _ _ _ _ R h _ _ _ _ _ (c .before .before .before .before .call-at .ensures)
+    reply-length _ _ _ _ _ _ _ _ _ _ R h _ _ _ _ _ (c .before .before .before .before .call-at .ensures .0)
 
 write-reply-requires : tie.Need-write-reply-requires Inv-loop μ-loop
 write-reply-requires c κs =
@@ -66,8 +66,8 @@ write-reply-requires c κs =
     let l = c .before .before .before .before .before .before .before .before .before .before .before .before .before .before .before .loop in
     let R = l .inv .2 _ _ (s .pre .1 .running) in
     let h = below _ _ _ (c .before .before .before .before .before .before .before .before .before .before .before .before .before .before .loop-test .taken) (c .before .before .before .before .before .before .before .before .before .before .before .before .before .before .before .before .size-of .ensures) in
-    let f = fits _ _ _ _ _ _ _ _ _ _ R h _ _ _ _ _ (c .before .before .before .before .call-at .ensures) _ (of-kind _ _ _ _ (c .before .before .answer-width .ensures .0) (c .before .before .before .number-at .ensures .0)) in
-    (omega (arith, f .0, reply-length _ _ _ _ _ _ _ _ _ _ R h _ _ _ _ _ (c .before .before .before .before .call-at .ensures)), f .1)
+    let f = fits _ _ _ _ _ _ _ _ _ _ R h _ _ _ _ _ (c .before .before .before .before .call-at .ensures .0) _ (of-kind _ _ _ _ (c .before .before .answer-width .ensures .0) (c .before .before .before .number-at .ensures .0)) in
+    (omega (arith, f .0, reply-length _ _ _ _ _ _ _ _ _ _ R h _ _ _ _ _ (c .before .before .before .before .call-at .ensures .0)), f .1)
 
 add-out : tie.Need-add-out Inv-loop μ-loop
 add-out c =
@@ -75,7 +75,7 @@ add-out c =
     let l = c .before .before .before .before .before .before .before .before .before .before .before .before .before .before .before .before .before .before .loop in
     let R = l .inv .2 _ _ (s .pre .1 .running) in
     let h = below _ _ _ (c .before .before .before .before .before .before .before .before .before .before .before .before .before .before .before .before .before .loop-test .taken) (c .before .before .before .before .before .before .before .before .before .before .before .before .before .before .before .before .before .before .before .size-of .ensures) in
-    let f = fits _ _ _ _ _ _ _ _ _ _ R h _ _ _ _ _ (c .before .before .before .before .before .before .before .call-at .ensures) _ (of-kind _ _ _ _ (c .before .before .before .before .before .answer-width .ensures .0) (c .before .before .before .before .before .before .number-at .ensures .0)) in
+    let f = fits _ _ _ _ _ _ _ _ _ _ R h _ _ _ _ _ (c .before .before .before .before .before .before .before .call-at .ensures .0) _ (of-kind _ _ _ _ (c .before .before .before .before .before .answer-width .ensures .0) (c .before .before .before .before .before .before .number-at .ensures .0)) in
     omega (arith, f .1, l .inv .1, s .good .1 .1 .1 .1 .1 .1 .1 .1 .1 .0)
 
 width-at-requires : tie.Need-width-at-requires Inv-loop μ-loop
@@ -109,8 +109,8 @@ loop-again c =
     let h = below _ _ _ (c .before .before .before .before .before .before .before .before .before .before .before .before .before .before .before .before .before .before .loop-test .taken) (c .before .before .before .before .before .before .before .before .before .before .before .before .before .before .before .before .before .before .before .before .size-of .ensures) in
     let g = c .width-at .ensures .0 in (
       omega (arith, g, within (s .args .run .now) (l .p) (stands _ _ _ _ _ _ _ _ _ _ (l .inv .2 _ _ (s .pre .1 .running)) h)),
-      answers-length _ _ _ _ _ _ _ _ _ _ (l .inv .2 _ _ (s .pre .1 .running)) h _ _ _ _ _ (c .before .before .before .before .before .before .before .before .call-at .ensures) _ (of-kind _ _ _ _ (c .before .before .before .before .before .before .answer-width .ensures .0) (c .before .before .before .before .before .before .before .number-at .ensures .0)) _ (c .before .before .before .write-reply .ensures) ∙ l .inv .1,
-      λ final count R. turn _ _ _ _ _ _ _ _ _ _ (l .inv .2 final count R) h _ _ _ _ _ (c .before .before .before .before .before .before .before .before .call-at .ensures) _ (of-kind _ _ _ _ (c .before .before .before .before .before .before .answer-width .ensures .0) (c .before .before .before .before .before .before .before .number-at .ensures .0)) _ _ (c .before .before .before .write-reply .ensures) (ap (λ (k : ℕ). l .p + k) g),
+      answers-length _ _ _ _ _ _ _ _ _ _ (l .inv .2 _ _ (s .pre .1 .running)) h _ _ _ _ _ (c .before .before .before .before .before .before .before .before .call-at .ensures .0) _ (of-kind _ _ _ _ (c .before .before .before .before .before .before .answer-width .ensures .0) (c .before .before .before .before .before .before .before .number-at .ensures .0)) _ (c .before .before .before .write-reply .ensures) ∙ l .inv .1,
+      λ final count R. turn _ _ _ _ _ _ _ _ _ _ (l .inv .2 final count R) h _ _ _ _ _ (c .before .before .before .before .before .before .before .before .call-at .ensures .0) _ (of-kind _ _ _ _ (c .before .before .before .before .before .before .answer-width .ensures .0) (c .before .before .before .before .before .before .before .number-at .ensures .0)) _ _ (c .before .before .before .write-reply .ensures) (ap (λ (k : ℕ). l .p + k) g),
     )
 
 same-length : tie.Need-same-length Inv-loop μ-loop

@@ -1,23 +1,22 @@
 -- `runcalls::coordinates_at` meets its contract: after i turns the first i coordinates stand. Assumes nothing.
 use native.Mathlib.Omega.{arith}
-use mathlib.Core.Path.{refl, ap, _∙_}
+use mathlib.Core.Path.{ap, _∙_}
 use Prim.Native.Nat.{ℕ, _+_, _-_}
-use lib.Ieee.{nan, binary32, ofBits}
-use Rattle.limits.specs.Limits.{width}
+use lib.Ieee.{binary32, ofBits}
 use Rattle.runlayout.specs.Layout.{number}
-use Rattle.runcalls.proofs.Firsts.{Firsts, firsts-none, firsts-turn, firsts-all}
+use Rattle.runcalls.proofs.Firsts.{Firsts, firsts-none, firsts-turn, firsts-all, firsts-taken}
 use borrow.Author.Needs.{needs}
 use Rattle.runcalls.proofs.coordinates_at.Statement.{statement}
 use Rattle.runcalls.proofs.coordinates_at.Tie as tie
 
 abbrev Inv-loop : tie.InvT-loop
-Inv-loop run from n coordinates₀ i₀ coordinates i = Firsts nan (λ (j : ℕ). ofBits binary32 (number run (from + j))) n (width + 1) i coordinates
+Inv-loop run from n coordinates₀ i₀ coordinates i = Firsts (λ (j : ℕ). ofBits binary32 (number run (from + j))) n coordinates₀ i coordinates
 
 abbrev μ-loop : tie.MeasureT-loop
 μ-loop run from n coordinates₀ i₀ coordinates i = n - i
 
 loop-holds : tie.Need-loop-holds Inv-loop μ-loop
-loop-holds c = firsts-none _ _ _ (width + 1) _ refl
+loop-holds c = firsts-none _ _ _
 
 add-bits-at : tie.Need-add-bits-at Inv-loop μ-loop
 add-bits-at c = search needs
@@ -41,10 +40,10 @@ loop-less : tie.Need-loop-less Inv-loop μ-loop
 loop-less c = search needs
 
 loop-again : tie.Need-loop-again Inv-loop μ-loop
-loop-again c = firsts-turn _ _ _ (width + 1) _ _ _ (c .before .before .before .loop .inv) (omega arith) (c .before .before .before .before .before .pre .0) (c .float-of .ensures ∙ ap (ofBits binary32) (c .before .bits-at .ensures))
+loop-again c = firsts-turn _ _ _ _ _ _ (c .before .before .before .loop .inv) (omega arith) (c .float-of .ensures ∙ ap (ofBits binary32) (c .before .bits-at .ensures))
 
 returns : tie.Need-returns Inv-loop μ-loop
-returns c = firsts-all _ _ _ (width + 1) _ _ (c .before .loop .inv) (omega arith) (c .before .before .before .pre .0)
+returns c = firsts-taken _ _ _ _ (firsts-all _ _ _ _ _ (c .before .loop .inv) (omega arith)) (omega arith)
 
 pub coordinates-at-spec : {M : Type 1} → statement M
 coordinates-at-spec =

@@ -1,8 +1,6 @@
 -- `runcalls::fill_words` meets its contract: after i turns the first i words stand. Assumes nothing.
 use native.Mathlib.Omega.{arith}
-use mathlib.Core.Path.{refl}
 use Prim.Native.Nat.{ℕ, _+_, _*_, _-_}
-use lib.ListN.{length}
 use Rattle.runlayout.specs.Layout.{double}
 use Rattle.runcalls.proofs.Firsts.{Firsts, firsts-none, firsts-turn, firsts-all}
 use borrow.Author.Needs.{needs}
@@ -10,13 +8,13 @@ use Rattle.runcalls.proofs.fill_words.Statement.{statement}
 use Rattle.runcalls.proofs.fill_words.Tie as tie
 
 abbrev Inv-loop : tie.InvT-loop
-Inv-loop run from n words₀ i₀ words i = Firsts 0 (λ (j : ℕ). double run (from + 2 * j)) n (length words₀) i words
+Inv-loop run from n words₀ i₀ words i = Firsts (λ (j : ℕ). double run (from + 2 * j)) n words₀ i words
 
 abbrev μ-loop : tie.MeasureT-loop
 μ-loop run from n words₀ i₀ words i = n - i
 
 loop-holds : tie.Need-loop-holds Inv-loop μ-loop
-loop-holds c = firsts-none _ _ _ _ _ refl
+loop-holds c = firsts-none _ _ _
 
 mul-double-at : tie.Need-mul-double-at Inv-loop μ-loop
 mul-double-at c = search needs
@@ -40,13 +38,13 @@ loop-less : tie.Need-loop-less Inv-loop μ-loop
 loop-less c = search needs
 
 loop-again : tie.Need-loop-again Inv-loop μ-loop
-loop-again c = firsts-turn _ _ _ _ _ _ _ (c .before .before .loop .inv) (omega arith) (c .before .before .before .before .before .pre .0) (c .double-at .ensures)
+loop-again c = firsts-turn _ _ _ _ _ _ (c .before .before .loop .inv) (omega arith) (c .double-at .ensures)
 
 same-length : tie.Need-same-length Inv-loop μ-loop
 same-length c = search needs
 
 returns : tie.Need-returns Inv-loop μ-loop
-returns c = firsts-all _ _ _ _ _ _ (c .before .loop .inv) (omega arith) (c .before .before .before .before .pre .0)
+returns c = firsts-all _ _ _ _ _ (c .before .loop .inv) (omega arith)
 
 pub fill-words-spec : {M : Type 1} → statement M
 fill-words-spec =

@@ -18,12 +18,12 @@ use Rattle.treelist_text.proofs.run_rows.Statement.{statement}
 use Rattle.treelist_text.proofs.run_rows.Tie as tie
 
 abbrev Inv-loop : tie.InvT-loop
-Inv-loop nodes₀ cuts₀ copies₀ free₀ boxes₀ points₀ written₀ text start out₀ coordinates₀ words₀ reply₀ current₀ at₀ row₀ p₀ nodes cuts copies free boxes points written out coordinates words reply current at row p =
+Inv-loop nodes₀ cuts₀ copies₀ free₀ boxes₀ points₀ written₀ text start out₀ reply₀ current₀ at₀ row₀ p₀ nodes cuts copies free boxes points written out reply current at row p =
     (at ≤ length text) × (row ≤ at) × (p ≤ 50 * row)
     × ((d c : ℕ) (s : Float) (W : World (whole d)) (os : List Op) → Standing d c s W os text start 0 current₀ (lent nodes₀ cuts₀ copies₀ free₀ boxes₀) points₀ written₀ → Running d c s out₀ (outputFrom d c W 0 os) text at row current (lent nodes cuts copies free boxes) points written p out)
 
 abbrev μ-loop : tie.MeasureT-loop
-μ-loop nodes₀ cuts₀ copies₀ free₀ boxes₀ points₀ written₀ text start out₀ coordinates₀ words₀ reply₀ current₀ at₀ row₀ p₀ nodes cuts copies free boxes points written out coordinates words reply current at row p = length text - at
+μ-loop nodes₀ cuts₀ copies₀ free₀ boxes₀ points₀ written₀ text start out₀ reply₀ current₀ at₀ row₀ p₀ nodes cuts copies free boxes points written out reply current at row p = length text - at
 
 loop-holds : tie.Need-loop-holds Inv-loop μ-loop
 loop-holds c = let s = c .before .before in (s .pre .0 .0, omega arith, omega arith, λ d c s W os S. begin S)
@@ -64,49 +64,49 @@ part-call-row-end c = search needs
 
 call-row-requires : tie.Need-call-row-requires Inv-loop μ-loop
 call-row-requires c κs =
-    let s = c .before .before .before .before .before .before .before .before .before .before .before .before .before .before .before .before in
-    let l = c .before .before .before .before .before .before .before .before .before .before .before .before .before .loop in
+    let s = c .before .before .before .before .before .before .before .before .before .before .before .before .before .before in
+    let l = c .before .before .before .before .before .before .before .before .before .before .before .loop in
     let R = l .inv .3 _ _ _ _ _ (s .pre .1 .standing) in
-    (some-op R _ (l .inv .0) (c .before .before .before .before .before .before .before .before .before .before .before .before .piece-end .ensures) (c .before .before .before .before .before .before .before .before .before .before .before .if1 .left), some-state R)
+    (some-op R _ (l .inv .0) (c .before .before .before .before .before .before .before .before .before .before .piece-end .ensures) (c .before .before .before .before .before .before .before .before .before .if1 .left), some-state R)
 
 add-row : tie.Need-add-row Inv-loop μ-loop
 add-row c =
-    let s = c .before .before .before .before .before .before .before .before .before .before .before .before .before .before .before .before .before in
-    let l = c .before .before .before .before .before .before .before .before .before .before .before .before .before .before .loop in
+    let s = c .before .before .before .before .before .before .before .before .before .before .before .before .before .before .before in
+    let l = c .before .before .before .before .before .before .before .before .before .before .before .before .loop in
     omega (arith, l .inv .0, l .inv .1, s .pre .0 .1)
 
 array-read-tell-row : tie.Need-array-read-tell-row Inv-loop μ-loop
 array-read-tell-row c =
-    let s = c .before .before .before .before .before .before .before .before .before .before .before .before .before .before .before .before .before .before in
-    let l = c .before .before .before .before .before .before .before .before .before .before .before .before .before .before .before .loop in
+    let s = c .before .before .before .before .before .before .before .before .before .before .before .before .before .before .before .before in
+    let l = c .before .before .before .before .before .before .before .before .before .before .before .before .before .loop in
     let R = l .inv .3 _ _ _ _ _ (s .pre .1 .standing) in
-    omega (arith, reply-length R _ (l .inv .0) (c .before .before .before .before .before .before .before .before .before .before .before .before .before .before .piece-end .ensures) (c .before .before .before .before .before .before .before .before .before .before .before .before .before .if1 .left) _ _ _ _ _ (c .before .call-row .ensures))
+    omega (arith, reply-length R _ (l .inv .0) (c .before .before .before .before .before .before .before .before .before .before .before .before .piece-end .ensures) (c .before .before .before .before .before .before .before .before .before .before .before .if1 .left) _ _ _ _ _ (c .before .call-row .ensures))
 
 tell-row-requires : tie.Need-tell-row-requires Inv-loop μ-loop
 tell-row-requires c κs =
-    let s = c .before .before .before .before .before .before .before .before .before .before .before .before .before .before .before .before .before .before in
-    let l = c .before .before .before .before .before .before .before .before .before .before .before .before .before .before .before .loop in
+    let s = c .before .before .before .before .before .before .before .before .before .before .before .before .before .before .before .before in
+    let l = c .before .before .before .before .before .before .before .before .before .before .before .before .before .loop in
     omega (arith, l .inv .0, l .inv .1, l .inv .2, s .pre .0 .1)
 
 add-at : tie.Need-add-at Inv-loop μ-loop
 add-at c =
-    let s = c .before .before .before .before .before .before .before .before .before .before .before .before .before .before .before .before .before .before .before .before .before in
-    let l = c .before .before .before .before .before .before .before .before .before .before .before .before .before .before .before .before .before .before .loop in
-    omega (arith, c .before .before .before .before .before .before .before .before .before .before .before .before .before .before .before .before .before .piece-end .ensures .most, s .pre .0 .1)
+    let s = c .before .before .before .before .before .before .before .before .before .before .before .before .before .before .before .before .before .before .before in
+    let l = c .before .before .before .before .before .before .before .before .before .before .before .before .before .before .before .before .loop in
+    omega (arith, c .before .before .before .before .before .before .before .before .before .before .before .before .before .before .before .piece-end .ensures .most, s .pre .0 .1)
 
 loop-less : tie.Need-loop-less Inv-loop μ-loop
 loop-less c =
-    let s = c .before .before .before .before .before .before .before .before .before .before .before .before .before .before .before .before .before .before .before .before .before in
-    let l = c .before .before .before .before .before .before .before .before .before .before .before .before .before .before .before .before .before .before .loop in
-    let n = c .before .before .before .before .before .before .before .before .before .before .before .before .before .before .before .before .if1 .left in
-    omega (arith, c .before .before .before .before .before .before .before .before .before .before .before .before .before .before .before .before .before .piece-end .ensures .from, c .before .before .before .before .before .before .before .before .before .before .before .before .before .before .before .before .before .piece-end .ensures .most)
+    let s = c .before .before .before .before .before .before .before .before .before .before .before .before .before .before .before .before .before .before .before in
+    let l = c .before .before .before .before .before .before .before .before .before .before .before .before .before .before .before .before .loop in
+    let n = c .before .before .before .before .before .before .before .before .before .before .before .before .before .before .if1 .left in
+    omega (arith, c .before .before .before .before .before .before .before .before .before .before .before .before .before .before .before .piece-end .ensures .from, c .before .before .before .before .before .before .before .before .before .before .before .before .before .before .before .piece-end .ensures .most)
 
 loop-again : tie.Need-loop-again Inv-loop μ-loop
 loop-again c =
-    let s = c .before .before .before .before .before .before .before .before .before .before .before .before .before .before .before .before .before .before .before .before .before in
-    let l = c .before .before .before .before .before .before .before .before .before .before .before .before .before .before .before .before .before .before .loop in
-    let n = c .before .before .before .before .before .before .before .before .before .before .before .before .before .before .before .before .if1 .left in
-    let x = c .before .before .before .before .before .before .before .before .before .before .before .before .before .before .before .before .before .piece-end .ensures in (
+    let s = c .before .before .before .before .before .before .before .before .before .before .before .before .before .before .before .before .before .before .before in
+    let l = c .before .before .before .before .before .before .before .before .before .before .before .before .before .before .before .before .loop in
+    let n = c .before .before .before .before .before .before .before .before .before .before .before .before .before .before .if1 .left in
+    let x = c .before .before .before .before .before .before .before .before .before .before .before .before .before .before .before .piece-end .ensures in (
       omega (arith, x .most),
       omega (arith, x .from, l .inv .1),
       omega (arith, l .inv .2, c .before .before .tell-row .ensures .1),
