@@ -1,25 +1,27 @@
-//! Recorded answers of the Rust language itself on floats, for the functions of the crates
-//! `readings` and `little`: comparisons, `trunc`, `is_finite`, `as f32`, `as usize`, patterns.
-use crate::record::Record;
+//! The functions of floats of the port's crates `readings` and `little`: what the Rust language itself
+//! answers, by comparisons, `trunc`, `is_finite`, `as f32`, `as usize` and patterns, and inputs for them.
+#![forbid(unsafe_code)]
+
+mod draw;
+
 use oracle::Words;
 
-const SEED: u64 = 0x51DE_0F2A_F10A_7E55;
-/// So many inputs stand in a record.
-const INPUTS: usize = 1000;
 const RANDOM: usize = 1000;
 /// The patterns that stand for every NaN.
 const NAN_32: u32 = 0x7FC0_0000;
 const NAN_64: u64 = 0x7FF8_0000_0000_0000;
 
 /// What a function is given: a pattern or a word, and a capacity for the one function that has one.
-type Input = (u64, u16);
+pub type Input = (u64, u16);
 
-/// A function by its kind: its inputs, and its answer to one.
+/// A function by the kind of its records: inputs at its edges and some others, one more input, and its
+/// answer to one.
 pub struct Function {
     pub kind: u32,
     pub name: &'static str,
-    inputs: fn(&mut Words) -> Vec<Input>,
-    answer: fn(Input) -> u64,
+    pub inputs: fn(&mut Words) -> Vec<Input>,
+    pub draw: fn(&mut Words) -> Input,
+    pub answer: fn(Input) -> u64,
 }
 
 pub const FUNCTIONS: [Function; 8] = [
@@ -27,65 +29,74 @@ pub const FUNCTIONS: [Function; 8] = [
         kind: 4,
         name: "is_coordinate",
         inputs: singles,
+        draw: draw::single,
         answer: |x| u64::from(is_coordinate(single(x))),
     },
     Function {
         kind: 5,
         name: "is_weight",
         inputs: singles,
+        draw: draw::single,
         answer: |x| u64::from(is_weight(single(x))),
     },
     Function {
         kind: 6,
         name: "is_share",
         inputs: doubles,
+        draw: draw::double,
         answer: |x| u64::from((0.0..=1.0).contains(&double(x))),
     },
     Function {
         kind: 7,
         name: "factor",
         inputs: random_words,
+        draw: draw::word,
         answer: |(word, _)| pattern_64((word >> 11) as f64 / (1u64 << 53) as f64),
     },
     Function {
         kind: 8,
         name: "narrow",
         inputs: doubles,
+        draw: draw::double,
         answer: |x| pattern_32(double(x) as f32),
     },
     Function {
         kind: 9,
         name: "cached_part",
         inputs: shares,
+        draw: draw::share,
         answer: |x| (double(x) * f64::from(x.1)) as usize as u64,
     },
     Function {
         kind: 10,
         name: "float_of, pattern_of",
         inputs: singles,
+        draw: draw::single,
         answer: |x| pattern_32(single(x)),
     },
     Function {
         kind: 11,
         name: "double_of",
         inputs: doubles,
+        draw: draw::double,
         answer: |x| pattern_64(double(x)),
     },
 ];
 
-fn single((bits, _): Input) -> f32 {
+pub fn single((bits, _): Input) -> f32 {
     f32::from_bits(bits as u32)
 }
 
-fn double((bits, _): Input) -> f64 {
+pub fn double((bits, _): Input) -> f64 {
     f64::from_bits(bits)
 }
 
-fn pattern_32(x: f32) -> u64 {
+/// The bits of an f32; every NaN has the same.
+pub fn pattern_32(x: f32) -> u64 {
     u64::from(if x.is_nan() { NAN_32 } else { x.to_bits() })
 }
 
-fn pattern_64(x: f64) -> u64 {
+pub fn pattern_64(x: f64) -> u64 {
     if x.is_nan() {
         NAN_64
     } else {
@@ -105,51 +116,45 @@ fn is_weight(x: f32) -> bool {
     x.is_finite() && !is_minus_zero(x)
 }
 
-pub fn records() -> Vec<Record> {
-    let mut words = Words::new(SEED);
-    FUNCTIONS
-        .iter()
-        .flat_map(|function| {
-            let inputs = (function.inputs)(&mut words);
-            let record = |some: &[Input]| record(function, some);
-            inputs.chunks(INPUTS).map(record).collect::<Vec<_>>()
-        })
-        .collect()
-}
+/// Numbers at which something changes.
+const NAMED_32: [f32; 15] = [
+    0.0,
+    0.5,
+    1.0,
+    1.5,
+    3.0,
+    1_048_575.0,
+    1_048_575.5,
+    1_048_576.0,
+    1_048_577.0,
+    8_388_608.0,
+    16_777_216.0,
+    f32::MIN_POSITIVE,
+    f32::MAX,
+    f32::INFINITY,
+    f32::NAN,
+];
 
-/// An input takes 12 bytes, its answer 8.
-fn record(function: &Function, inputs: &[Input]) -> Record {
-    let (mut given, mut written) = (Vec::new(), Vec::new());
-    for &input in inputs {
-        given.extend_from_slice(&input.0.to_le_bytes());
-        given.extend_from_slice(&u32::from(input.1).to_le_bytes());
-        written.extend_from_slice(&(function.answer)(input).to_le_bytes());
-    }
-    Record::new(function.kind, given, written)
-}
+const NAMED_64: [f64; 12] = [
+    0.0,
+    0.5,
+    1.0,
+    1.0 / 3.0,
+    1_048_576.0,
+    1_048_576.062_5,
+    1_048_576.187_5,
+    f32::MAX as f64,
+    f64::MIN_POSITIVE,
+    f64::MAX,
+    f64::INFINITY,
+    f64::NAN,
+];
 
 /// Patterns of f32: named ones with their neighbours, every power of two, whole numbers, halves, and
 /// any.
 fn singles(words: &mut Words) -> Vec<Input> {
-    let named = [
-        0.0,
-        0.5,
-        1.0,
-        1.5,
-        3.0,
-        1_048_575.0,
-        1_048_575.5,
-        1_048_576.0,
-        1_048_577.0,
-        8_388_608.0,
-        16_777_216.0,
-        f32::MIN_POSITIVE,
-        f32::MAX,
-        f32::INFINITY,
-        f32::NAN,
-    ];
     let mut bits: Vec<u32> = vec![1, 0x007F_FFFF, 0x7F80_0001, 0x7FBF_FFFF, 0x7FFF_FFFF];
-    bits.extend(named.iter().flat_map(|x| near_32(x.to_bits())));
+    bits.extend(NAMED_32.iter().flat_map(|x| near_32(x.to_bits())));
     bits.extend((0..255).flat_map(|field| near_32(field << 23)));
     for _ in 0..RANDOM / 4 {
         let whole = words.between(-(1 << 20), 1 << 20) as f32;
@@ -174,24 +179,10 @@ fn near_64(bits: u64) -> [u64; 3] {
 /// Patterns of f64: named ones with their neighbours, every power of two that an f32 has and some
 /// beyond, numbers halfway between two f32 numbers with their neighbours, from 0 to 1, and any.
 fn doubles(words: &mut Words) -> Vec<Input> {
-    let named = [
-        0.0,
-        0.5,
-        1.0,
-        1.0 / 3.0,
-        1_048_576.0,
-        1_048_576.062_5,
-        1_048_576.187_5,
-        f64::from(f32::MAX),
-        f64::MIN_POSITIVE,
-        f64::MAX,
-        f64::INFINITY,
-        f64::NAN,
-    ];
     let mut bits: Vec<u64> = vec![1, 0x7FF0_0000_0000_0001, 0x7FFF_FFFF_FFFF_FFFF];
     // three halves of 2^-150, and halfway from the largest f32 to 2^128
     bits.extend([0x3698_0000_0000_0000, 0x47EF_FFFF_F000_0000]);
-    bits.extend(named.iter().flat_map(|x| near_64(x.to_bits())));
+    bits.extend(NAMED_64.iter().flat_map(|x| near_64(x.to_bits())));
     bits.extend((860..1160).flat_map(|field: u64| near_64(field << 52)));
     let ends = [0, 1, 0x007F_FFFF, 0x0080_0000, 0x7F7F_FFFE, 0x7F7F_FFFF];
     let between = (0..RANDOM / 8).map(|_| words.below(0x7F80_0000) as u32);
