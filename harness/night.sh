@@ -1,5 +1,6 @@
 #!/bin/bash
-# Compares port and Rust for a given time, on other runs each day; then 10,000 printed trees for each of its minutes.
+# Compares port and Rust for a given time, on other runs each day; then, for each of its minutes, 1,000,000 values
+# of each leaf and 10,000 printed trees.
 #   harness/night.sh MINUTES [SEED]
 # KRCF_SRC as for run.sh. Needs cargo, the Rust and rt. Without a SEED it is the day's date.
 set -euo pipefail
@@ -10,6 +11,7 @@ root=$(cd "$(dirname "$0")/.." && pwd)
 cd "$root"
 harness/copy_given.sh "${KRCF_SRC:-../shared/docs/src}"
 rt staticlib run
+rt staticlib leaves
 rt check treelist
 
 compared() {
@@ -17,4 +19,5 @@ compared() {
 }
 echo "night: $minutes minutes with the seed $seed"
 compared compare "$((60 * minutes))s" "$seed"
+compared compare_leaves "$((1000000 * minutes))" "$seed"
 compared compare_texts "$((10000 * minutes))" "$seed"

@@ -1,13 +1,13 @@
 #!/bin/bash
-# Holds the oracle against document 01, the recorded answers against the Rust, and the port and the
-# program treelist against the Rust.
+# Holds the oracle against document 01, the recorded answers against the Rust, and the port, its leaves
+# and the program treelist against the Rust.
 #   harness/run.sh [--digests]
 # KRCF_SRC names the folder that holds crates/rcflib/src, seen from the project's root; the default
-# is ../shared/docs/src. COMPARE says for how long the port is compared, 75s if unset, TEXTS on how many
-# texts treelist is, 2000 if unset. Where the Rust is not at hand, one line says so and all is well.
-# Where it is but cargo or rt is not, one line says which and the run fails, so that nothing that could
-# be compared is left out unseen. Where crates.txt has no treelist, no texts are compared.
-# --digests prints the digest of each given file. Needs no network.
+# is ../shared/docs/src. COMPARE says for how long the port is compared, 75s if unset, LEAVES on how many
+# values each leaf is, 1000000 if unset, TEXTS on how many texts treelist is, 2000 if unset. Where the
+# Rust is not at hand, one line says so and all is well. Where it is but cargo or rt is not, one line says
+# which and the run fails, so that nothing that could be compared is left out unseen. Where crates.txt has
+# no treelist, no texts are compared. --digests prints the digest of each given file. Needs no network.
 set -euo pipefail
 
 root=$(cd "$(dirname "$0")/.." && pwd)
@@ -35,6 +35,7 @@ built run --package selftest
 built run --package record -- check crates
 
 rt staticlib run
+rt staticlib leaves
 listed=
 if grep -q '^treelist:' crates.txt; then
   listed=yes
@@ -44,6 +45,8 @@ else
 fi
 built run --package compare -- --fault
 built run --package compare -- "${COMPARE:-75s}"
+built run --package compare_leaves -- --fault
+built run --package compare_leaves -- "${LEAVES:-1000000}"
 if [ -n "$listed" ]; then
   built run --package compare_texts -- --fault
   built run --package compare_texts -- "${TEXTS:-2000}"

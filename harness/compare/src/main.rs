@@ -72,7 +72,10 @@ fn numbered(text: &str) -> Result<Until, String> {
 fn until_of(text: &str) -> Result<Until, String> {
     Ok(match text.strip_suffix('s') {
         Some(seconds) => Until::Time(Duration::from_secs(number(seconds)?)),
-        None => Until::Runs(number(text)? as usize),
+        None => match number(text)? as usize {
+            0 => return Err("no run is asked for".into()),
+            runs => Until::Runs(runs),
+        },
     })
 }
 

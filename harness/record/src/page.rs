@@ -1,5 +1,6 @@
 //! The page beside the recorded file: what a record is, and what the records hold, counted.
-use crate::{cuts, floats, intervals, record, run_page, text_page, Recorded};
+use crate::{cuts, intervals, record, run_page, text_page, Recorded};
+use floats::{Function, FUNCTIONS};
 
 pub fn make(recorded: &Recorded) -> String {
     let [held, whole, parting] = cuts::counted(&recorded.cuts);
@@ -27,7 +28,7 @@ pub fn make(recorded: &Recorded) -> String {
 
 /// A row for each function of floats: how many inputs, in how many records.
 fn float_rows(recorded: &Recorded) -> String {
-    let row = |function: &floats::Function| {
+    let row = |function: &Function| {
         let of = recorded.floats.iter().filter(|r| r.kind == function.kind);
         let inputs: usize = of.clone().map(|r| r.given.len() / 12).sum();
         let (kind, name) = (function.kind, function.name);
@@ -37,7 +38,7 @@ fn float_rows(recorded: &Recorded) -> String {
             of.count()
         )
     };
-    floats::FUNCTIONS.iter().map(row).collect()
+    FUNCTIONS.iter().map(row).collect()
 }
 
 /// The page with each number in the place of its name. Longer names go first, as one may begin another.

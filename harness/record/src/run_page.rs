@@ -18,11 +18,12 @@ pub fn fill(page: String, entries: &[Entry]) -> String {
     let numbers = [
         ("@RUNS", entries.len()),
         ("@CALLS", calls),
-        ("@RUNS_OUT", refused(entries)),
+        ("@RUNS_OUT", refused(entries, 17)),
+        ("@RUNS_TOO_LARGE", refused(entries, 15)),
         ("@RUNS_UNMADE", refused_makings),
         ("@LONGEST_RUN", largest(entries, |e| e.run.len())),
         ("@LONGEST_ANSWERS", largest(entries, |e| e.outcome.returned())),
-        ("@FULL", full_capacity(entries)),
+        ("@FULL", full_trees(entries)),
     ];
     crate::page::put(page.replace("@CALL_TABLE\n", &rows(&table)), &numbers)
 }
@@ -31,8 +32,8 @@ fn largest(entries: &[Entry], size: fn(&Entry) -> usize) -> usize {
     entries.iter().map(size).max().unwrap_or(0)
 }
 
-fn refused(entries: &[Entry]) -> usize {
-    let is = |e: &&Entry| matches!(e.outcome, Outcome::Refused(_));
+fn refused(entries: &[Entry], refusal: u32) -> usize {
+    let is = |e: &&Entry| e.outcome == Outcome::Refused(refusal);
     entries.iter().filter(is).count()
 }
 
@@ -70,11 +71,11 @@ fn count(entries: &[Entry]) -> Table {
     table
 }
 
-/// The largest capacity of a run in which an add is refused because the tree is full.
-fn full_capacity(entries: &[Entry]) -> usize {
+/// How many runs have a tree of 256 leaves, and an add refused because it is full.
+fn full_trees(entries: &[Entry]) -> usize {
+    let largest = |e: &&Entry| decode(&e.run).is_some_and(|run| run.making.capacity == 256);
     let full = |e: &&Entry| answered(e).iter().any(|(_, refusal)| *refusal == 10);
-    let capacity = |e: &Entry| decode(&e.run).map_or(0, |run| run.making.capacity as usize);
-    entries.iter().filter(full).map(capacity).max().unwrap_or(0)
+    entries.iter().filter(largest).filter(full).count()
 }
 
 /// A row for each kind: how many, how many accepted, and the refusals.

@@ -1,11 +1,13 @@
 //! Runs from a seeded generator, each with the answers that it must get.
 mod fed;
+mod full;
 mod long;
 mod readings;
 mod setting;
 mod steps;
 mod writer;
 
+pub use full::{outward, run as full, Outward};
 pub use long::{lone_leaf_to_the_limit, three_values_to_the_limit};
 
 use crate::layout::{Answer, Run};

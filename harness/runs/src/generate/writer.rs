@@ -18,8 +18,19 @@ pub struct Writer<'a> {
     left: Room,
 }
 
-/// Writes a whole run. A refused making is followed by some calls, which it leaves unanswered.
+/// Writes a whole run in stretches.
 pub fn write(setting: Setting, words: &mut Words, room: Room) -> Written {
+    write_by(setting, words, room, |writer| writer.stretches())
+}
+
+/// Writes a whole run by these calls. A refused making is followed by some others, which it leaves
+/// unanswered.
+pub fn write_by(
+    setting: Setting,
+    words: &mut Words,
+    room: Room,
+    calls: impl FnOnce(&mut Writer),
+) -> Written {
     let mut written = Written {
         run: Run {
             making: setting.making,
@@ -46,7 +57,7 @@ pub fn write(setting: Setting, words: &mut Words, room: Room) -> Written {
                 written,
                 left,
             };
-            writer.stretches();
+            calls(&mut writer);
             writer.written
         }
     }
@@ -63,6 +74,11 @@ impl Writer<'_> {
         self.left.answers -= answer;
         self.written.answers.push(self.driver.call(&call));
         self.written.run.calls.push(call);
+    }
+
+    /// The room that is left.
+    pub fn left(&self) -> Room {
+        self.left
     }
 
     fn answer_bytes(&self, call: &Call) -> usize {

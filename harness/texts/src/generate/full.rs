@@ -1,15 +1,10 @@
-//! Texts that fill a tree in few bytes. Each new reading lies outside all others and is parted from
-//! them at the root, so that the next one's walk is short; a tree of 256 leaves then fits a text.
+//! Texts that fill a tree in few bytes, as `outward` of the runs says; a tree of 256 leaves then fits a
+//! text.
 use super::whole::shortened;
 use crate::text::{Making, Row, Text};
 use oracle::Words;
+use runs::generate::outward;
 use runs::Driver;
-
-/// Readings next to each other are so far apart.
-const STEP: i32 = 16;
-/// Factors that cut the whole box within a step of its lower or its upper end.
-const AT_LOW: u64 = 1 << 54;
-const AT_HIGH: u64 = u64::MAX << 54;
 
 /// A text in the making, with the tree as its rows leave it.
 struct Writer<'a> {
@@ -49,17 +44,10 @@ impl Writer<'_> {
 
     /// Writes and adds as many readings as the tree takes, at either end of those before.
     fn grow(&mut self, capacity: u32) {
-        let (mut low, mut high) = (0, 0);
         let one_side = self.words.once_in(2);
-        for index in 0..capacity {
-            let up = one_side || self.words.once_in(2);
-            let x = match up {
-                true => high + STEP,
-                false => low - STEP,
-            };
-            (low, high) = (low.min(x), high.max(x));
-            self.put(index, x);
-            self.add(index, if up { AT_HIGH } else { AT_LOW });
+        for (index, reading) in (0..).zip(outward(self.words, capacity, one_side)) {
+            self.put(index, reading.x);
+            self.add(index, reading.word);
         }
     }
 
