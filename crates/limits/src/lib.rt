@@ -39,3 +39,8 @@ pub type Free = [[u16; 2]; BRANCHES];
 
 // A walk: each node's id, and that of its sibling. No walk has more nodes than a tree has leaves.
 pub type Path = [[u16; 2]; CAPACITY];
+
+// The sample: the weights it keeps, and the point index that goes with each.
+pub type Weights = [f32; CAPACITY];
+
+pub type Held = [u16; CAPACITY];
