@@ -2,3 +2,5 @@ pub mod Places
 pub mod Ways
 pub mod Moves
 pub mod Counts
+pub mod Order
+pub mod Weights
