@@ -37,7 +37,7 @@ pub type Words = [u64; CAPACITY];
 
 // The put of the first n coordinates.
 fn put_first(
-    dimensions: usize,
+    tree: RCFTree,
     copies: &Copies,
     points: &mut Points,
     written: &mut Marks,
@@ -46,10 +46,10 @@ fn put_first(
     n: usize,
 ) -> PutAnswer
     requires { ⌜ n ≤ (width + 1) ⌝ }
-    ensures { λ r. ⌜ Puts dimensions (now (copies .entry)) index (take n (now (coordinates .entry))) (now (points .entry)) (now (written .entry)) (now (points .exit)) (now (written .exit)) r ⌝ }
+    ensures { λ r. ⌜ Puts (tree .dimensions) (now (copies .entry)) index (take n (now (coordinates .entry))) (now (points .entry)) (now (written .entry)) (now (points .exit)) (now (written .exit)) r ⌝ }
 {
     let all: &[f32] = coordinates;
-    pointstore::put(dimensions, copies, points, written, index, &all[..n])
+    tree.put(copies, points, written, index, &all[..n])
 }
 
 // The put of a list by as many of its coordinates as are looked at. A list of so many is longer than any tree's, so a longer one is refused like it.
@@ -68,15 +68,7 @@ pub fn put(
     ensures { λ _. ⌜ ((a : Lent) (xs : List Float) → a .copies ≡ now (copies .entry) → take n (now (coordinates .entry)) ≡ take (width + 1) xs
         → Does (λ d. put index xs) tree a (now (points .entry)) (now (written .entry)) tree a (now (points .exit)) (now (written .exit)) (now (reply .exit))) ⌝ }
 {
-    let answer = put_first(
-        tree.dimensions,
-        copies,
-        points,
-        written,
-        index,
-        coordinates,
-        n,
-    );
+    let answer = put_first(tree, copies, points, written, index, coordinates, n);
     answers::tell_put(answer, reply);
 }
 

@@ -106,6 +106,7 @@ fn check_put(dimensions: usize, copies: &Copies, index: usize, coordinates: &[f3
 }
 
 // Writes the coordinates for a point index, as its row and its mark; or refuses, in document 01's order, and writes nothing.
+// Public for the crates above: callers use `RCFTree::put`, which takes the channels from the header.
 // Rules out a put over a leaf's index, and a mark set by a put that is refused.
 pub fn put(
     dimensions: usize,

@@ -1,4 +1,4 @@
-// A random cut tree on readings fed in (randomcuttree.rs): making, adding, deleting and the queries. Its arrays are lent; the header goes in and comes back by value.
+// A random cut tree on readings fed in (randomcuttree.rs): making, putting, adding, deleting and the queries. Its arrays are lent; the header goes in and comes back by value.
 use boundingbox::BoundingBox;
 use casts::wide16;
 use cut::Cut;
@@ -15,6 +15,7 @@ use limits::Nodes;
 use limits::POINTS;
 use limits::Path;
 use limits::Points;
+use pointstore::PutAnswer;
 ghost use mathlib.Core.Path.{_≡_};
 ghost use mathlib.Core.Bool.{_&&_};
 ghost use mathlib.Core.List.{[]};
@@ -24,6 +25,7 @@ ghost use lib.ListN.{getD, replicate};
 ghost use Rattle.limits.specs.Limits.{branchLimit, pointLimit};
 ghost use Rattle.readings.specs.Number.{nought};
 ghost use Rattle.layout.specs.Layout.{noRow, noBoxEnds};
+ghost use Rattle.pointstore.specs.Puts.{Puts};
 ghost use Rattle.treestore.specs.Arrays.{lent};
 ghost use Rattle.randomcuttree.specs.State.{headed, SomeState};
 ghost use Rattle.randomcuttree.specs.Answers.{AddDone, DeleteDone};
@@ -261,6 +263,21 @@ impl RCFTree {
             refusal: 0,
             bounding_box,
         }
+    }
+
+    // Writes the coordinates for a point index, as its row and its mark; or refuses, in document 01's order, and writes nothing.
+    // Rules out coordinates counted by another tree's channels, and a put over a leaf's index.
+    pub fn put(
+        self,
+        copies: &Copies,
+        points: &mut Points,
+        written: &mut Marks,
+        index: usize,
+        coordinates: &[f32],
+    ) -> PutAnswer
+        ensures { λ r. ⌜ Puts (self .dimensions) (now (copies .entry)) index (now (coordinates .entry)) (now (points .entry)) (now (written .entry)) (now (points .exit)) (now (written .exit)) r ⌝ }
+    {
+        pointstore::put(self.dimensions, copies, points, written, index, coordinates)
     }
 
     // One copy more of the reading written for an index, with a word for each node of the walk where its value is new; or a refusal, in
