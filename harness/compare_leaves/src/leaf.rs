@@ -52,7 +52,7 @@ impl<I: Copy + Debug, A: PartialEq + Debug> Leaf<I, A> {
 /// What was compared so far.
 #[derive(Default)]
 pub struct Tally {
-    leaves: usize,
+    comparisons: usize,
     values: usize,
     differing: usize,
     /// The least number of values of a leaf, and that leaf.
@@ -82,7 +82,7 @@ impl Tally {
         }
         let Leaf { name, held_to, .. } = leaf;
         println!("{name}: {compared} values compared with {held_to}, {differing} differ");
-        self.leaves += 1;
+        self.comparisons += 1;
         self.values += compared;
         self.differing += differing;
         if self.fewest.is_none_or(|(fewest, _)| compared < fewest) {
@@ -93,12 +93,12 @@ impl Tally {
     /// The last line, and an error if anything differs or a leaf had too few values.
     pub fn finish(self) -> Result<(), String> {
         let Tally {
-            leaves,
+            comparisons,
             values,
             differing,
             fewest,
         } = self;
-        println!("leaves: {leaves} leaves, {values} values compared, {differing} differ");
+        println!("leaves: {comparisons} comparisons, {values} values compared, {differing} differ");
         if differing > 0 {
             return Err("the port's leaves do not answer as they must".into());
         }
