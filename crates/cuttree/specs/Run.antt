@@ -9,6 +9,7 @@ use Rattle.cuttree.specs.Setting.{Setting, Cut}
 use Rattle.intervalstoremanager.specs.Stack.{next, afterGet, afterRelease, fresh as freshNumbers}
 use Rattle.cuttree.specs.Tree.{Tree, leaf, branch, is, id, lo, hi, sumOf, leaves, mass, ending, found, walk, insert, addCopy, forget, freed}
 
+-- of puts, adds, deletes, arrivals and queries; `badWeight` is an arrival's alone
 pub data Refusal : Type 0 where
   indexAbove : Refusal
   coordinateCount : Refusal
@@ -19,6 +20,7 @@ pub data Refusal : Type 0 where
   fewWords : Refusal
   treeEmpty : Refusal
   notHeld : Refusal
+  badWeight : Refusal
   noSuchNode : Refusal
 
 -- document 01's numbers
@@ -32,6 +34,7 @@ numberOf full = 10
 numberOf fewWords = 11
 numberOf treeEmpty = 12
 numberOf notHeld = 13
+numberOf badWeight = 14
 numberOf noSuchNode = 16
 
 -- "copies of a leaf, and a branch's channel, cut, children, mass and box", each of an id

@@ -10,7 +10,7 @@ use Rattle.limits.specs.Limits.{width}
 use Rattle.readings.specs.Number.{nought, Number, number, zero}
 use Rattle.readings.proofs.Ordered.{same-number, number-is}
 use Rattle.cuttree.specs.Tree.{Tree, leaf, branch, lo, hi}
-use Rattle.cuttree.specs.Run.{Refusal, indexAbove, coordinateCount, badCoordinate, indexIsLeaf, neverWritten, full, fewWords, treeEmpty, notHeld, noSuchNode, numberOf, Answer, refused, branchIs, boxIs, Row, Box, World, put, add, delete, call, copiesFound, branchFound, boxFound}
+use Rattle.cuttree.specs.Run.{Refusal, indexAbove, coordinateCount, badCoordinate, indexIsLeaf, neverWritten, full, fewWords, treeEmpty, notHeld, badWeight, noSuchNode, numberOf, Answer, refused, branchIs, boxIs, Row, Box, World, put, add, delete, call, copiesFound, branchFound, boxFound}
 use Rattle.cuttree.proofs.Tests.{by-test, cond-true, cond-false}
 use Rattle.cuttree.proofs.Refused.{by-put, by-add, by-delete}
 use Rattle.wholetree.specs.Whole.{whole, ends}
@@ -32,6 +32,7 @@ refusal-is full = refl
 refusal-is fewWords = refl
 refusal-is treeEmpty = refl
 refusal-is notHeld = refl
+refusal-is badWeight = refl
 refusal-is noSuchNode = refl
 
 number-value : (a : Number) → number (a .value) ≡ a
@@ -53,13 +54,13 @@ module _ (d : ℕ) where
 
   module _ (c : ℕ) (W : World (whole d)) where
     pub heard-put : (i : ℕ) (xs : List Float) → heardPut d (putSays d (call (whole d) c W (put i xs) .0)) ≡ call (whole d) c W (put i xs) .0
-    heard-put i xs = by-put (whole d) c (λ x. heardPut d (putSays d (x .0)) ≡ x .0) W refused-is i xs (λ U. refl)
+    heard-put i xs = by-put (whole d) c (λ x. heardPut d (putSays d (x .0)) ≡ x .0) W refused-is i xs (λ U _. refl)
 
     pub heard-add : (h : World (whole d) → RCFTree) (i : ℕ) (ws : List ℕ) → heardAdd d (addSays d (h (call (whole d) c W (add i ws) .1)) (call (whole d) c W (add i ws) .0)) ≡ call (whole d) c W (add i ws) .0
-    heard-add h i ws = by-add (whole d) c (λ x. heardAdd d (addSays d (h (x .1)) (x .0)) ≡ x .0) W refused-is i ws (λ j n U. refl)
+    heard-add h i ws = by-add (whole d) c (λ x. heardAdd d (addSays d (h (x .1)) (x .0)) ≡ x .0) W refused-is i ws (λ j n U _. refl)
 
     pub heard-delete : (h : World (whole d) → RCFTree) (i : ℕ) → heardDelete d (deleteSays d (h (call (whole d) c W (delete i) .1)) (call (whole d) c W (delete i) .0)) ≡ call (whole d) c W (delete i) .0
-    heard-delete h i = by-delete (whole d) c (λ x. heardDelete d (deleteSays d (h (x .1)) (x .0)) ≡ x .0) W refused-is i (λ j U. refl)
+    heard-delete h i = by-delete (whole d) c (λ x. heardDelete d (deleteSays d (h (x .1)) (x .0)) ≡ x .0) W refused-is i (λ j U _. refl)
 
   pub heard-copies : (o : Option (Tree (whole d))) → heardCopies d (copiesSay d (copiesFound (whole d) o)) ≡ copiesFound (whole d) o
   heard-copies none = refl

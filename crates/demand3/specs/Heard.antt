@@ -5,7 +5,7 @@ use Prim.Native.Nat.{ℕ}
 use lib.Dec.{eqb}
 use lib.Ieee.{Float}
 use Rattle.readings.specs.Number.{Number, number}
-use Rattle.cuttree.specs.Run.{Refusal, indexAbove, coordinateCount, badCoordinate, indexIsLeaf, neverWritten, full, fewWords, treeEmpty, notHeld, noSuchNode, Answer, refused, written, added, deleted, copiesAre, branchIs, boxIs, Row}
+use Rattle.cuttree.specs.Run.{Refusal, indexAbove, coordinateCount, badCoordinate, indexIsLeaf, neverWritten, full, fewWords, treeEmpty, notHeld, badWeight, noSuchNode, Answer, refused, written, added, deleted, copiesAre, branchIs, boxIs, Row}
 use Rattle.wholetree.specs.Whole.{whole}
 use Rattle.pointstore.specs.declared.PutAnswer.{PutAnswer}
 use Rattle.pointstore.specs.declared.PutAnswer.the-variants.{Written, Refused}
@@ -32,7 +32,8 @@ refusalBy n =
     (cond (eqb n 10) full
     (cond (eqb n 11) fewWords
     (cond (eqb n 12) treeEmpty
-    (cond (eqb n 13) notHeld noSuchNode))))))))
+    (cond (eqb n 13) notHeld
+    (cond (eqb n 14) badWeight noSuchNode)))))))))
 
 -- the end of a box in each channel, 0 beyond the row
 abbrev pub endIn : List Float → ℕ → Number

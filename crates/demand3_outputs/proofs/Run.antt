@@ -55,9 +55,9 @@ module _ (d c : ℕ) (s : Float) (few : d ≤ width) where
 
   -- the numbers of a call's answer are those of docs/LAYOUT.md
   numbers-are : (W : World (whole d)) (e : Call (whole d)) → said d c s e (call (whole d) c W e) ≡ numbersOf d e (call (whole d) c W e .0)
-  numbers-are W (put i xs) = by-put (whole d) c (λ x. putNumbers (putSays d (x .0)) ≡ numbersOf d (put i xs) (x .0)) W (λ m. refl) i xs (λ U. refl)
-  numbers-are W (add i ws) = by-add (whole d) c (λ x. addNumbers (addSays d (headerOf d c s (x .1)) (x .0)) ≡ numbersOf d (add i ws) (x .0)) W (λ m. refl) i ws (λ j n U. refl)
-  numbers-are W (delete i) = by-delete (whole d) c (λ x. deleteNumbers (deleteSays d (headerOf d c s (x .1)) (x .0)) ≡ numbersOf d (delete i) (x .0)) W (λ m. refl) i (λ j U. refl)
+  numbers-are W (put i xs) = by-put (whole d) c (λ x. putNumbers (putSays d (x .0)) ≡ numbersOf d (put i xs) (x .0)) W (λ m. refl) i xs (λ U _. refl)
+  numbers-are W (add i ws) = by-add (whole d) c (λ x. addNumbers (addSays d (headerOf d c s (x .1)) (x .0)) ≡ numbersOf d (add i ws) (x .0)) W (λ m. refl) i ws (λ j n U _. refl)
+  numbers-are W (delete i) = by-delete (whole d) c (λ x. deleteNumbers (deleteSays d (headerOf d c s (x .1)) (x .0)) ≡ numbersOf d (delete i) (x .0)) W (λ m. refl) i (λ j U _. refl)
   numbers-are W (query (copiesOf x)) = copies-numbers x (lookIn (whole d) c (W .tree) x)
   numbers-are W (query (branchOf x)) = branch-numbers x (lookIn (whole d) c (W .tree) x)
   numbers-are W (query (boxOf x)) = box-numbers x (lookIn (whole d) c (W .tree) x)

@@ -14,10 +14,10 @@ module _ (d c : ℕ) (s : Float) (W : World (whole d)) where
   HeaderAdded x = headerAdded (headerOf d c s W) (addSays d (headerOf d c s (x .1)) (x .0)) ≡ headerOf d c s (x .1)
 
   pub add-header : (i : ℕ) (ws : List ℕ) → HeaderAdded (call (whole d) c W (add i ws))
-  add-header i ws = by-add (whole d) c HeaderAdded W (λ m. refl) i ws (λ j n U. refl)
+  add-header i ws = by-add (whole d) c HeaderAdded W (λ m. refl) i ws (λ j n U _. refl)
 
   abbrev HeaderDeleted : Answer (whole d) × World (whole d) → Type 0
   HeaderDeleted x = headerDeleted (headerOf d c s W) (deleteSays d (headerOf d c s (x .1)) (x .0)) ≡ headerOf d c s (x .1)
 
   pub delete-header : (i : ℕ) → HeaderDeleted (call (whole d) c W (delete i))
-  delete-header i = by-delete (whole d) c HeaderDeleted W (λ m. refl) i (λ j U. refl)
+  delete-header i = by-delete (whole d) c HeaderDeleted W (λ m. refl) i (λ j U _. refl)

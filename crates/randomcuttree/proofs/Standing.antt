@@ -1,13 +1,11 @@
 -- Each world that calls leave stands in arrays, and a put keeps the state. Assumes nothing.
 use mathlib.Core.Path.{_≡_, refl, sym, _∙_}
-use mathlib.Core.Bool.{not}
 use mathlib.Core.List.{List, [], _∷_}
 use Prim.Native.Nat.{ℕ, _≤_}
-use lib.Dec.{leb}
 use lib.Ieee.{Float}
 use Rattle.limits.specs.Limits.{width, pointLimit}
-use Rattle.cuttree.specs.Run.{World, Call, Answer, put, call, worldAfter, fresh, isLeaf}
-use Rattle.cuttree.proofs.Tests.{by-cond}
+use Rattle.cuttree.specs.Run.{World, Call, Answer, put, call, worldAfter, fresh}
+use Rattle.cuttree.proofs.Refused.{by-put}
 use Rattle.wholetree.specs.Whole.{whole}
 use Rattle.pointstore.specs.declared.PutAnswer.{PutAnswer}
 use Rattle.pointstore.specs.Puts.{PutDone}
@@ -29,8 +27,7 @@ abbrev Kept : (d : ℕ) → World (whole d) → Answer (whole d) × World (whole
 Kept d W x = (x .1 .tree ≡ W .tree) × (x .1 .free ≡ W .free)
 
 put-kept : (d c : ℕ) (W : World (whole d)) (i : ℕ) (xs : List Float) → Kept d W (call (whole d) c W (put i xs))
-put-kept d c W i xs = by-cond (Kept d W) (leb pointLimit i) _ _ (λ _. (refl, refl)) (λ _. by-cond (Kept d W) (not (whole d .counted xs)) _ _ (λ _. (refl, refl)) (λ _. by-cond (Kept d W) (not (whole d .good xs)) _ _ (λ _. (refl, refl))
-    (λ _. by-cond (Kept d W) (isLeaf (whole d) (W .tree) i) _ _ (λ _. (refl, refl)) (λ _. (refl, refl)))))
+put-kept d c W i xs = by-put (whole d) c (Kept d W) W (λ _. (refl, refl)) i xs (λ U e. e)
 
 pub puts-keep : PutsKeep
 puts-keep d c s W tree a points marks H = (record { table = H .table-is; leaves = copies-are H ∙ sym (counts-cached d c (cachedBy s c) (W .tree)); sound = H .reachable .sound }, after)

@@ -8,7 +8,7 @@ use lib.Ieee.{Float}
 use lib.ListN.{length, length-append}
 use Rattle.limits.specs.Limits.{width, capacityLimit}
 use Rattle.readings.specs.Share.{isShare}
-use Rattle.cuttree.specs.Run.{World, Refusal, indexAbove, coordinateCount, badCoordinate, indexIsLeaf, neverWritten, full, fewWords, treeEmpty, notHeld, noSuchNode, Answer, refused, written, added, deleted, copiesAre, branchIs, boxIs, numberOf, call, fresh}
+use Rattle.cuttree.specs.Run.{World, Refusal, indexAbove, coordinateCount, badCoordinate, indexIsLeaf, neverWritten, full, fewWords, treeEmpty, notHeld, badWeight, noSuchNode, Answer, refused, written, added, deleted, copiesAre, branchIs, boxIs, numberOf, call, fresh}
 use Rattle.cuttree.proofs.Tests.{by-cond}
 use Rattle.wholetree.specs.Whole.{whole}
 use Rattle.randomcuttree.specs.State.{Reachable}
@@ -37,6 +37,7 @@ number-few full = omega arith
 number-few fewWords = omega arith
 number-few treeEmpty = omega arith
 number-few notHeld = omega arith
+number-few badWeight = omega arith
 number-few noSuchNode = omega arith
 
 told-few : (d : ℕ) (a : Answer (whole d)) (n : ℕ) → n < 10000 → length (toldRow d a n) ≤ 16

@@ -8,7 +8,7 @@ use borrow.Author.Tests.{ne-eqb}
 use lib.Dec.{eqb}
 use lib.ListN.{getD}
 use lib.Ieee.{Float}
-use Rattle.cuttree.specs.Run.{World, Refusal, indexAbove, coordinateCount, badCoordinate, indexIsLeaf, neverWritten, full, fewWords, treeEmpty, notHeld, noSuchNode, Answer, refused, written, added, deleted, copiesAre, branchIs, boxIs, numberOf}
+use Rattle.cuttree.specs.Run.{World, Refusal, indexAbove, coordinateCount, badCoordinate, indexIsLeaf, neverWritten, full, fewWords, treeEmpty, notHeld, badWeight, noSuchNode, Answer, refused, written, added, deleted, copiesAre, branchIs, boxIs, numberOf}
 use Rattle.wholetree.specs.Whole.{whole}
 use Rattle.answers.specs.Said.{filled, said, replyWidth}
 use Rattle.form.specs.Rows.{Op, put, add, delete}
@@ -70,6 +70,7 @@ module _ (d c : ℕ) (s : Float) where
   line-of fewWords n = refl
   line-of treeEmpty n = refl
   line-of notHeld n = refl
+  line-of badWeight n = refl
   line-of noSuchNode n = refl
 
   by-refusal : (a : Answer (whole d)) (n : ℕ) → cond (eqb (refusalOf d a) 0) [] (refusedLine (refusalOf d a) n) ≡ toldRow d a n
