@@ -67,7 +67,7 @@ module _ (S : Setting) where
         let j = D .leaf-index in
         let k : Entry = record { weight = w; index = j } in
         rw (admitted-as X (X .sample) none w (Bare.call S c W (add i ws)) j (D .words) (D .answer)) (
-          record { words = D .words; answered = ap (λ (a : Answer S). a ∷ []) (D .answer); leaves = refl },
+          record { words = D .words; entries = pushed above beyond (X .sample) k; answered = ap (λ (a : Answer S). a ∷ []) (D .answer); leaves = refl },
           tt,
           record {
             sound = sound-call S c L W (add i ws) (A .sound);
@@ -106,7 +106,7 @@ module _ (S : Setting) where
         let j = D .leaf-index in
         let n : Entry = record { weight = w; index = j } in
         rw (admitted-as X left (some e) w (Bare.call S c V₁ (add i ws)) j (D .words) (D .answer)) (
-          record { words = D .words; answered = ap₂ (λ (a b : Answer S). a ∷ b ∷ []) (E .answer) (D .answer); leaves = refl },
+          record { words = D .words; entries = pushed above beyond left n; answered = ap₂ (λ (a b : Answer S). a ∷ b ∷ []) (E .answer) (D .answer); leaves = refl },
           top k ks s lighter,
           record {
             sound = sound-call S c L V₁ (add i ws) (sound-call S c L W (delete e) (A .sound));

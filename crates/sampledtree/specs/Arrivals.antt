@@ -13,7 +13,7 @@ use Rattle.cuttree.specs.Setting.{Setting}
 use Rattle.cuttree.specs.Tree.{is, sumOf}
 use Rattle.cuttree.specs.Run.{Refusal, Answer, refused, added, deleted, Call, add, delete, answers, worldAfter, totalOf}
 use Rattle.cuttree.specs.Sound.{Sound}
-use Rattle.sampledtree.specs.Sampled.{Sampled, SampledAnswer, plain, notAccepted, accepted, put, arrive, call, fresh}
+use Rattle.sampledtree.specs.Sampled.{Sampled, SampledAnswer, plain, notAccepted, accepted, withSample, put, arrive, call, fresh}
 
 -- how often entries keep an index
 abbrev pub occurs : List Entry → ℕ → ℕ
@@ -35,8 +35,9 @@ module _ (S : Setting) where
   -- An accepted arrival from X to Y: these calls, none of them refused, "and leaves the tree that these two leave".
   pub record AsCalls (X : Sampled S) (i : ℕ) (ws : List Word) (j : ℕ) (e : Option ℕ) (Y : Sampled S) : Type 0 where
     pub words : ℕ
+    pub entries : List Entry
     pub answered : answers S (X .capacity) (X .world) (countsAs e i ws) ≡ answersAs e j words
-    pub leaves : Y .world ≡ worldAfter S (X .capacity) (X .world) (countsAs e i ws)
+    pub leaves : Y ≡ withSample S X (worldAfter S (X .capacity) (X .world) (countsAs e i ws)) entries
 
   -- one where the point written for an index has the value v
   abbrev pub valued : Option Point → Point → ℕ

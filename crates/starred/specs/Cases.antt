@@ -1,11 +1,12 @@
 -- The kinds of starred case, and when a case holds. A later kind joins as one constructor and one clause.
 use mathlib.Core.List.{List, [], _∷_}
 use mathlib.Core.Bool.{Bool, true, false, _&&_}
+use mathlib.Core.Option.{none, some}
 use Prim.Native.Nat.{ℕ}
 use Prim.Native.String.{String}
 use lib.Dec.{eqb}
 use lib.ListN.{length}
-use lib.Ieee.{Float, binary32, binary64, ofBits, toBits, fits, round, add, sub, mul, lt, le, eq}
+use lib.Ieee.{Float, binary32, binary64, ofBits, toBits, fits, round, add, sub, mul, div, ofInt, lt, le, eq}
 use Rattle.readings.specs.Coordinate.{isCoordinate}
 use Rattle.readings.specs.Number.{isNumber, asNumber, zero, number}
 use Rattle.readings.specs.Word.{factorOf}
@@ -20,6 +21,9 @@ use Rattle.cut.specs.declared.Separation.the-variants.{NoCut, Drawn}
 use Rattle.cut.specs.Draw.{outsideOf, outsideSum, sideOf, rangeOf, reaches, leftOf, sideFrom, moved, placed, parts, drawnAt, separation}
 use Rattle.intervalstoremanager.specs.Stack as Stack
 use Rattle.cuttree.specs.Run.{Answer, refused, written, added, deleted, copiesAre, branchIs, boxIs, Call, add as addCall, call, fresh, worldAfter}
+use Rattle.startingchance.specs.Chance.{fillFraction, chanceOf, startsBy}
+use Rattle.sampler.specs.Heap.{moved as stepped, heavier}
+use Rattle.sampledtree.specs.Sampled.{Sampled, SampledCall, SampledAnswer, plain, notAccepted, accepted, call as callSampled, fresh as freshSampled}
 use Rattle.wholetree.specs.Reading.{isCoordinate32, isRow, coordinate, sameRow, padded, origin, asReading, reading}
 use Rattle.wholetree.specs.Whole.{tab, whole}
 use Rattle.printed.specs.Printed.{printedTree}
@@ -32,6 +36,9 @@ pub data Case : Type 0 where
   narrows : ℕ → ℕ → Case
   -- channels, capacity, calls, then an add's index and words: the index and the words taken that it answers, and what the tree prints after it
   lists : (d c : ℕ) → List (Call (whole d)) → ℕ → List ℕ → ℕ → ℕ → String → Case
+  -- channels, capacity, an initial share, calls on a sampled tree, then one more: the leaf's index and the evicted index, if any, that it
+  -- answers; none where it is not accepted
+  samples : (d c : ℕ) → ℕ → List (SampledCall (whole d)) → SampledCall (whole d) → List ℕ → Case
 
 -- f32s by their bits
 abbrev pub floats : List ℕ → List Float
@@ -57,13 +64,24 @@ alike [] (y ∷ ys) = false
 alike (x ∷ xs) [] = false
 alike (x ∷ xs) (y ∷ ys) = eqb x y && alike xs ys
 
+abbrev sampledAfter : (d : ℕ) → Sampled (whole d) → List (SampledCall (whole d)) → Sampled (whole d)
+sampledAfter d X [] = X
+sampledAfter d X (e ∷ es) = sampledAfter d (callSampled (whole d) X e .1) es
+
+abbrev isUpdated : (d : ℕ) → SampledAnswer (whole d) → List ℕ → Bool
+isUpdated d (plain a) l = false
+isUpdated d notAccepted l = alike [] l
+isUpdated d (accepted j none) l = alike (j ∷ []) l
+isUpdated d (accepted j (some e)) l = alike (j ∷ e ∷ []) l
+
 unfoldable pub holds : Case → Bool
-unfolding Stack.fresh Stack.next Stack.afterGet Stack.afterRelease ofBits toBits fits round add sub mul lt le eq isCoordinate factorOf narrowed least greatest gapOf total every outsideOf outsideSum sideOf rangeOf reaches leftOf sideFrom moved placed parts drawnAt separation isNumber asNumber zero number isCoordinate32 isRow coordinate sameRow padded origin asReading reading tab digit decimalIn decimal hex branchLine leafLine
+unfolding Stack.fresh Stack.next Stack.afterGet Stack.afterRelease ofBits toBits fits round add sub mul lt le eq isCoordinate factorOf narrowed least greatest gapOf total every outsideOf outsideSum sideOf rangeOf reaches leftOf sideFrom moved placed parts drawnAt separation isNumber asNumber zero number isCoordinate32 isRow coordinate sameRow padded origin asReading reading tab digit decimalIn decimal hex branchLine leafLine div ofInt fillFraction chanceOf startsBy stepped heavier
 holds (cuts q p w d v) = draws (separation (length q) (floats q) (floats q) (floats p) w) d v
 holds (narrows x y) = eqb (toBits binary32 (narrowed (ofBits binary64 x))) y
 holds (lists d c xs i ws j n text) =
     let r = call (whole d) c (worldAfter (whole d) c (fresh (whole d) c) xs) (addCall i ws) in
     isAdded d (r .0) j n && alike (printedTree d c (r .1 .tree)) (bytes text)
+holds (samples d c f xs x l) = isUpdated d (callSampled (whole d) (sampledAfter d (freshSampled (whole d) c (ofBits binary64 f)) xs) x .0) l
 
 unfoldable pub all : List Case → Bool
 unfolding holds
