@@ -27,6 +27,25 @@ pub fn wide64(x: u64) -> usize
     x as usize
 }
 
+// To the next wider type, not to `usize`.
+pub fn u16_of_u8(x: u8) -> u16
+    ensures { λ r. ⌜ (r ≡ x) × (x < 256) ⌝ }
+{
+    x as u16
+}
+
+pub fn u32_of_u16(x: u16) -> u32
+    ensures { λ r. ⌜ (r ≡ x) × (x < 65536) ⌝ }
+{
+    x as u32
+}
+
+pub fn u64_of_u32(x: u32) -> u64
+    ensures { λ r. ⌜ (r ≡ x) × (x < 4294967296) ⌝ }
+{
+    x as u64
+}
+
 // The lesser of two numbers.
 // Rules out the greater one, and a sum in its place.
 pub fn at_most(n: usize, most: usize) -> usize

@@ -1,6 +1,7 @@
 // The free branch numbers of a tree, handed out and taken back in the Rust's order: a port of intervalstoremanager.rs.
 // The rows are lent by the caller, and the manager of them is passed and returned by value. `change_capacity`, `used` and `get_size`
 // are left out, as no tree calls them. Nothing is required of a caller: any manager, rows and number are answered.
+use casts::wide16;
 use limits::BRANCHES;
 use limits::Free;
 ghost use mathlib.Core.Path.{_≡_};
@@ -36,13 +37,6 @@ pub enum Released {
 struct Interval {
     start: u16,
     end: u16,
-}
-
-// As a `usize`, a number has room for one more, whatever it is.
-fn wide(x: u16) -> usize
-    ensures { λ r. ⌜ (r ≡ x) × (x < 65536) ⌝ }
-{
-    x as usize
 }
 
 fn interval_at(rows: &Free, k: usize) -> Interval
@@ -103,7 +97,7 @@ impl IntervalStoreManager {
     pub fn get(self, rows: &mut Free) -> Got
         ensures { λ r. ⌜ r ≡ gotOf self (now (rows .entry)) ⌝ ∗ ⌜ now (rows .exit) ≡ rowsGot self (now (rows .entry)) ⌝ }
     {
-        let n = wide(self.last_in_use);
+        let n = wide16(self.last_in_use);
         if n == 0 {
             return Got::Empty;
         }
@@ -129,7 +123,7 @@ impl IntervalStoreManager {
     fn push(self, rows: &mut Free, index: u16) -> Released
         ensures { λ r. ⌜ r ≡ pushedOf self ⌝ ∗ ⌜ now (rows .exit) ≡ rowsPushed self (now (rows .entry)) index ⌝ }
     {
-        let n = wide(self.last_in_use);
+        let n = wide16(self.last_in_use);
         if n < BRANCHES {
             put(rows, n, index, index);
             return Released::Done(Self {
@@ -146,7 +140,7 @@ impl IntervalStoreManager {
     pub fn release(self, rows: &mut Free, index: u16) -> Released
         ensures { λ r. ⌜ r ≡ releasedOf self (now (rows .entry)) index ⌝ ∗ ⌜ now (rows .exit) ≡ rowsReleased self (now (rows .entry)) index ⌝ }
     {
-        let n = wide(self.last_in_use);
+        let n = wide16(self.last_in_use);
         if n == 0 {
             return self.push(rows, index);
         }
@@ -154,11 +148,11 @@ impl IntervalStoreManager {
             return Released::Full;
         }
         let top = interval_at(rows, n - 1);
-        if wide(top.start) == wide(index) + 1 {
+        if wide16(top.start) == wide16(index) + 1 {
             put(rows, n - 1, index, top.end);
             return Released::Done(self);
         }
-        if wide(top.end) + 1 == wide(index) {
+        if wide16(top.end) + 1 == wide16(index) {
             put(rows, n - 1, top.start, index);
             return Released::Done(self);
         }

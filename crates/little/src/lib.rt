@@ -1,4 +1,7 @@
 // Numbers and floats in byte slices, the lowest byte first: how the byte run and the recorded answers lie.
+use casts::u16_of_u8;
+use casts::u32_of_u16;
+use casts::u64_of_u32;
 ghost use mathlib.Core.Path.{_≡_};
 ghost use Prim.Native.Nat.{_+_, _%_, _<_, _≤_};
 ghost use lib.ListN.{length, set};
@@ -21,46 +24,27 @@ const NOT_A_NUMBER: u32 = 2143289344;
 
 const NOT_A_NUMBER64: u64 = 9221120237041090560;
 
-// A cast of what a call or an index gives asks that it fits; a call of one of these asks nothing.
-fn wide(x: u8) -> u16
-    ensures { λ r. ⌜ (r ≡ x) × (x < 256) ⌝ }
-{
-    x as u16
-}
-
-fn wide16(x: u16) -> u32
-    ensures { λ r. ⌜ r ≡ x ⌝ }
-{
-    x as u32
-}
-
-fn wide32(x: u32) -> u64
-    ensures { λ r. ⌜ r ≡ x ⌝ }
-{
-    x as u64
-}
-
 // The number in two bytes, from `at` on, the lowest byte first; and so in four and in eight.
 // Wrong here: the highest byte first; halves that overlap.
 pub fn u16_at(bytes: &[u8], at: usize) -> u16
     requires { ⌜ at + 2 ≤ length (now bytes) ⌝ }
     ensures { λ r. ⌜ r ≡ little16 (now (bytes .entry)) at ⌝ }
 {
-    wide(bytes[at]) + 256 * wide(bytes[at + 1])
+    u16_of_u8(bytes[at]) + 256 * u16_of_u8(bytes[at + 1])
 }
 
 pub fn u32_at(bytes: &[u8], at: usize) -> u32
     requires { ⌜ at + 4 ≤ length (now bytes) ⌝ }
     ensures { λ r. ⌜ r ≡ little32 (now (bytes .entry)) at ⌝ }
 {
-    wide16(u16_at(bytes, at)) + 65536 * wide16(u16_at(bytes, at + 2))
+    u32_of_u16(u16_at(bytes, at)) + 65536 * u32_of_u16(u16_at(bytes, at + 2))
 }
 
 pub fn u64_at(bytes: &[u8], at: usize) -> u64
     requires { ⌜ at + 8 ≤ length (now bytes) ⌝ }
     ensures { λ r. ⌜ r ≡ little64 (now (bytes .entry)) at ⌝ }
 {
-    wide32(u32_at(bytes, at)) + 4294967296 * wide32(u32_at(bytes, at + 4))
+    u64_of_u32(u32_at(bytes, at)) + 4294967296 * u64_of_u32(u32_at(bytes, at + 4))
 }
 
 // The f32 of any pattern. `from_bits` is not defined at those of NaN, which stand above infinity's.

@@ -23,6 +23,7 @@ use Rattle.wholetree.proofs.Laws.{whole-laws}
 use Rattle.nodestore.specs.Stored.{Arrays, Reached, SomeReached}
 use Rattle.boxstore.proofs.Copies.{copy-boxes}
 use Rattle.treestore.specs.declared.Edited.{Edited}
+use Rattle.treestore.specs.declared.Entered.{Entered}
 use Rattle.treestore.specs.declared.Found.{Found}
 use Rattle.treestore.specs.Arrays.{Lent, lent, arraysOf, EditDone}
 use Rattle.treestore.specs.Finds.{SomeSought, Finds, FoundIn}
@@ -182,10 +183,10 @@ module _ {d c : ℕ} {s : Float} {W : World (whole d)} {tree : RCFTree} {a : Len
                   some-entering = subst (λ (x : RCFTree). SomeEntering (x .capacity) (x .cached) (x .root) (x .manager) a points path (f .walk) (f .leaf) i ws (getD points i [])) (sym (H .header-is))
                       (record { channels = d; tree = t; free = W .free; reading = p; entering = entering })
 
-                  pub inserted : (r : Edited) (b : Lent) → Enters (tree .capacity) (tree .cached) (tree .root) (tree .manager) a points path (f .walk) (f .leaf) i ws (getD points i []) r b
-                      → (header : RCFTree) → header ≡ headed tree (r .root) (tree .total + 1) (r .manager) → Done ws (Added header i (f .walk)) b
+                  pub inserted : (r : Entered) (b : Lent) → Enters (tree .capacity) (tree .cached) (tree .root) (tree .manager) a points path (f .walk) (f .leaf) i ws (getD points i []) r b
+                      → (header : RCFTree) → header ≡ headed tree (r .root) (tree .total + 1) (r .manager) → Done ws (Added header i (r .words)) b
                   inserted r b h header g =
                       let left = subst (λ (x : RCFTree). Enters (x .capacity) (x .cached) (x .root) (x .manager) a points path (f .walk) (f .leaf) i ws (getD points i []) r b) (H .header-is) h d t (W .free) p entering in
-                      done ws (added i (walk (whole d) t p)) _ _ r (tree .total + 1) header b (Added header i (f .walk))
+                      done ws (added i (walk (whole d) t p)) _ _ (record { root = r .root; manager = r .manager }) (tree .total + 1) header b (Added header i (r .words))
                       (entered ws (some t) T ∙ cond-false _ _ _ absent ∙ cond-false _ _ _ (full-as e false empty some-left) ∙ cond-false _ _ _ (le-ltb (length ws) (walk (whole d) t p) (omega (arith, enough, found-in .walked .count))))
-                      (ap (λ x. Added header i x) (found-in .walked .count)) g (omega (arith, total-of, total-insert (whole d) (next (W .free)) i p (λ m. getD ws m 0) t)) left
+                      (ap (λ x. Added header i x) (left .1)) g (omega (arith, total-of, total-insert (whole d) (next (W .free)) i p (λ m. getD ws m 0) t)) (left .0)

@@ -337,7 +337,7 @@ impl RCFTree {
         if words.len() < n {
             return AddAnswer::NotAdded(11);
         }
-        let edited = treestore::insert_leaf(
+        let entered = treestore::insert_leaf(
             self.root,
             self.manager,
             self.capacity,
@@ -355,8 +355,8 @@ impl RCFTree {
             words,
             &points[index],
         );
-        let tree = headed_by(self, edited.root, total + 1, edited.manager);
-        AddAnswer::Added(tree, index, n)
+        let tree = headed_by(self, entered.root, total + 1, entered.manager);
+        AddAnswer::Added(tree, index, entered.words)
     }
 
     // One copy less of the reading written for an index; or a refusal, in document 01's order, and nothing written.

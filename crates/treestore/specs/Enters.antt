@@ -9,11 +9,11 @@ use lib.Ieee.{Float}
 use Rattle.limits.specs.Limits.{pointLimit, totalLimit}
 use Rattle.intervalstoremanager.specs.declared.IntervalStoreManager.{IntervalStoreManager}
 use Rattle.intervalstoremanager.specs.Stack.{next, afterGet}
-use Rattle.cuttree.specs.Tree.{Tree, found, total, insert}
+use Rattle.cuttree.specs.Tree.{Tree, found, total, walk, insert}
 use Rattle.wholetree.specs.Reading.{Reading}
 use Rattle.wholetree.specs.Whole.{whole}
 use Rattle.layout.specs.Slots.{uses, countAt}
-use Rattle.treestore.specs.declared.Edited.{Edited}
+use Rattle.treestore.specs.declared.Entered.{Entered}
 use Rattle.treestore.specs.Arrays.{Lent, EditDone}
 use Rattle.treestore.specs.Edits.{Walking}
 
@@ -37,7 +37,7 @@ pub record SomeEntering (c k root : ℕ) (manager : IntervalStoreManager) (a : L
   pub reading : Reading
   pub entering : Entering channels c k tree free reading root manager a points path n leaf index words point
 
--- Entering: one leaf and one branch more, whichever tree it is.
-abbrev pub Enters : (c k root : ℕ) → IntervalStoreManager → Lent → List (List Float) → List (List ℕ) → (n leaf index : ℕ) → List ℕ → List Float → Edited → Lent → Type 0
+-- Entering: one leaf and one branch more, and a word for each node of the walk, whichever tree it is.
+abbrev pub Enters : (c k root : ℕ) → IntervalStoreManager → Lent → List (List Float) → List (List ℕ) → (n leaf index : ℕ) → List ℕ → List Float → Entered → Lent → Type 0
 Enters c k root manager a points path n leaf index words point r b = (d : ℕ) (t : Tree (whole d)) (u : List (ℕ × ℕ)) (p : Reading) → Entering d c k t u p root manager a points path n leaf index words point
-    → EditDone d c k (some (insert (whole d) (next u) index p (λ m. getD words m 0) t)) (afterGet u) r b
+    → EditDone d c k (some (insert (whole d) (next u) index p (λ m. getD words m 0) t)) (afterGet u) (record { root = r .root; manager = r .manager }) b × (r .words ≡ walk (whole d) t p)

@@ -29,6 +29,13 @@ pub struct Edited {
     pub manager: IntervalStoreManager,
 }
 
+// What a new value changes of it, and how many words it takes.
+pub struct Entered {
+    pub root: u16,
+    pub manager: IntervalStoreManager,
+    pub words: usize,
+}
+
 // A reading's walk: how many nodes it has, the point index of the leaf that it ends in, and whether that leaf has the reading's value.
 pub struct Found {
     pub walk: usize,
@@ -169,7 +176,7 @@ pub fn remove_copy(
 }
 
 // A reading that no leaf has: the highest cut that parts, a free number for the new branch, its row and its box, and the boxes above it grown.
-// Rules out a cut of the tree's own choosing.
+// Rules out a cut of the tree's own choosing, and a word left out where the box holds the point.
 pub fn insert_leaf(
     root: u16,
     manager: IntervalStoreManager,
@@ -187,7 +194,7 @@ pub fn insert_leaf(
     index: usize,
     words: &[u64],
     point: &Row,
-) -> Edited
+) -> Entered
     requires { ⌜ SomeEntering capacity cached root manager (lent (now nodes) (now cuts) (now copies) (now free) (now boxes)) (now points) (now path) n leaf index (now words) (now point) ⌝ }
     ensures { λ r. ⌜ Enters capacity cached root manager (lent (now (nodes .entry)) (now (cuts .entry)) (now (copies .entry)) (now (free .entry)) (now (boxes .entry))) (now (points .entry)) (now (path .entry)) n leaf index (now (words .entry)) (now (point .entry)) r (lent (now (nodes .exit)) (now (cuts .exit)) (now (copies .exit)) (now (free .exit)) (now (boxes .exit))) ⌝ }
 {
@@ -225,11 +232,16 @@ pub fn insert_leaf(
             boxstore::copy_box_above(boxes, casts::wide16(b), below, point, cached);
             boxstore::grow_ancestors(boxes, path, above, point, cached);
             let top = nodestore::placed_root(root, above, b);
-            Edited {
+            Entered {
                 root: top,
                 manager: rest,
+                words: n,
             }
         }
-        Got::Empty => Edited { root, manager },
+        Got::Empty => Entered {
+            root,
+            manager,
+            words: 0,
+        },
     }
 }

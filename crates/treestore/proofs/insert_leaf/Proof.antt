@@ -49,8 +49,11 @@ enum-told : tie.Need-enum-told
 enum-told c = search needs
 
 returns : tie.Need-returns
-returns c = λ d t u p E. entered E _ (c .before .before .before .before .before .before .before .before .before .before .before .before .before .before .before .before .before .before .before .before .wide16 .ensures .0) _ (c .before .before .before .before .before .before .before .before .before .before .before .before .before .before .before .before .before .before .before .highest-cut .ensures) _ _ _ _ (c .before .before .before .before .before .before .before .before .before .before .before .before .before .before .before .before .get .ensures .0) (c .before .before .before .before .before .before .before .before .before .before .before .before .before .before .before .before .get .ensures .1) (c .before .before .before .before .before .before .before .before .before .before .before .before .before .before .got .given .1) _ refl
-    _ (c .before .before .before .before .wide162 .ensures .0) _ (c .before .before .before .copy-box-above .ensures) _ (c .before .grow-ancestors .ensures) _ _ _ _ (c .before .before .before .before .before .before .before .place-branch .ensures) (c .placed-root .ensures .1)
+returns c = λ d t u p E. (
+  entered E _ (c .before .before .before .before .before .before .before .before .before .before .before .before .before .before .before .before .before .before .before .before .wide16 .ensures .0) _ (c .before .before .before .before .before .before .before .before .before .before .before .before .before .before .before .before .before .before .before .highest-cut .ensures) _ _ _ _ (c .before .before .before .before .before .before .before .before .before .before .before .before .before .before .before .before .get .ensures .0) (c .before .before .before .before .before .before .before .before .before .before .before .before .before .before .before .before .get .ensures .1) (c .before .before .before .before .before .before .before .before .before .before .before .before .before .before .got .given .1) _ refl
+      _ (c .before .before .before .before .wide162 .ensures .0) _ (c .before .before .before .copy-box-above .ensures) _ (c .before .grow-ancestors .ensures) _ _ _ _ (c .before .before .before .before .before .before .before .place-branch .ensures) (c .placed-root .ensures .1),
+  E .walking .walked .count,
+)
 
 returns-2 : tie.Need-returns-2
 returns-2 c = λ d t u p E. not-empty E _ (c .before .before .get .ensures .0) (c .enum-told .given .1)

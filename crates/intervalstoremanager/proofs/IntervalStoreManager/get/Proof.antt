@@ -9,13 +9,13 @@ use borrow.Author.Needs.{needs}
 use Rattle.intervalstoremanager.proofs.IntervalStoreManager.get.Statement.{statement}
 use Rattle.intervalstoremanager.proofs.IntervalStoreManager.get.Tie as tie
 
-wide-requires : tie.Need-wide-requires
-wide-requires c κs = search needs
+wide16-requires : tie.Need-wide16-requires
+wide16-requires c κs = search needs
 
 returns : tie.Need-returns
 unfolding gotOf rowsGot
 returns c =
-    let w = c .before .wide in
+    let w = c .before .wide16 in
     rw (← w .ensures .0, le-ltb 0 (w .result) (omega arith)) (refl, refl)
 
 returns-2 : tie.Need-returns-2
@@ -42,7 +42,7 @@ returns-3 : tie.Need-returns-3
 unfolding gotOf rowsGot
 returns-3 c =
     let m = c .before .before .before .before .before .before .before .before .before .before .args .self in
-    let w = c .before .before .before .before .before .before .before .before .before .wide in
+    let w = c .before .before .before .before .before .before .before .before .before .wide16 in
     let top = c .before .before .before .before .before .interval-at in
     rw (c .put .ensures, is-topped m (omega arith) (omega arith), ← w .ensures .0, ← top .ensures .0, ← top .ensures .1, lt-ltb _ _ (c .before .before .before .if3 .taken)) (refl, refl)
 
@@ -59,7 +59,7 @@ returns-4 : tie.Need-returns-4
 unfolding gotOf rowsGot
 returns-4 c =
     let m = c .before .before .before .before .before .before .before .before .before .before .args .self in
-    let w = c .before .before .before .before .before .before .before .before .before .wide in
+    let w = c .before .before .before .before .before .before .before .before .before .wide16 in
     let top = c .before .before .before .before .before .interval-at in
     rw (c .before .put2 .ensures, is-topped m (omega arith) (omega arith), ← w .ensures .0, ← top .ensures .0, ← top .ensures .1, le-ltb _ _ (c .before .before .before .if3 .left)) (refl, refl)
 
@@ -67,7 +67,7 @@ pub get-spec : {M : Type 1} → statement M
 get-spec =
     tie.close
     (tie.spec
-    wide-requires
+    wide16-requires
     returns
     returns-2
     sub-interval-at

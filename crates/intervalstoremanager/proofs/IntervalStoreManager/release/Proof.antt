@@ -11,8 +11,8 @@ use borrow.Author.Needs.{needs}
 use Rattle.intervalstoremanager.proofs.IntervalStoreManager.release.Statement.{statement}
 use Rattle.intervalstoremanager.proofs.IntervalStoreManager.release.Tie as tie
 
-wide-requires : tie.Need-wide-requires
-wide-requires c κs = search needs
+wide16-requires : tie.Need-wide16-requires
+wide16-requires c κs = search needs
 
 push-requires : tie.Need-push-requires
 push-requires c κs = search needs
@@ -20,7 +20,7 @@ push-requires c κs = search needs
 returns : tie.Need-returns
 unfolding releasedOf rowsReleased
 returns c =
-    let w = c .before .before .before .wide in
+    let w = c .before .before .before .wide16 in
     rw (c .push .ensures .0, c .push .ensures .1, ← w .ensures .0, le-ltb 0 (w .result) (omega arith)) (refl, refl)
 
 returns-2 : tie.Need-returns-2
@@ -35,11 +35,11 @@ sub-interval-at c = search needs
 interval-at-requires : tie.Need-interval-at-requires
 interval-at-requires c κs = search needs
 
-wide-requires-2 : tie.Need-wide-requires-2
-wide-requires-2 c κs = search needs
+wide16-requires-2 : tie.Need-wide16-requires-2
+wide16-requires-2 c κs = search needs
 
-wide-requires-3 : tie.Need-wide-requires-3
-wide-requires-3 c κs = search needs
+wide16-requires-3 : tie.Need-wide16-requires-3
+wide16-requires-3 c κs = search needs
 
 add-if3 : tie.Need-add-if3
 add-if3 c = search needs
@@ -54,19 +54,19 @@ returns-3 : tie.Need-returns-3
 unfolding releasedOf rowsReleased
 returns-3 c =
     let m = c .before .before .before .before .before .before .before .before .before .before .args .self in
-    let w = c .before .before .before .before .before .before .before .before .before .wide in
+    let w = c .before .before .before .before .before .before .before .before .before .wide16 in
     let top = c .before .before .before .before .before .interval-at in
     let i = c .before .before .before .before .before .before .before .before .before .before .args .index in
     rw (c .put .ensures, is-topped m (omega arith) (omega arith), ← w .ensures .0, ← top .ensures .0, ← top .ensures .1, eq-eqb (top .result .start) (i + 1) (omega arith)) (refl, refl)
 
-wide-requires-4 : tie.Need-wide-requires-4
-wide-requires-4 c κs = search needs
+wide16-requires-4 : tie.Need-wide16-requires-4
+wide16-requires-4 c κs = search needs
 
 add-if4 : tie.Need-add-if4
 add-if4 c = search needs
 
-wide-requires-5 : tie.Need-wide-requires-5
-wide-requires-5 c κs = search needs
+wide16-requires-5 : tie.Need-wide16-requires-5
+wide16-requires-5 c κs = search needs
 
 sub-put-2 : tie.Need-sub-put-2
 sub-put-2 c = search needs
@@ -78,7 +78,7 @@ returns-4 : tie.Need-returns-4
 unfolding releasedOf rowsReleased
 returns-4 c =
     let m = c .before .before .before .before .before .before .before .before .before .before .before .before .before .args .self in
-    let w = c .before .before .before .before .before .before .before .before .before .before .before .before .wide in
+    let w = c .before .before .before .before .before .before .before .before .before .before .before .before .wide16 in
     let top = c .before .before .before .before .before .before .before .before .interval-at in
     let i = c .before .before .before .before .before .before .before .before .before .before .before .before .before .args .index in
     let apart = ne-eqb (top .result .start) (i + 1) (λ e. omega arith) in
@@ -91,7 +91,7 @@ returns-5 : tie.Need-returns-5
 unfolding releasedOf rowsReleased
 returns-5 c =
     let m = c .before .before .before .before .before .before .before .before .before .before .before .before .before .args .self in
-    let w = c .before .before .before .before .before .before .before .before .before .before .before .before .wide in
+    let w = c .before .before .before .before .before .before .before .before .before .before .before .before .wide16 in
     let top = c .before .before .before .before .before .before .before .before .interval-at in
     let i = c .before .before .before .before .before .before .before .before .before .before .before .before .before .args .index in
     let apart = ne-eqb (top .result .start) (i + 1) (λ e. omega arith) in
@@ -102,21 +102,21 @@ pub release-spec : {M : Type 1} → statement M
 release-spec =
     tie.close
     (tie.spec
-    wide-requires
+    wide16-requires
     push-requires
     returns
     returns-2
     sub-interval-at
     interval-at-requires
-    wide-requires-2
-    wide-requires-3
+    wide16-requires-2
+    wide16-requires-3
     add-if3
     sub-put
     put-requires
     returns-3
-    wide-requires-4
+    wide16-requires-4
     add-if4
-    wide-requires-5
+    wide16-requires-5
     sub-put-2
     put-requires-2
     returns-4
