@@ -33,8 +33,8 @@ pub record SameTree (x y : Kept) : Type 0 where
   pub tree : y .tree ≡ x .tree
   pub arrays : y .arrays ≡ x .arrays
 
--- A call on x that answers a and leaves y, on a tree of d channels: a put as `pointstore::put` has it, an add, a delete and the queries
--- as `RCFTree` has them. 'Each call gets table, tree and sample as the one before returned or left them.'
+-- A call on x that answers a and leaves y, on a tree of d channels, as the contracts of `RCFTree`'s functions ensure it. 'Each call gets
+-- table, tree and sample as the one before returned or left them.'
 abbrev pub Step : (d : ℕ) → Kept → Call (whole d) → Answer (whole d) → Kept → Type 0
 Step d x (put i xs) a y = (r : PutAnswer) × (a ≡ heardPut d r) × Puts (x .tree .dimensions) (x .arrays .copies) i xs (x .points) (x .marks) (y .points) (y .marks) r × SameTree x y
 Step d x (add i ws) a y = (r : AddAnswer) × (a ≡ heardAdd d r) × AddDone (x .tree) (x .arrays) (x .points) (x .marks) i ws r (y .arrays) × (y .tree ≡ headerAdded (x .tree) r) × SameTable x y
