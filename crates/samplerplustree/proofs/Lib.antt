@@ -5,3 +5,4 @@ pub mod Slots
 pub mod Taken
 pub mod Begun
 pub mod Replaced
+pub mod Standing

@@ -3,3 +3,4 @@ pub mod Making
 pub mod Updates
 pub mod Offers
 pub mod Leaves
+pub mod Standing
