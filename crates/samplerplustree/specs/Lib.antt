@@ -1,0 +1,6 @@
+pub mod State
+pub mod Making
+pub mod Updates
+pub mod Offers
+pub mod Leaves
+pub mod Standing

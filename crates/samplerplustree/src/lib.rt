@@ -1,0 +1,448 @@
+// A sampled tree (samplerplustree.rs): a random cut tree and the sample that keeps its leaves. The header goes in and comes back by value; the arrays are lent.
+use casts::wide16;
+use limits::Boxes;
+use limits::CAPACITY;
+use limits::CHANNELS;
+use limits::Copies;
+use limits::Cuts;
+use limits::Free;
+use limits::Held;
+use limits::Marks;
+use limits::Nodes;
+use limits::POINTS;
+use limits::Points;
+use limits::Weights;
+use randomcuttree::AddAnswer;
+use randomcuttree::DeleteAnswer;
+use randomcuttree::Made;
+use randomcuttree::RCFTree;
+use sampler::Sampler;
+ghost use mathlib.Core.Path.{_≡_};
+ghost use mathlib.Core.Bool.{_&&_};
+ghost use Prim.Native.Nat.{_<_};
+ghost use lib.Dec.{leb};
+ghost use lib.ListN.{length};
+ghost use Rattle.limits.specs.Limits.{pointLimit};
+ghost use Rattle.treestore.specs.Arrays.{lent};
+ghost use Rattle.samplerplustree.specs.State.{SomeSampled};
+ghost use Rattle.samplerplustree.specs.Making.{refusalBy, SampledMade};
+ghost use Rattle.samplerplustree.specs.Updates.{UpdateDone};
+ghost use Rattle.samplerplustree.specs.Offers.{refusalRead, startsRead, OfferTold, SomeOffered, TakeDone};
+ghost use Rattle.samplerplustree.specs.Leaves.{SomeAdmits, AddsLeaf, SomeCopy, DeletesLeaf};
+
+// The header: the tree's, the sample's, and the initial share.
+pub struct SamplerPlusTree {
+    pub tree: RCFTree,
+    pub sampler: Sampler,
+    pub initial_accept_fraction: f64,
+}
+
+// What a making answers: the header of an empty sampled tree, or document 01's number.
+pub enum MadeSampled {
+    Tree(SamplerPlusTree),
+    NotMade(u8),
+}
+
+// What an arrival answers: accepted, with the header after it and the leaf's point index; the same with an eviction, and the evicted index; not accepted;
+// or document 01's number. In the last two cases the header is as it was.
+pub enum UpdateAnswer {
+    Accepted(SamplerPlusTree, usize),
+    Replaced(SamplerPlusTree, usize, usize),
+    NotAccepted,
+    Refused(u8),
+}
+
+// What an arrival is told before anything moves: document 01's number; not accepted; started; or accepted with an eviction.
+pub enum Offer {
+    Refused(u8),
+    Passes,
+    Begins,
+    Evicts,
+}
+
+// The header after an add, and the leaf's point index.
+struct AddedLeaf {
+    tree: RCFTree,
+    leaf: usize,
+}
+
+fn within(x: usize, low: usize, high: usize) -> bool
+    ensures { λ r. ⌜ r ≡ (leb low x && leb x high) ⌝ }
+{
+    (low <= x) & (x <= high)
+}
+
+// The number of the first refusal of a making whose initial share is refused.
+fn refusal_of(dimensions: usize, capacity: usize, cache_fraction: f64) -> u8
+    ensures { λ r. ⌜ r ≡ refusalBy dimensions capacity «cache_fraction» ⌝ }
+{
+    if !within(dimensions, 1, CHANNELS) {
+        return 1;
+    }
+    if !within(capacity, 2, CAPACITY) {
+        return 2;
+    }
+    if !readings::is_share(cache_fraction) {
+        return 3;
+    }
+    4
+}
+
+// The add where it is never refused.
+fn add_leaf(
+    tree: RCFTree,
+    nodes: &mut Nodes,
+    cuts: &mut Cuts,
+    copies: &mut Copies,
+    free: &mut Free,
+    boxes: &mut Boxes,
+    points: &Points,
+    written: &Marks,
+    index: usize,
+    words: &[u64],
+) -> AddedLeaf
+    requires { ⌜ SomeAdmits tree (lent (now nodes) (now cuts) (now copies) (now free) (now boxes)) (now points) (now written) index (length (now words)) ⌝ }
+    ensures small { λ r. ⌜ r .leaf < pointLimit ⌝ }
+    ensures adds { λ r. ⌜ AddsLeaf tree (lent (now (nodes .entry)) (now (cuts .entry)) (now (copies .entry)) (now (free .entry)) (now (boxes .entry))) (now (points .entry)) (now (written .entry)) index (now (words .entry)) r (lent (now (nodes .exit)) (now (cuts .exit)) (now (copies .exit)) (now (free .exit)) (now (boxes .exit))) ⌝ }
+{
+    match tree.add(
+        nodes,
+        cuts,
+        copies,
+        free,
+        boxes,
+        points,
+        written,
+        index,
+        words,
+    ) {
+        AddAnswer::Added(next, leaf, _) => AddedLeaf { tree: next, leaf },
+        AddAnswer::NotAdded(_) => AddedLeaf { tree, leaf: index },
+    }
+}
+
+// The header after a delete that is never refused.
+fn delete_leaf(
+    tree: RCFTree,
+    nodes: &mut Nodes,
+    cuts: &mut Cuts,
+    copies: &mut Copies,
+    free: &mut Free,
+    boxes: &mut Boxes,
+    points: &Points,
+    written: &Marks,
+    index: usize,
+) -> RCFTree
+    requires { ⌜ SomeCopy tree (lent (now nodes) (now cuts) (now copies) (now free) (now boxes)) (now points) (now written) index ⌝ }
+    ensures { λ r. ⌜ DeletesLeaf tree (lent (now (nodes .entry)) (now (cuts .entry)) (now (copies .entry)) (now (free .entry)) (now (boxes .entry))) (now (points .entry)) (now (written .entry)) index r (lent (now (nodes .exit)) (now (cuts .exit)) (now (copies .exit)) (now (free .exit)) (now (boxes .exit))) ⌝ }
+{
+    match tree.delete(nodes, cuts, copies, free, boxes, points, written, index) {
+        DeleteAnswer::Deleted(next, _) => next,
+        DeleteAnswer::NotDeleted(_) => tree,
+    }
+}
+
+impl SamplerPlusTree {
+    // An empty sampled tree, its arrays cleared; or a refusal, in document 01's order, and nothing written.
+    // Rules out the initial share told before the capacity, and arrays cleared for an initial share that is refused.
+    pub fn new(
+        dimensions: usize,
+        capacity: usize,
+        cache_fraction: f64,
+        initial_accept_fraction: f64,
+        nodes: &mut Nodes,
+        cuts: &mut Cuts,
+        copies: &mut Copies,
+        free: &mut Free,
+        boxes: &mut Boxes,
+        weights: &mut Weights,
+        held: &mut Held,
+    ) -> MadeSampled
+        ensures { λ r. ⌜ SampledMade dimensions capacity «cache_fraction» «initial_accept_fraction»
+            (lent (now (nodes .entry)) (now (cuts .entry)) (now (copies .entry)) (now (free .entry)) (now (boxes .entry)))
+            (lent (now (nodes .exit)) (now (cuts .exit)) (now (copies .exit)) (now (free .exit)) (now (boxes .exit)))
+            (now (weights .entry)) (now (weights .exit)) (now (held .entry)) (now (held .exit)) r ⌝ }
+    {
+        if !readings::is_share(initial_accept_fraction) {
+            return MadeSampled::NotMade(refusal_of(dimensions, capacity, cache_fraction));
+        }
+        match RCFTree::new(
+            dimensions,
+            capacity,
+            cache_fraction,
+            nodes,
+            cuts,
+            copies,
+            free,
+            boxes,
+        ) {
+            Made::NotMade(n) => MadeSampled::NotMade(n),
+            Made::Tree(tree) => {
+                let sampler = Sampler::new(tree.capacity, weights, held);
+                MadeSampled::Tree(SamplerPlusTree {
+                    tree,
+                    sampler,
+                    initial_accept_fraction,
+                })
+            }
+        }
+    }
+
+    // The number of an arrival's first refusal, and 0 where there is none.
+    fn refusal(self, written: &Marks, index: usize, weight: f32, n: usize) -> u8
+        ensures { λ r. ⌜ r ≡ refusalRead self (now (written .entry)) index weight n ⌝ }
+    {
+        if POINTS <= index {
+            return 5;
+        }
+        if written[index] == 0 {
+            return 9;
+        }
+        if !readings::is_weight(weight) {
+            return 14;
+        }
+        if n < wide16(self.tree.capacity) {
+            return 11;
+        }
+        0
+    }
+
+    // Whether the word starts an arrival.
+    fn starts(self, chance: u64) -> bool
+        ensures { λ r. ⌜ r ≡ startsRead self chance ⌝ }
+    {
+        let sampler = self.sampler;
+        if sampler.is_full() {
+            return false;
+        }
+        startingchance::starts(
+            chance,
+            sampler.current_size,
+            sampler.capacity,
+            self.initial_accept_fraction,
+        )
+    }
+
+    // What an arrival is told. Nothing is written, so several trees can be asked before any moves.
+    // Rules out fewer words told before a bad weight, and an equal weight that evicts.
+    pub fn test_arrival(
+        self,
+        written: &Marks,
+        weights: &Weights,
+        index: usize,
+        weight: f32,
+        chance: u64,
+        words: &[u64],
+    ) -> Offer
+        ensures { λ r. ⌜ OfferTold self (now (written .entry)) (now (weights .entry)) index weight chance (length (now (words .entry))) r ⌝ }
+    {
+        let refusal = self.refusal(written, index, weight, words.len());
+        if refusal != 0 {
+            return Offer::Refused(refusal);
+        }
+        if self.starts(chance) {
+            return Offer::Begins;
+        }
+        let sampler = self.sampler;
+        if sampler.accepts(false, weight, weights) {
+            return Offer::Evicts;
+        }
+        Offer::Passes
+    }
+
+    // A started arrival: it is added to the tree, and the sample keeps the leaf's index.
+    fn begin(
+        self,
+        nodes: &mut Nodes,
+        cuts: &mut Cuts,
+        copies: &mut Copies,
+        free: &mut Free,
+        boxes: &mut Boxes,
+        points: &Points,
+        written: &Marks,
+        weights: &mut Weights,
+        held: &mut Held,
+        index: usize,
+        weight: f32,
+        words: &[u64],
+    ) -> UpdateAnswer
+        requires { ⌜ SomeOffered self Offer.Begins (lent (now nodes) (now cuts) (now copies) (now free) (now boxes)) (now points) (now written) (now weights) (now held) index weight (length (now words)) ⌝ }
+        ensures { λ r. ⌜ TakeDone self Offer.Begins (lent (now (nodes .entry)) (now (cuts .entry)) (now (copies .entry)) (now (free .entry)) (now (boxes .entry))) (now (points .entry)) (now (written .entry)) (now (weights .entry)) (now (held .entry)) index weight (now (words .entry)) r
+            (lent (now (nodes .exit)) (now (cuts .exit)) (now (copies .exit)) (now (free .exit)) (now (boxes .exit))) (now (weights .exit)) (now (held .exit)) ⌝ }
+    {
+        let added = add_leaf(
+            self.tree,
+            nodes,
+            cuts,
+            copies,
+            free,
+            boxes,
+            points,
+            written,
+            index,
+            words,
+        );
+        let sampler = self.sampler
+            .add_point(weight, added.leaf as u16, weights, held);
+        let tree = added.tree;
+        let next = SamplerPlusTree {
+            tree,
+            sampler,
+            initial_accept_fraction: self.initial_accept_fraction,
+        };
+        UpdateAnswer::Accepted(next, added.leaf)
+    }
+
+    // An arrival with an eviction: the first entry leaves the sample and its index the tree, before the arrival is added and kept.
+    fn replace(
+        self,
+        nodes: &mut Nodes,
+        cuts: &mut Cuts,
+        copies: &mut Copies,
+        free: &mut Free,
+        boxes: &mut Boxes,
+        points: &Points,
+        written: &Marks,
+        weights: &mut Weights,
+        held: &mut Held,
+        index: usize,
+        weight: f32,
+        words: &[u64],
+    ) -> UpdateAnswer
+        requires { ⌜ SomeOffered self Offer.Evicts (lent (now nodes) (now cuts) (now copies) (now free) (now boxes)) (now points) (now written) (now weights) (now held) index weight (length (now words)) ⌝ }
+        ensures { λ r. ⌜ TakeDone self Offer.Evicts (lent (now (nodes .entry)) (now (cuts .entry)) (now (copies .entry)) (now (free .entry)) (now (boxes .entry))) (now (points .entry)) (now (written .entry)) (now (weights .entry)) (now (held .entry)) index weight (now (words .entry)) r
+            (lent (now (nodes .exit)) (now (cuts .exit)) (now (copies .exit)) (now (free .exit)) (now (boxes .exit))) (now (weights .exit)) (now (held .exit)) ⌝ }
+    {
+        let evicted = self.sampler.evict_max(weights, held);
+        let gone = wide16(evicted.index);
+        let left = delete_leaf(
+            self.tree,
+            nodes,
+            cuts,
+            copies,
+            free,
+            boxes,
+            points,
+            written,
+            gone,
+        );
+        let added = add_leaf(
+            left,
+            nodes,
+            cuts,
+            copies,
+            free,
+            boxes,
+            points,
+            written,
+            index,
+            words,
+        );
+        let sampler = evicted
+            .sampler
+            .add_point(weight, added.leaf as u16, weights, held);
+        let tree = added.tree;
+        let next = SamplerPlusTree {
+            tree,
+            sampler,
+            initial_accept_fraction: self.initial_accept_fraction,
+        };
+        UpdateAnswer::Replaced(next, added.leaf, gone)
+    }
+
+    // Acts on what the test told of the same state and arrival. It cannot fail.
+    // Rules out the arrival's own index kept in place of the leaf's, and an eviction that deletes the arrival's index.
+    pub fn take_arrival(
+        self,
+        offer: Offer,
+        nodes: &mut Nodes,
+        cuts: &mut Cuts,
+        copies: &mut Copies,
+        free: &mut Free,
+        boxes: &mut Boxes,
+        points: &Points,
+        written: &Marks,
+        weights: &mut Weights,
+        held: &mut Held,
+        index: usize,
+        weight: f32,
+        words: &[u64],
+    ) -> UpdateAnswer
+        requires { ⌜ SomeOffered self offer (lent (now nodes) (now cuts) (now copies) (now free) (now boxes)) (now points) (now written) (now weights) (now held) index weight (length (now words)) ⌝ }
+        ensures { λ r. ⌜ TakeDone self offer (lent (now (nodes .entry)) (now (cuts .entry)) (now (copies .entry)) (now (free .entry)) (now (boxes .entry))) (now (points .entry)) (now (written .entry)) (now (weights .entry)) (now (held .entry)) index weight (now (words .entry)) r
+            (lent (now (nodes .exit)) (now (cuts .exit)) (now (copies .exit)) (now (free .exit)) (now (boxes .exit))) (now (weights .exit)) (now (held .exit)) ⌝ }
+    {
+        match offer {
+            Offer::Refused(n) => UpdateAnswer::Refused(n),
+            Offer::Passes => UpdateAnswer::NotAccepted,
+            Offer::Begins => self.begin(
+                nodes,
+                cuts,
+                copies,
+                free,
+                boxes,
+                points,
+                written,
+                weights,
+                held,
+                index,
+                weight,
+                words,
+            ),
+            Offer::Evicts => self.replace(
+                nodes,
+                cuts,
+                copies,
+                free,
+                boxes,
+                points,
+                written,
+                weights,
+                held,
+                index,
+                weight,
+                words,
+            ),
+        }
+    }
+
+    // An arrival: the test, and what it told carried out.
+    // Rules out a sample that keeps an index with no leaf, and a tree that moves for an arrival not accepted.
+    pub fn update(
+        self,
+        nodes: &mut Nodes,
+        cuts: &mut Cuts,
+        copies: &mut Copies,
+        free: &mut Free,
+        boxes: &mut Boxes,
+        points: &Points,
+        written: &Marks,
+        weights: &mut Weights,
+        held: &mut Held,
+        index: usize,
+        weight: f32,
+        chance: u64,
+        words: &[u64],
+    ) -> UpdateAnswer
+        requires { ⌜ SomeSampled self (lent (now nodes) (now cuts) (now copies) (now free) (now boxes)) (now points) (now written) (now weights) (now held) ⌝ }
+        ensures { λ r. ⌜ UpdateDone self (lent (now (nodes .entry)) (now (cuts .entry)) (now (copies .entry)) (now (free .entry)) (now (boxes .entry))) (now (points .entry)) (now (written .entry)) (now (weights .entry)) (now (held .entry)) index weight chance (now (words .entry)) r
+            (lent (now (nodes .exit)) (now (cuts .exit)) (now (copies .exit)) (now (free .exit)) (now (boxes .exit))) (now (weights .exit)) (now (held .exit)) ⌝ }
+    {
+        let offer = self.test_arrival(written, weights, index, weight, chance, words);
+        self.take_arrival(
+            offer,
+            nodes,
+            cuts,
+            copies,
+            free,
+            boxes,
+            points,
+            written,
+            weights,
+            held,
+            index,
+            weight,
+            words,
+        )
+    }
+}
