@@ -8,10 +8,10 @@ use Rattle.wholetree.specs.Whole.{whole}
 use Rattle.randomcuttree.specs.State.{State}
 use Rattle.randomcuttree.proofs.Told.{copies-are-told, branches-are-told}
 use Rattle.demand3.specs.Heard.{heardCopies, heardBranch, heardBox}
-use Rattle.demand3.specs.Steps.{Kept, Step}
+use Rattle.demand3.specs.Steps.{Kept, CallStep}
 use Rattle.demand3.proofs.Heard.{heard-copies, heard-branch, heard-box}
 
-pub asked-is : (d c : ℕ) (s : Float) (W : World (whole d)) (x : Kept) → State d c s W (x .tree) (x .arrays) (x .points) (x .marks) → (q : Query) (a : Answer (whole d)) (y : Kept) → Step d x (query q) a y → a ≡ ask (whole d) c W q
+pub asked-is : (d c : ℕ) (s : Float) (W : World (whole d)) (x : Kept) → State d c s W (x .tree) (x .arrays) (x .points) (x .marks) → (q : Query) (a : Answer (whole d)) (y : Kept) → CallStep d x (query q) a y → a ≡ ask (whole d) c W q
 asked-is d c s W x S (copiesOf n) a y e =
     e .0 ∙ ap (heardCopies d) (copies-are-told (x .tree) (x .arrays .copies) n d c s W (x .arrays) (x .points) (x .marks) S refl) ∙ heard-copies d (lookIn (whole d) c (W .tree) n)
 asked-is d c s W x S (branchOf n) a y e =

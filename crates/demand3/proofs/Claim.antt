@@ -1,47 +1,60 @@
 -- Demand 3 holds of the code: what is kept stands for a world that the counts agree with, and each step leaves such a world. Assumes nothing.
-use mathlib.Core.Path.{_≡_, refl, sym, subst}
+use mathlib.Core.Path.{refl}
+use mathlib.Core.Option.{none}
 use mathlib.Core.List.{List, [], _∷_}
 use Prim.Native.Nat.{ℕ}
 use lib.Ieee.{Float}
-use Rattle.cuttree.specs.Run.{World, Call, Answer, call, fresh}
-use Rattle.cuttree.specs.Counts.{Counts, count}
-use Rattle.cuttree.specs.Demand3.{viewOf, CallClaim}
+use Rattle.cuttree.specs.Run.{World, call, fresh}
+use Rattle.cuttree.specs.Counts.{Counts, nothing}
+use Rattle.cuttree.specs.Demand3.{viewOf}
 use Rattle.cuttree.proofs.Keeps.{Inv, inv-call, inv-fresh}
 use Rattle.cuttree.proofs.Claims.{tree-claim, call-claim}
 use Rattle.wholetree.specs.Whole.{whole}
 use Rattle.wholetree.proofs.Laws.{whole-laws}
 use Rattle.pointstore.proofs.Empty.{unwritten}
-use Rattle.demand3.specs.Steps.{Kept, Step}
-use Rattle.demand3.specs.Claim.{StateClaim, Holds, Demand3OfCode}
+use Rattle.sampledtree.specs.Sampled.{SampledAnswer}
+use Rattle.demand3.specs.Steps.{Kept, Event, calls, arrives, Step}
+use Rattle.demand3.specs.Claim.{StateClaim, countEvent, EventClaim, Holds, started, Demand3OfCode}
 use Rattle.demand3.proofs.Asked.{asked-is}
 use Rattle.demand3.proofs.Boxes.{cached-boxes}
 use Rattle.demand3.proofs.Channels.{on-channels}
-use Rattle.demand3.proofs.Steps.{StateOf, step-is}
+use Rattle.demand3.proofs.Sampled.{of-sample}
+use Rattle.demand3.proofs.Steps.{Stands, call-is}
+use Rattle.demand3.proofs.Arrivals.{stands-at, arrival-is}
 
 module _ (d c : ℕ) (s : Float) where
-  state-claim : (W : World (whole d)) (x : Kept) (K : Counts (whole d)) → StateOf d c s W x → Inv (whole d) c W K → StateClaim d c s x K
-  state-claim W x K S I = record {
+  state-claim : (W : World (whole d)) (x : Kept) (K : Counts (whole d)) → Stands d c s W x → Inv (whole d) c W K → StateClaim d c s x K
+  state-claim W x K (S, B) I = record {
     view = viewOf (whole d) c W K;
     asked = asked-is d c s W x S;
     value = λ n. refl;
     tree = tree-claim (whole d) c (whole-laws d) W K I;
     boxes = cached-boxes d c s W x K S I;
+    sample = of-sample d c s W K x I B;
     channels = on-channels d c W K I (S .reachable .on-channels);
   }
 
-  holds : (W : World (whole d)) (x : Kept) (K : Counts (whole d)) (es : List (Call (whole d))) → StateOf d c s W x → Inv (whole d) c W K → Holds d c s x K es
+  -- an event's claim, and what it leaves
+  event-is : (W : World (whole d)) (x : Kept) (K : Counts (whole d)) (e : Event d) → Stands d c s W x → Inv (whole d) c W K → (o : SampledAnswer (whole d)) (y : Kept) → Step d x e o y
+      → EventClaim d c s (viewOf (whole d) c W K) K e o y × ((W′ : World (whole d)) × Stands d c s W′ y × Inv (whole d) c W′ (countEvent d c s e o K))
+  event-is W x K (calls e) S I o y (a, h, step) =
+      let (p, T) = call-is d c s W x e a y S step in
+      rw (h, p) (call-claim (whole d) c (whole-laws d) W K e I, (call (whole d) c W e .1, T, inv-call (whole d) c (whole-laws d) W K e I))
+  event-is W x K (arrives i w t ws) S I o y step = let F = arrival-is d c s W K x i w t ws I (S .1) o y step in (F .claim, (F .world, F .stands, F .counts))
+
+  holds : (W : World (whole d)) (x : Kept) (K : Counts (whole d)) (es : List (Event d)) → Stands d c s W x → Inv (whole d) c W K → Holds d c s x K es
   unfolding state-claim
   holds W x K [] S I = state-claim W x K S I
-  holds W x K (e ∷ es) S I = (
-    state-claim W x K S I,
-    λ a y step.
-        let (p, T) = step-is d c s W x e a y S step in (
-          subst (CallClaim (whole d) c (viewOf (whole d) c W K) K e) (sym p) (call-claim (whole d) c (whole-laws d) W K e I),
-          holds (call (whole d) c W e .1) y (count (whole d) e a K) es T (subst (λ (b : Answer (whole d)). Inv (whole d) c (call (whole d) c W e .1) (count (whole d) e b K)) (sym p) (inv-call (whole d) c (whole-laws d) W K e I)),
-        ),
-  )
+  holds W x K (e ∷ es) S I = (state-claim W x K S I, λ o y step. let (C, (W′, T, J)) = event-is W x K e S I o y step in (C, holds W′ y (countEvent d c s e o K) es T J))
 
 pub demand3-of-code : Demand3OfCode
-demand3-of-code d c s before after tree M es =
-    let S = M .state tree refl _ _ (unwritten _ _ refl refl) in
-    holds d c s (fresh (whole d) c) _ _ es S (inv-fresh (whole d) c (S .limits .2))
+demand3-of-code = record {
+  bare = λ d c s before after tree M es.
+      let S = M .state tree refl _ _ (unwritten _ _ refl refl) in
+      holds d c s (fresh (whole d) c) (started tree after none) (nothing (whole d)) es (S, tt) (inv-fresh (whole d) c (S .limits .2));
+  sampled = λ d c s f before after weights weights′ held held′ h M es.
+      let S = M .state h refl _ _ (unwritten _ _ refl refl) in
+      holds d c s (fresh (whole d) c) _ (nothing (whole d)) es
+      (stands-at d c s (fresh (whole d) c) _ _ refl (record { initial = f; entries = []; state = S }))
+      (inv-fresh (whole d) c (S .tree-is .limits .2));
+}

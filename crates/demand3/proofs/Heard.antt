@@ -22,7 +22,7 @@ use Rattle.randomcuttree.specs.Answers.{addSays, deleteSays}
 use Rattle.randomcuttree.specs.Queries.{copiesSay, branchSays, boxSays}
 use Rattle.demand3.specs.Heard.{refusalBy, endIn, heardPut, heardAdd, heardDelete, heardCopies, heardBranch, heardBox}
 
-refusal-is : (r : Refusal) → refusalBy (numberOf r) ≡ r
+pub refusal-is : (r : Refusal) → refusalBy (numberOf r) ≡ r
 refusal-is indexAbove = refl
 refusal-is coordinateCount = refl
 refusal-is badCoordinate = refl

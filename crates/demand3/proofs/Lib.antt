@@ -2,6 +2,8 @@ pub mod Heard
 pub mod Asked
 pub mod Boxes
 pub mod Channels
-pub mod Steps
-pub mod Claim
 pub mod Answered
+pub mod Sampled
+pub mod Steps
+pub mod Arrivals
+pub mod Claim

@@ -1,5 +1,6 @@
 -- The code's answers as document 01's calls give them: the counts are fed these, and the tree is what they say. Definitions.
 use mathlib.Core.Bool.{cond}
+use mathlib.Core.Option.{none, some}
 use mathlib.Core.List.{List}
 use Prim.Native.Nat.{ℕ}
 use lib.Dec.{eqb}
@@ -20,6 +21,9 @@ use Rattle.randomcuttree.specs.declared.BranchRow.{BranchRow}
 use Rattle.randomcuttree.specs.declared.BranchAnswer.{BranchAnswer}
 use Rattle.randomcuttree.specs.declared.BranchAnswer.the-variants.{Branch, NoBranch}
 use Rattle.randomcuttree.specs.declared.BoxAnswer.{BoxAnswer}
+use Rattle.sampledtree.specs.Sampled.{SampledAnswer, plain, notAccepted, accepted}
+use Rattle.samplerplustree.specs.declared.UpdateAnswer.{UpdateAnswer}
+use Rattle.samplerplustree.specs.declared.UpdateAnswer.the-variants.{Accepted, Replaced, NotAccepted, Refused as NoArrival}
 
 -- the refusal of a number; 16, which queries alone have, and any number that is no refusal's, stand for a node that there is not
 abbrev pub refusalBy : ℕ → Refusal
@@ -68,3 +72,10 @@ module _ (d : ℕ) where
   heardBox b = cond (eqb (b .refusal) 0)
       (boxIs (record { lower = endIn (b .«bounding_box» .«min_values»); upper = endIn (b .«bounding_box» .«max_values») }))
       (refused (refusalBy (b .refusal)))
+
+  -- an arrival's answer
+  abbrev pub heardUpdate : UpdateAnswer → SampledAnswer (whole d)
+  heardUpdate (Accepted h j) = accepted j none
+  heardUpdate (Replaced h j e) = accepted j (some e)
+  heardUpdate NotAccepted = notAccepted
+  heardUpdate (NoArrival r) = plain (refused (refusalBy r))

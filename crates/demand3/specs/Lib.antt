@@ -1,4 +1,4 @@
 pub mod Heard
 pub mod Steps
-pub mod Claim
 pub mod Answered
+pub mod Claim

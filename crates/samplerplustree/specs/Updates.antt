@@ -27,6 +27,13 @@ updateSays d h (plain (copiesAre n)) = NotAccepted
 updateSays d h (plain (branchIs r)) = NotAccepted
 updateSays d h (plain (boxIs b)) = NotAccepted
 
+-- the header after an answer: one that is refused or not accepted leaves it
+abbrev pub headUpdated : SamplerPlusTree → UpdateAnswer → SamplerPlusTree
+headUpdated h (Accepted h′ j) = h′
+headUpdated h (Replaced h′ j e) = h′
+headUpdated h NotAccepted = h
+headUpdated h (Refused r) = h
+
 -- What an arrival gives and leaves: header, arrays and sample of the sampled world after it. The table is not written.
 pub record Updated (d : ℕ) (s : Float) (x : SampledAnswer (whole d) × Sampled (whole d)) (r : UpdateAnswer) (after : Lent) (points : List (List Float)) (marks : List ℕ) (weights : List Float) (held : List ℕ) : Type 0 where
   pub answer : r ≡ updateSays d (headOf d s (x .1)) (x .0)
