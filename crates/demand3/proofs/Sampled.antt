@@ -2,7 +2,7 @@
 use mathlib.Core.Path.{_≡_, refl, sym, ap, ap₂, _∙_, subst, fun-ext}
 use mathlib.Core.Option.{Option, none, some}
 use mathlib.Core.List.{List, [], _∷_, _++_, map}
-use Prim.Native.Nat.{ℕ, _≤_}
+use Prim.Native.Nat.{ℕ}
 use native.Mathlib.Omega.{arith}
 use lib.ListN.{length}
 use lib.Ieee.{Float}
@@ -13,14 +13,13 @@ use Rattle.cuttree.specs.Counts.{Counts}
 use Rattle.cuttree.proofs.Keeps.{Inv}
 use Rattle.wholetree.specs.Reading.{Reading}
 use Rattle.wholetree.specs.Whole.{whole}
-use Rattle.wholetree.proofs.Laws.{whole-laws}
+use Rattle.pointstore.specs.declared.PutAnswer.{PutAnswer}
+use Rattle.pointstore.specs.Puts.{PutDone}
 use Rattle.sampledtree.specs.Sampled.{Sampled}
 use Rattle.sampledtree.specs.Arrivals.{keptOf}
-use Rattle.sampledtree.proofs.Keeps.{every-put}
-use Rattle.randomcuttree.specs.declared.RCFTree.{RCFTree}
-use Rattle.randomcuttree.specs.State.{State, headerOf}
 use Rattle.samplerplustree.specs.declared.SamplerPlusTree.{SamplerPlusTree}
 use Rattle.samplerplustree.specs.State.{samplerOf, SampledState}
+use Rattle.samplerplustree.proofs.Standing.{puts-keep-sampled}
 use Rattle.demand3.specs.Steps.{Sample, Kept, headIn, SameTree}
 use Rattle.demand3.specs.Claim.{SampleClaim, OfSample}
 
@@ -45,26 +44,17 @@ module _ (d c : ℕ) (s : Float) where
   OfWorld W x (some p) = SampledAs x p W
 
   -- A PUT leaves the sample
-  put-sampled : (W : World (whole d)) (x y : Kept) (i : ℕ) (xs : List Float) → SameTree x y → State d c s (call (whole d) c W (put i xs) .1) (y .tree) (y .arrays) (y .points) (y .marks)
-      → (o : Option Sample) → OfWorld W x o → OfWorld (call (whole d) c W (put i xs) .1) y o
-  put-sampled W x y i xs same S none t = tt
-  put-sampled W x y i xs same S (some p) B =
-      let W′ = call (whole d) c W (put i xs) .1 in
-      record {
-        initial = B .initial;
-        entries = B .entries;
-        state = record {
-          head-is = ap₂ (λ (t : RCFTree) (h : SamplerPlusTree). record { tree = t; sampler = h .sampler; «initial_accept_fraction» = h .«initial_accept_fraction» }) (S .header-is) (B .state .head-is);
-          tree-is = subst (λ (t : RCFTree). State d c s W′ t (y .arrays) (y .points) (y .marks)) (S .header-is) S;
-          weights-are = B .state .weights-are;
-          held-are = B .state .held-are;
-          agrees = every-put (whole d) (whole-laws d) (sampledAt (B .initial) W (B .entries)) i xs (B .state .agrees);
-          initial-is = B .state .initial-is;
-        };
-      }
+  module _ (W : World (whole d)) (x y : Kept) (i : ℕ) (xs : List Float) (r : PutAnswer) (same : SameTree x y) (D : PutDone d c W i xs (y .points) (y .marks) r) where
+    put-sampled : (o : Option Sample) → OfWorld W x o → OfWorld (call (whole d) c W (put i xs) .1) y o
+    put-sampled none B = tt
+    put-sampled (some p) B = record {
+      initial = B .initial;
+      entries = B .entries;
+      state = rw (same .tree, same .arrays) (puts-keep-sampled d s (sampledAt (B .initial) W (B .entries)) (headIn (x .tree) p) (x .arrays) (x .points) (x .marks) (p .weights) (p .held) (B .state) .1 i xs (y .points) (y .marks) r D);
+    }
 
-  pub put-keeps : (W : World (whole d)) (x y : Kept) (i : ℕ) (xs : List Float) → SameTree x y → State d c s (call (whole d) c W (put i xs) .1) (y .tree) (y .arrays) (y .points) (y .marks) → OfWorld W x (x .sample) → OfWorld (call (whole d) c W (put i xs) .1) y (y .sample)
-  put-keeps W x y i xs same S B = subst (OfWorld (call (whole d) c W (put i xs) .1) y) (sym (same .sample)) (put-sampled W x y i xs same S (x .sample) B)
+    pub put-keeps : OfWorld W x (x .sample) → OfWorld (call (whole d) c W (put i xs) .1) y (y .sample)
+    put-keeps B = subst (OfWorld (call (whole d) c W (put i xs) .1) y) (sym (same .sample)) (put-sampled (x .sample) B)
 
   -- THE COUNTS number the kept arrivals of each value
   sample-claim : (W : World (whole d)) (K : Counts (whole d)) (x : Kept) → Inv (whole d) c W K → (o : Option Sample) → OfWorld W x o → OfSample d c s o K

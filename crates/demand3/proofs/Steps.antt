@@ -45,7 +45,7 @@ module _ (d c : ℕ) (s : Float) where
       let K = puts-keep d c s W (x .tree) (x .arrays) (x .points) (x .marks) S in
       let D = puts-are-calls d c W i xs (x .points) (x .marks) (x .arrays .copies) (y .points) (y .marks) r (K .0) (subst (λ (n : ℕ). Puts n (x .arrays .copies) i xs (x .points) (x .marks) (y .points) (y .marks) r) (dimensions-are S) P) in
       let after : StateOf (call (whole d) c W (put i xs) .1) y = rw (same .tree, same .arrays) (K .1 i xs (y .points) (y .marks) r D) in
-      (e ∙ ap (heardPut d) (D .answer) ∙ heard-put d c W i xs, (after, put-keeps d c s W x y i xs same after B))
+      (e ∙ ap (heardPut d) (D .answer) ∙ heard-put d c W i xs, (after, put-keeps d c s W x y i xs r same D B))
   call-is W x (add i ws) a y (S, B) (r, e, D, header, same, bare, still) =
       let C = D d c s W S in
       let next : y .tree ≡ headerOf d c s (call (whole d) c W (add i ws) .1) = header ∙ ap (λ t. headerAdded t r) (S .header-is) ∙ ap (headerAdded (headerOf d c s W)) (C .answer) ∙ add-header d c s W i ws in

@@ -15,7 +15,7 @@ use Rattle.randomcuttree.specs.Standing.{StatesStand, PutsKeep}
 use Rattle.randomcuttree.proofs.Reaches.{reachable-call, reachable-fresh}
 use Rattle.randomcuttree.proofs.Parts.{copies-are}
 
-reachable-after : (d c : ℕ) → 1 ≤ d → d ≤ width → (W : World (whole d)) → Reachable d c W → (cs : List (Call (whole d))) → Reachable d c (worldAfter (whole d) c W cs)
+pub reachable-after : (d c : ℕ) → 1 ≤ d → d ≤ width → (W : World (whole d)) → Reachable d c W → (cs : List (Call (whole d))) → Reachable d c (worldAfter (whole d) c W cs)
 reachable-after d c l m W R [] = R
 reachable-after d c l m W R (x ∷ cs) = reachable-after d c l m (call (whole d) c W x .1) (reachable-call d c l m W x R) cs
 

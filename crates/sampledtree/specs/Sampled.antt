@@ -95,6 +95,11 @@ module _ (S : Setting) where
       (refuse X fewWords (ltb (length ws) (X .capacity))
       (taken X i w ws (offer (X .capacity) (X .initial) (X .sample) w x)))))
 
+  -- the sampled tree that a list of calls leaves
+  abbrev pub sampledAfter : Sampled → List SampledCall → Sampled
+  sampledAfter X [] = X
+  sampledAfter X (d ∷ ds) = sampledAfter (call X d .1) ds
+
   -- "a tree fresh from an accepted making": of capacity c and initial share s
   abbrev pub fresh : ℕ → Float → Sampled
   fresh c s = record { capacity = c; initial = s; world = Bare.fresh S c; sample = [] }

@@ -1,13 +1,13 @@
 -- That states are met: each sampled world that a making and its calls leave stands in arrays, and a put leaves one too. Statements.
 use mathlib.Core.Path.{_≡_}
 use mathlib.Core.Bool.{true}
-use mathlib.Core.List.{List, [], _∷_}
+use mathlib.Core.List.{List}
 use Prim.Native.Nat.{ℕ, _≤_}
 use lib.Ieee.{Float}
 use Rattle.limits.specs.Limits.{width, capacityLimit}
 use Rattle.readings.specs.Share.{isShare}
 use Rattle.wholetree.specs.Whole.{whole}
-use Rattle.sampledtree.specs.Sampled.{Sampled, SampledCall, put, call, fresh}
+use Rattle.sampledtree.specs.Sampled.{Sampled, SampledCall, put, call, sampledAfter, fresh}
 use Rattle.layout.specs.Layout.{tableOf}
 use Rattle.pointstore.specs.declared.PutAnswer.{PutAnswer}
 use Rattle.pointstore.specs.Puts.{Tabled, PutDone}
@@ -16,16 +16,11 @@ use Rattle.randomcuttree.specs.State.{cachedBy}
 use Rattle.samplerplustree.specs.declared.SamplerPlusTree.{SamplerPlusTree}
 use Rattle.samplerplustree.specs.State.{weightsOf, heldOf, headOf, SampledState}
 
--- the sampled world that a list of calls leaves
-abbrev pub sampledAfter : (d : ℕ) → Sampled (whole d) → List (SampledCall (whole d)) → Sampled (whole d)
-sampledAfter d X [] = X
-sampledAfter d X (x ∷ xs) = sampledAfter d (call (whole d) X x .1) xs
-
 -- After any list of puts, arrivals and queries from a fresh sampled tree and an unwritten table there is a state, for every two shares that a
 -- making takes: what an arrival asks of its caller is met by trees and samples of any size.
 abbrev pub SampledStand : Type 0
 SampledStand = (d c : ℕ) (s f : Float) → 1 ≤ d → d ≤ width → 2 ≤ c → c ≤ capacityLimit → isShare s ≡ true → isShare f ≡ true → (cs : List (SampledCall (whole d)))
-    → let X = sampledAfter d (fresh (whole d) c f) cs in
+    → let X = sampledAfter (whole d) (fresh (whole d) c f) cs in
     SampledState d s X (headOf d s X) (arraysOf d (X .capacity) (cachedBy s (X .capacity)) (X .world .tree) (X .world .free)) (tableOf (X .world .table) .points) (tableOf (X .world .table) .written) (weightsOf (X .sample)) (heldOf (X .sample))
 
 -- A put is told its table by a state, and leaves one: header, arrays and sample stay as they are. What an arrival leaves is said in `Updated`.

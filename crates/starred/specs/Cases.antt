@@ -23,7 +23,7 @@ use Rattle.intervalstoremanager.specs.Stack as Stack
 use Rattle.cuttree.specs.Run.{Answer, refused, written, added, deleted, copiesAre, branchIs, boxIs, Call, add as addCall, call, fresh, worldAfter}
 use Rattle.startingchance.specs.Chance.{fillFraction, chanceOf, startsBy}
 use Rattle.sampler.specs.Heap.{moved as stepped, heavier}
-use Rattle.sampledtree.specs.Sampled.{Sampled, SampledCall, SampledAnswer, plain, notAccepted, accepted, call as callSampled, fresh as freshSampled}
+use Rattle.sampledtree.specs.Sampled.{SampledCall, SampledAnswer, plain, notAccepted, accepted, call as callSampled, sampledAfter, fresh as freshSampled}
 use Rattle.wholetree.specs.Reading.{isCoordinate32, isRow, coordinate, sameRow, padded, origin, asReading, reading}
 use Rattle.wholetree.specs.Whole.{tab, whole}
 use Rattle.printed.specs.Printed.{printedTree}
@@ -64,10 +64,6 @@ alike [] (y ∷ ys) = false
 alike (x ∷ xs) [] = false
 alike (x ∷ xs) (y ∷ ys) = eqb x y && alike xs ys
 
-abbrev sampledAfter : (d : ℕ) → Sampled (whole d) → List (SampledCall (whole d)) → Sampled (whole d)
-sampledAfter d X [] = X
-sampledAfter d X (e ∷ es) = sampledAfter d (callSampled (whole d) X e .1) es
-
 abbrev isUpdated : (d : ℕ) → SampledAnswer (whole d) → List ℕ → Bool
 isUpdated d (plain a) l = false
 isUpdated d notAccepted l = alike [] l
@@ -81,7 +77,7 @@ holds (narrows x y) = eqb (toBits binary32 (narrowed (ofBits binary64 x))) y
 holds (lists d c xs i ws j n text) =
     let r = call (whole d) c (worldAfter (whole d) c (fresh (whole d) c) xs) (addCall i ws) in
     isAdded d (r .0) j n && alike (printedTree d c (r .1 .tree)) (bytes text)
-holds (samples d c f xs x l) = isUpdated d (callSampled (whole d) (sampledAfter d (freshSampled (whole d) c (ofBits binary64 f)) xs) x .0) l
+holds (samples d c f xs x l) = isUpdated d (callSampled (whole d) (sampledAfter (whole d) (freshSampled (whole d) c (ofBits binary64 f)) xs) x .0) l
 
 unfoldable pub all : List Case → Bool
 unfolding holds
