@@ -2,7 +2,7 @@
 use mathlib.Core.Path.{_≡_, sym, ap, _∙_, subst}
 use mathlib.Core.Option.{none}
 use mathlib.Core.List.{List}
-use Prim.Native.Nat.{ℕ, _+_, _<_}
+use Prim.Native.Nat.{ℕ, _+_, _≤_, _<_}
 use native.Mathlib.Omega.{arith}
 use lib.ListN.{length}
 use lib.Ieee.{Float}
@@ -35,8 +35,8 @@ module _ {d : ℕ} {s : Float} {X : Sampled (whole d)} {h : SamplerPlusTree} {a 
   pub size-is : h .sampler .«current_size» ≡ length (X .sample)
   size-is = ap (λ (y : SamplerPlusTree). y .sampler .«current_size») (S .head-is)
 
-  pub small : X .capacity < 257
-  small = omega (arith, S .tree-is .limits .3)
+  pub small : X .capacity ≤ capacityLimit
+  small = S .tree-is .limits .3
 
 -- the header of an accepted arrival
 pub head-after : (d : ℕ) (s : Float) (X : Sampled (whole d)) (W : Bare.World (whole d)) (ks : List Entry) (t : RCFTree) (k : Sampler) (f : Float) → t ≡ headerOf d (X .capacity) s W → k ≡ samplerOf (X .capacity) ks → f ≡ X .initial
