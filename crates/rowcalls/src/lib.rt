@@ -29,7 +29,7 @@ fn put_row(
     points: &mut Points,
     written: &mut Marks,
     row: &[u8],
-    index: usize,
+    index: u64,
     start: usize,
     reply: &mut Reply,
 )
@@ -38,7 +38,16 @@ fn put_row(
     let mut coordinates = [0.0f32; COORDINATES];
     let given = text::read_coordinates(row, start, &mut coordinates);
     let n = casts::at_most(given, COORDINATES);
-    calls::put(tree, copies, points, written, index, &coordinates, n, reply);
+    calls::put(
+        tree,
+        copies,
+        points,
+        written,
+        index as usize,
+        &coordinates,
+        n,
+        reply,
+    );
 }
 
 // The add of a row whose words start at a place: those that an add looks at.
@@ -52,7 +61,7 @@ fn add_row(
     points: &Points,
     written: &Marks,
     row: &[u8],
-    index: usize,
+    index: u64,
     start: usize,
     reply: &mut Reply,
 ) -> RCFTree
@@ -71,7 +80,7 @@ fn add_row(
         boxes,
         points,
         written,
-        index,
+        index as usize,
         &words,
         n,
         reply,
@@ -98,16 +107,7 @@ pub fn call_row(
 {
     match form::read_row(row) {
         Row::Put(index, start) => {
-            put_row(
-                tree,
-                copies,
-                points,
-                written,
-                row,
-                index as usize,
-                start,
-                reply,
-            );
+            put_row(tree, copies, points, written, row, index, start, reply);
             tree
         }
         Row::Add(index, start) => add_row(
@@ -120,7 +120,7 @@ pub fn call_row(
             points,
             written,
             row,
-            index as usize,
+            index,
             start,
             reply,
         ),
