@@ -1,1 +1,4 @@
-pub mod Casts
+pub mod Signs
+pub mod Exact
+pub mod AsDocument
+pub mod Padding

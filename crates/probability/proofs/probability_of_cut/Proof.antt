@@ -4,7 +4,7 @@ use lib.Ieee.{ofBits}
 use Rattle.limits.specs.Limits.{width}
 use denote.Ref.{now}
 use Rattle.probability.specs.Probability.{partOf, probability}
-use Rattle.probability.proofs.Casts.{outside-casts}
+use Rattle.probability.proofs.Signs.{outside-casts}
 use Rattle.probability.proofs.probability_of_cut.Statement.{statement}
 use Rattle.probability.proofs.probability_of_cut.Tie as tie
 
