@@ -25,10 +25,11 @@ use Rattle.boundingbox.specs.Ends.{channel}
 use Rattle.boundingbox.specs.Sides.{rangeSum}
 use Rattle.boundingbox.specs.Contained.{contains}
 use Rattle.boundingbox.proofs.Sums.{nought-is, whole-eq}
+use Rattle.cut.specs.Sums.{one}
 use Rattle.cut.specs.Laws.{Readings}
 use Rattle.cut.proofs.Stretched.{beyond, sum-same}
 use Rattle.cut.proofs.AsDocument.{holds-is, point-is}
-use Rattle.probability.specs.Probability.{one, outside, partOf, probability}
+use Rattle.probability.specs.Probability.{outside, partOf, probability}
 use Rattle.probability.specs.Laws.{distance, S, W, AsDocument, InRange, ZeroInside}
 use Rattle.probability.proofs.Exact.{outside-exact, S-le, all-le, sums-exact}
 

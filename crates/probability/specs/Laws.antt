@@ -12,8 +12,9 @@ use Rattle.boundingbox.specs.Ends.{channel}
 use Rattle.boundingbox.specs.Sides.{rangeSum}
 use Rattle.boundingbox.specs.Contained.{contains}
 use Rattle.boundingbox.specs.Wholes.{side, sumTo}
+use Rattle.cut.specs.Sums.{one}
 use Rattle.cut.specs.Laws.{Readings, Padded}
-use Rattle.probability.specs.Probability.{one, outside, probability}
+use Rattle.probability.specs.Probability.{outside, probability}
 
 -- how far x lies outside the side from a to b: above it or below it
 abbrev pub distance : ℕ → ℕ → ℕ → ℕ

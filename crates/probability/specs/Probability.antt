@@ -1,14 +1,14 @@
 -- The chance that a cut parts a point from a box, in the floats' own operations, each of which rounds once: `probability_of_cut` of boundingbox.rs, for every float. Definitions.
 use mathlib.Core.Path.{_≡_, refl}
-use mathlib.Core.Bool.{false, cond}
+use mathlib.Core.Bool.{cond}
 use mathlib.Core.List.{List, [], _∷_}
 use Prim.Native.Nat.{ℕ, zero, suc}
-use lib.IntN.{pos}
-use lib.Ieee.{Float, fin, binary32, binary64, round, add, sub, div, lt, eq, fits, ofBits, toBits}
+use lib.Ieee.{Float, binary32, binary64, round, add, sub, div, lt, eq, fits, ofBits, toBits}
 use Rattle.limits.specs.Limits.{width}
 use Rattle.readings.specs.Number.{nought}
 use Rattle.boundingbox.specs.Ends.{channel}
 use Rattle.boundingbox.specs.Sides.{gapOf, total, rangeSum}
+use Rattle.cut.specs.Sums.{one}
 
 -- `if x - y > 0.0 { x - y } else { 0.0 }`, in f32
 unfoldable pub pastBy : Float → Float → Float
@@ -26,10 +26,6 @@ pastSum xs ys n = total32 (λ i. pastBy (channel xs i) (channel ys i)) n
 -- `let sum = maxsum + minsum`, in f32
 abbrev pub outside : List Float → List Float → List Float → ℕ → Float
 outside lo hi p n = add binary32 (pastSum p hi n) (pastSum lo p n)
-
--- 1.0
-abbrev pub one : Float
-one = fin false 1 (pos 0)
 
 -- 0.0 where `sum == 0.0`, else 1.0 where `self.range_sum == 0.0`, else `(sum as f64) / (self.range_sum + sum as f64)`: the cast keeps the sum
 unfoldable pub partOf : Float → Float → Float

@@ -7,7 +7,7 @@ ghost use Rattle.limits.specs.Limits.{width};
 ghost use Rattle.probability.specs.Probability.{pastBy, pastSum, probability};
 
 // The chance that a cut of the box with the point in it parts the two: what lies outside over the sides and it, 0 where nothing does.
-// Rules out a point on a face counted as outside, and a chance of NaN where box and point are one, which is 0 / 0.
+// Rules out what lies above measured from the lower ends, and a quotient by the sides alone, which passes 1.
 pub fn probability_of_cut(bounding_box: BoundingBox, point: &Row) -> f64
     ensures { λ r. ⌜ r ≡ probability («bounding_box» .«min_values») («bounding_box» .«max_values») (now (point .entry)) width ⌝ }
 {
