@@ -25,7 +25,7 @@ use Rattle.cut.proofs.AsDocument.{as-document, some-side}
 use Rattle.cut.proofs.Within.{channel-found}
 
 -- ---- more channels, each of side zero
-sum-pad : (g : ℕ → ℕ) (d k : ℕ) → ((i : ℕ) → d ≤ i → i < d + k → g i ≡ 0) → sumTo g (d + k) ≡ sumTo g d
+pub sum-pad : (g : ℕ → ℕ) (d k : ℕ) → ((i : ℕ) → d ≤ i → i < d + k → g i ≡ 0) → sumTo g (d + k) ≡ sumTo g d
 sum-pad g d zero z = ap (sumTo g) (native.Mathlib.Nat.add-zero d)
 sum-pad g d (suc k) z = ap (sumTo g) (next d k) ∙ more (d + k) ∙ omega (arith, sum-pad g d k (λ i a b. z i a (further d k i b)), z (d + k) (here d k) (last d k))
   where

@@ -1,0 +1,4 @@
+pub mod Signs
+pub mod Exact
+pub mod AsDocument
+pub mod Padding
