@@ -1,6 +1,8 @@
-// Numbers as wider ones. A cast asks that what is read fits, which an array's type does not tell a proof; a call of one of these asks nothing, and tells the bound.
+// Numbers as wider ones, and numbers held to bounds. A cast asks that what is read fits, which an array's type does not tell a proof; a call of one of these asks nothing, and tells the bound.
 ghost use mathlib.Core.Path.{_≡_};
+ghost use mathlib.Core.Bool.{_&&_};
 ghost use Prim.Native.Nat.{_<_, min};
+ghost use lib.Dec.{leb};
 
 // Rules out the lower bits alone, and any bound that a number of the narrower type breaks.
 pub fn wide8(x: u8) -> usize
@@ -44,6 +46,14 @@ pub fn u64_of_u32(x: u32) -> u64
     ensures { λ r. ⌜ (r ≡ x) × (x < 4294967296) ⌝ }
 {
     x as u64
+}
+
+// Whether a number is from `low` to `high`, both counted.
+// Rules out a bound left out, and a number below `low` taken.
+pub fn within(x: usize, low: usize, high: usize) -> bool
+    ensures { λ r. ⌜ r ≡ (leb low x && leb x high) ⌝ }
+{
+    (low <= x) & (x <= high)
 }
 
 // The lesser of two numbers.

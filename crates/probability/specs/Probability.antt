@@ -1,13 +1,11 @@
 -- The chance that a cut parts a point from a box, in the floats' own operations, each of which rounds once: `probability_of_cut` of boundingbox.rs, for every float. Definitions.
-use mathlib.Core.Path.{_≡_, refl}
 use mathlib.Core.Bool.{cond}
-use mathlib.Core.List.{List, [], _∷_}
+use mathlib.Core.List.{List}
 use Prim.Native.Nat.{ℕ, zero, suc}
-use lib.Ieee.{Float, binary32, binary64, round, add, sub, div, lt, eq, fits, ofBits, toBits}
-use Rattle.limits.specs.Limits.{width}
+use lib.Ieee.{Float, binary32, binary64, add, sub, div, lt, eq}
 use Rattle.readings.specs.Number.{nought}
 use Rattle.boundingbox.specs.Ends.{channel}
-use Rattle.boundingbox.specs.Sides.{gapOf, total, rangeSum}
+use Rattle.boundingbox.specs.Sides.{rangeSum}
 use Rattle.cut.specs.Sums.{one}
 
 -- `if x - y > 0.0 { x - y } else { 0.0 }`, in f32
@@ -34,16 +32,3 @@ partOf s w = cond (eq s nought) nought (cond (eq w nought) one (div binary64 s (
 -- the chance, of the box from lo to hi and the point p, over n channels
 unfoldable pub probability : List Float → List Float → List Float → ℕ → Float
 probability lo hi p n = partOf (outside lo hi p n) (rangeSum lo hi n)
-
--- a row of one channel, its f32 by its bits: the channels from there on hold +0.0
-abbrev row : ℕ → List Float
-row b = ofBits binary32 b ∷ nought ∷ nought ∷ nought ∷ nought ∷ nought ∷ nought ∷ nought ∷ []
-
--- Document 01's starred line: 'Box 0 to 8, query 12: 3FD5555555555555; query 8: 0'. f32 bits: 8 is 41000000, 12 is 41400000
-past-face : toBits binary64 (probability (row 0) (row 0x4100_0000) (row 0x4140_0000) width) ≡ 0x3fd5_5555_5555_5555
-unfolding probability partOf total32 pastBy total gapOf round add sub div lt eq fits ofBits toBits
-past-face = refl
-
-on-face : toBits binary64 (probability (row 0) (row 0x4100_0000) (row 0x4100_0000) width) ≡ 0
-unfolding probability partOf total32 pastBy total gapOf round add sub div lt eq fits ofBits toBits
-on-face = refl

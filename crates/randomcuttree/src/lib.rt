@@ -1,6 +1,7 @@
 // A random cut tree on readings fed in (randomcuttree.rs): making, putting, adding, deleting and the queries. Its arrays are lent; the header goes in and comes back by value.
 use boundingbox::BoundingBox;
 use casts::wide16;
+use casts::within;
 use cut::Cut;
 use intervalstoremanager::IntervalStoreManager;
 use limits::BRANCHES;
@@ -17,10 +18,8 @@ use limits::Path;
 use limits::Points;
 use pointstore::PutAnswer;
 ghost use mathlib.Core.Path.{_≡_};
-ghost use mathlib.Core.Bool.{_&&_};
 ghost use mathlib.Core.List.{[]};
 ghost use Prim.Native.Nat.{_<_};
-ghost use lib.Dec.{leb};
 ghost use lib.ListN.{getD, replicate};
 ghost use Rattle.limits.specs.Limits.{branchLimit, pointLimit};
 ghost use Rattle.readings.specs.Number.{nought};
@@ -86,12 +85,6 @@ pub enum BranchAnswer {
 pub struct BoxAnswer {
     pub refusal: u8,
     pub bounding_box: BoundingBox,
-}
-
-fn within(x: usize, low: usize, high: usize) -> bool
-    ensures { λ r. ⌜ r ≡ (leb low x && leb x high) ⌝ }
-{
-    (low <= x) & (x <= high)
 }
 
 // Clears what a tree keeps of its branches and leaves.

@@ -1,5 +1,6 @@
 // A sampled tree (samplerplustree.rs): a random cut tree and the sample that keeps its leaves. The header goes in and comes back by value; the arrays are lent.
 use casts::wide16;
+use casts::within;
 use limits::Boxes;
 use limits::CAPACITY;
 use limits::CHANNELS;
@@ -18,9 +19,7 @@ use randomcuttree::Made;
 use randomcuttree::RCFTree;
 use sampler::Sampler;
 ghost use mathlib.Core.Path.{_≡_};
-ghost use mathlib.Core.Bool.{_&&_};
 ghost use Prim.Native.Nat.{_<_};
-ghost use lib.Dec.{leb};
 ghost use lib.ListN.{length};
 ghost use Rattle.limits.specs.Limits.{pointLimit};
 ghost use Rattle.treestore.specs.Arrays.{lent};
@@ -64,12 +63,6 @@ pub enum Offer {
 struct AddedLeaf {
     tree: RCFTree,
     leaf: usize,
-}
-
-fn within(x: usize, low: usize, high: usize) -> bool
-    ensures { λ r. ⌜ r ≡ (leb low x && leb x high) ⌝ }
-{
-    (low <= x) & (x <= high)
 }
 
 // The number of the first refusal of a making whose initial share is refused.

@@ -19,6 +19,7 @@ use Rattle.boundingbox.specs.Contained.{every}
 use Rattle.cut.specs.declared.Separation.{Separation}
 use Rattle.cut.specs.declared.Separation.the-variants.{NoCut, Drawn}
 use Rattle.cut.specs.Draw.{outsideOf, outsideSum, sideOf, rangeOf, reaches, leftOf, sideFrom, moved, placed, parts, drawnAt, separation}
+use Rattle.probability.specs.Probability.{pastBy, total32, partOf, probability}
 use Rattle.intervalstoremanager.specs.Stack as Stack
 use Rattle.cuttree.specs.Run.{Answer, refused, written, added, deleted, copiesAre, branchIs, boxIs, Call, add as addCall, call, fresh, worldAfter}
 use Rattle.startingchance.specs.Chance.{fillFraction, chanceOf, startsBy}
@@ -36,6 +37,8 @@ pub data Case : Type 0 where
   narrows : ℕ → ℕ → Case
   -- channels, capacity, calls, then an add's index and words: the index and the words taken that it answers, and what the tree prints after it
   lists : (d c : ℕ) → List (Call (whole d)) → ℕ → List ℕ → ℕ → ℕ → String → Case
+  -- a box's lower and upper ends and a query: the chance that a cut parts them, an f64
+  chances : List ℕ → List ℕ → List ℕ → ℕ → Case
   -- channels, capacity, an initial share, calls on a sampled tree, then one more: the leaf's index and the evicted index, if any, that it
   -- answers; none where it is not accepted
   samples : (d c : ℕ) → ℕ → List (SampledCall (whole d)) → SampledCall (whole d) → List ℕ → Case
@@ -71,12 +74,13 @@ isUpdated d (accepted j none) l = alike (j ∷ []) l
 isUpdated d (accepted j (some e)) l = alike (j ∷ e ∷ []) l
 
 unfoldable pub holds : Case → Bool
-unfolding Stack.fresh Stack.next Stack.afterGet Stack.afterRelease ofBits toBits fits round add sub mul lt le eq isCoordinate factorOf narrowed least greatest gapOf total every outsideOf outsideSum sideOf rangeOf reaches leftOf sideFrom moved placed parts drawnAt separation isNumber asNumber zero number isCoordinate32 isRow coordinate sameRow padded origin asReading reading tab digit decimalIn decimal hex branchLine leafLine div ofInt fillFraction chanceOf startsBy stepped heavier
+unfolding Stack.fresh Stack.next Stack.afterGet Stack.afterRelease ofBits toBits fits round add sub mul lt le eq isCoordinate factorOf narrowed least greatest gapOf total every outsideOf outsideSum sideOf rangeOf reaches leftOf sideFrom moved placed parts drawnAt separation isNumber asNumber zero number isCoordinate32 isRow coordinate sameRow padded origin asReading reading tab digit decimalIn decimal hex branchLine leafLine div ofInt fillFraction chanceOf startsBy stepped heavier pastBy total32 partOf probability
 holds (cuts q p w d v) = draws (separation (length q) (floats q) (floats q) (floats p) w) d v
 holds (narrows x y) = eqb (toBits binary32 (narrowed (ofBits binary64 x))) y
 holds (lists d c xs i ws j n text) =
     let r = call (whole d) c (worldAfter (whole d) c (fresh (whole d) c) xs) (addCall i ws) in
     isAdded d (r .0) j n && alike (printedTree d c (r .1 .tree)) (bytes text)
+holds (chances lo hi p x) = eqb (toBits binary64 (probability (floats lo) (floats hi) (floats p) (length lo))) x
 holds (samples d c f xs x l) = isUpdated d (callSampled (whole d) (sampledAfter (whole d) (freshSampled (whole d) c (ofBits binary64 f)) xs) x .0) l
 
 unfoldable pub all : List Case → Bool

@@ -6,7 +6,7 @@ use Prim.Native.Nat.{ℕ}
 use lib.Ieee.{binary32, ofBits}
 use Rattle.wholetree.specs.Whole.{whole}
 use Rattle.sampledtree.specs.Sampled.{SampledCall, put as putSampled, arrive}
-use Rattle.starred.specs.Cases.{Case, cuts, narrows, lists, samples, floats, all}
+use Rattle.starred.specs.Cases.{Case, cuts, narrows, lists, chances, samples, floats, all}
 use Rattle.cuttree.specs.Run.{put, add}
 
 -- an arrival of an index and the bits of a weight, with a word for the chance and two for the tree
@@ -35,6 +35,9 @@ table =
     (put 0 (floats (0 ∷ [])) ∷ put 1 (floats (0x4100_0000 ∷ [])) ∷ put 2 (floats (0x4000_0000 ∷ [])) ∷ add 0 [] ∷ add 1 (0x8000_0000_0000_0000 ∷ []) ∷ [])
     2 (0x8000_0000_0000_0000 ∷ 0x8000_0000_0000_0000 ∷ []) 2 2
     "id dimension cut left right mass\n0 0 40800000 1 5 3\n1 0 3F800000 4 6 2\n4 - - - - 1\n6 - - - - 1\n5 - - - - 1\n"
+    -- 'Box 0 to 8, query 12: 3FD5555555555555; query 8: 0'; 12 is 41400000
+    ∷ chances (0 ∷ []) (0x4100_0000 ∷ []) (0x4140_0000 ∷ []) 0x3fd5_5555_5555_5555
+    ∷ chances (0 ∷ []) (0x4100_0000 ∷ []) (0x4100_0000 ∷ []) 0
     -- 'Capacity 2, initial share 1, three different readings, weights −1, −3, −1: the third is not accepted; −2 in its place evicts the first'
     ∷ samples 1 2 0x3ff0_0000_0000_0000 twoHeld (arrival 2 0xbf80_0000) []
     ∷ samples 1 2 0x3ff0_0000_0000_0000 twoHeld (arrival 2 0xc000_0000) (2 ∷ 0 ∷ [])
