@@ -16,6 +16,7 @@ use Rattle.treelist_text.specs.Output.{output}
 use Rattle.recorded.specs.Cuts.{cutAnswer}
 use Rattle.recorded.specs.Sequences.{sequenceAnswer}
 use Rattle.recorded.specs.Floats.{floatsAnswer}
+use Rattle.recorded_samples.specs.Samples.{sampleAnswer}
 use Rattle.replay.specs.Answers.{kinds, room, written, answered}
 use Rattle.replay.specs.declared.Head.{Head}
 use Rattle.replay.specs.Heads.{Fits}
@@ -41,9 +42,13 @@ module _ (k : ℕ) (given lent : List ℕ) where
   unfolding answered
   at-3 h = rw h
 
-  pub at-others : (k ≡ 0 → ⊥) → (k ≡ 1 → ⊥) → (k ≡ 2 → ⊥) → (k ≡ 3 → ⊥) → written (floatsAnswer k given) lent ≡ answered k given lent
+  pub at-12 : k ≡ 12 → written (sampleAnswer given) lent ≡ answered k given lent
   unfolding answered
-  at-others h₀ h₁ h₂ h₃ = rw (ne-eqb k 0 h₀, ne-eqb k 1 h₁, ne-eqb k 2 h₂, ne-eqb k 3 h₃)
+  at-12 h = rw h
+
+  pub at-others : (k ≡ 0 → ⊥) → (k ≡ 1 → ⊥) → (k ≡ 2 → ⊥) → (k ≡ 3 → ⊥) → (k ≡ 12 → ⊥) → written (floatsAnswer k given) lent ≡ answered k given lent
+  unfolding answered
+  at-others h₀ h₁ h₂ h₃ h₁₂ = rw (ne-eqb k 0 h₀, ne-eqb k 1 h₁, ne-eqb k 2 h₂, ne-eqb k 3 h₃, ne-eqb k 12 h₁₂)
 
 -- what lies beyond a part that keeps its length
 pub beyond : (x b : List ℕ) (n : ℕ) → length x ≡ n → drop n (x ++ drop n b) ≡ drop n b

@@ -10,10 +10,11 @@ use Rattle.treelist_text.specs.Output.{output}
 use Rattle.recorded.specs.Cuts.{cutAnswer}
 use Rattle.recorded.specs.Sequences.{sequenceAnswer}
 use Rattle.recorded.specs.Floats.{floatsAnswer}
+use Rattle.recorded_samples.specs.Samples.{sampleAnswer}
 
 -- the kinds are the numbers below this; no record is given more bytes than this, or answered with more
 abbrev pub kinds : ℕ
-kinds = 12
+kinds = 13
 
 abbrev pub room : ℕ
 room = 16384
@@ -22,14 +23,15 @@ room = 16384
 abbrev pub written : List ℕ → List ℕ → ℕ × List ℕ
 written bytes lent = (length bytes, sets lent 0 bytes)
 
--- 0 a cut choice, 1 a sequence of an interval manager, 2 a byte run, 3 a text, any other a function of floats
+-- 0 a cut choice, 1 a sequence of an interval manager, 2 a byte run, 3 a text, 12 a sequence of a sample, any other a function of floats
 unfoldable pub answered : ℕ → List ℕ → List ℕ → ℕ × List ℕ
 answered kind given lent =
     cond (eqb kind 0) (written (cutAnswer given) lent)
     (cond (eqb kind 1) (written (sequenceAnswer given) lent)
     (cond (eqb kind 2) (outcome given lent)
     (cond (eqb kind 3) (written (output given) lent)
-    (written (floatsAnswer kind given) lent))))
+    (cond (eqb kind 12) (written (sampleAnswer given) lent)
+    (written (floatsAnswer kind given) lent)))))
 
 -- One more, as a u64 has it: no input has so many records that it starts again at 0.
 abbrev pub more : ℕ → ℕ

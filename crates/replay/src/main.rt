@@ -13,7 +13,7 @@ ghost use Rattle.replay.specs.Answers.{kinds, room, answered, counted};
 ghost use Rattle.replay.specs.Heads.{Fits};
 
 // The kinds of records are the numbers below this.
-const KINDS: usize = 12;
+const KINDS: usize = 13;
 
 // No record is given more bytes, or answered with more.
 const ROOM: usize = 16384;
@@ -110,6 +110,9 @@ fn answer(kind: usize, given: &[u8], out: &mut [u8]) -> usize
     }
     if kind == 3 {
         return treelist_text::treelist_output(given, out);
+    }
+    if kind == 12 {
+        return recorded_samples::answer_sample(given, out);
     }
     recorded::answer_floats(kind, given, out)
 }

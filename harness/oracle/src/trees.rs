@@ -115,6 +115,11 @@ impl SampledTree {
         Ok(Some(Arrived { added, evicted }))
     }
 
+    /// The starting chance at a fill, by the unchanged `initial_accept_probability`.
+    pub fn chance(&self, fill: f64) -> f64 {
+        self.both.oracle_chance(fill)
+    }
+
     pub fn tree(&self) -> &Tree {
         self.both.oracle_tree()
     }

@@ -12,6 +12,7 @@ mod page;
 mod record;
 mod run_page;
 mod runs;
+mod samples;
 mod text_page;
 mod texts;
 
@@ -42,6 +43,7 @@ struct Recorded {
     runs: Vec<runs::Entry>,
     texts: Vec<texts::Entry>,
     floats: Vec<Record>,
+    samples: Vec<Record>,
 }
 
 impl Recorded {
@@ -52,6 +54,7 @@ impl Recorded {
             runs: runs::entries(),
             texts: texts::entries(),
             floats: floats::records(),
+            samples: samples::records(),
         }
     }
 
@@ -60,8 +63,8 @@ impl Recorded {
         let before = self.cuts.iter().chain(&self.intervals).map(Record::bytes);
         let runs = self.runs.iter().map(|run| run.record().bytes());
         let texts = self.texts.iter().map(|text| text.record().bytes());
-        let floats = self.floats.iter().map(Record::bytes);
-        before.chain(runs).chain(texts).chain(floats).collect()
+        let after = self.floats.iter().chain(&self.samples).map(Record::bytes);
+        before.chain(runs).chain(texts).chain(after).collect()
     }
 }
 

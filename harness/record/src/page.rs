@@ -1,10 +1,11 @@
 //! The page beside the recorded file: what a record is, and what the records hold, counted.
-use crate::{cuts, intervals, record, run_page, text_page, Recorded};
+use crate::{cuts, intervals, record, run_page, samples, text_page, Recorded};
 use floats::{Function, FUNCTIONS};
 
 pub fn make(recorded: &Recorded) -> String {
     let [held, whole, parting] = cuts::counted(&recorded.cuts);
     let sequences = intervals::counted(&recorded.intervals);
+    let samples = samples::counted(&recorded.samples);
     let numbers = [
         ("@RECORDS", recorded.bytes().len()),
         ("@ROOM", record::ROOM),
@@ -20,6 +21,15 @@ pub fn make(recorded: &Recorded) -> String {
         ("@LOOKS", sequences.looks),
         ("@FEWEST_CALLS", sequences.fewest_calls),
         ("@MOST_CALLS", sequences.most_calls),
+        ("@SAMPLES", recorded.samples.len()),
+        ("@ARRIVALS", samples.arrivals),
+        ("@PASSING", samples.passing),
+        ("@STARTING", samples.starting),
+        ("@EVICTING", samples.evicting),
+        ("@SAMPLE_LOOKS", samples.looks),
+        ("@SAMPLES_FULL", samples.full),
+        ("@FEWEST_ARRIVALS", samples.fewest_arrivals),
+        ("@MOST_ARRIVALS", samples.most_arrivals),
     ];
     let page = include_str!("page.md").replace("@FLOAT_TABLE\n", &float_rows(recorded));
     let page = run_page::fill(page, &recorded.runs);

@@ -1,5 +1,6 @@
 //! Stands in for `serde`'s derives. Nothing is serialized: `Deserialize` adds nothing, and
-//! `Serialize` adds `oracle_` functions that read private fields, beside the unchanged source.
+//! `Serialize` adds `oracle_` functions that read private fields, beside the unchanged source, and one
+//! that calls a private function, `oracle_chance`.
 //! It can't change what is compared: the given Rust calls none of them. One of them writes,
 //! `oracle_set_clock`, and it sets only the two numbers from which `update` makes the weight.
 use proc_macro::{TokenStream, TokenTree};
@@ -58,6 +59,10 @@ const SAMPLER: &str = "impl<P: Copy> Sampler<P> where usize: From<P> {
     pub fn oracle_heap(&self) -> Vec<(f32, usize)> {
         (0..self.current_size).map(|i| (self.weights[i], self.points[i].into())).collect()
     }
+    /// What `accept_point` answers: whether it accepts, the index and the weight that it evicts.
+    pub fn oracle_told(state: &SamplerAcceptState) -> (bool, usize, f32) {
+        (state.eviction_occurred, state.point_index, state.evicted_weight)
+    }
 }";
 
 const NODE_STORE: &str = "
@@ -81,6 +86,15 @@ const TREE: &str = "
 const SAMPLED_TREE: &str = "
     pub fn oracle_tree(&self) -> &RCFTree<C, P, N> { &self.tree }
     pub fn oracle_sampler(&self) -> &Sampler<P> { &self.sampler }
+    /// The starting chance at a fill.
+    pub fn oracle_chance(&self, fill_fraction: f64) -> f64
+    where
+        <C as TryFrom<usize>>::Error: std::fmt::Debug,
+        <P as TryFrom<usize>>::Error: std::fmt::Debug,
+        <N as TryFrom<usize>>::Error: std::fmt::Debug,
+    {
+        self.initial_accept_probability(fill_fraction)
+    }
     pub fn oracle_set_clock(&mut self, time_decay: f64, entries_seen: usize) {
         self.time_decay = time_decay;
         self.entries_seen = entries_seen;

@@ -1,0 +1,319 @@
+//! Recorded sequences of `Sampler<u16>` by itself, with the starting chance as `update` asks for it.
+use crate::record::{Record, ROOM};
+use oracle::{factor, SampledTree, Sampler, Words};
+
+pub const KIND: u32 = 12;
+const SEED: u64 = 0x5A3D_1E0F_9C2B_7781;
+const SMALLEST: usize = 2;
+const LARGEST: usize = 256;
+/// Every capacity once, then so many of the smallest again, then the largest once more.
+const SMALL_AGAIN: usize = 72;
+const SEQUENCES: usize = LARGEST - SMALLEST + 1 + SMALL_AGAIN + 1;
+/// From this capacity on only every eighth sequence, and the last, is long enough to fill the sample.
+const ALWAYS_FILLED: usize = 24;
+const ARRIVALS_BETWEEN_LOOKS: usize = 25;
+/// The bytes of an item that is given, and of an arrival's answer.
+const ITEM: usize = 16;
+const ANSWER: usize = 20;
+
+/// The index that stands for a look at the whole heap.
+const LOOK: u16 = 65535;
+/// The pattern that stands for every NaN.
+const NAN: u32 = 0x7FC0_0000;
+
+/// What an arrival does.
+const PASSES: u16 = 0;
+const STARTS: u16 = 1;
+const EVICTS: u16 = 2;
+
+/// Which weights a sequence has.
+#[derive(Clone, Copy)]
+enum Weights {
+    Equal,
+    FewValues,
+    EverySize,
+    Denormal,
+    Near,
+    Rising,
+    Falling,
+    AnyPattern,
+}
+
+const WEIGHTS: [Weights; 8] = [
+    Weights::Equal,
+    Weights::FewValues,
+    Weights::EverySize,
+    Weights::Denormal,
+    Weights::Near,
+    Weights::Rising,
+    Weights::Falling,
+    Weights::AnyPattern,
+];
+
+pub fn records() -> Vec<Record> {
+    let mut words = Words::new(SEED);
+    let sequence = |n: usize| {
+        let every = LARGEST - SMALLEST + 1;
+        let capacity = match n {
+            n if n < every => SMALLEST + n,
+            n if n < every + SMALL_AGAIN => SMALLEST + (n - every) % 9,
+            _ => LARGEST,
+        };
+        let filled = capacity < ALWAYS_FILLED || n % 8 == 6 || n + 1 == SEQUENCES;
+        let arrivals = if filled {
+            capacity + 12 + words.below(60 + capacity / 8)
+        } else {
+            1 + words.below(48)
+        };
+        let share = share(capacity, &mut words);
+        // so that each kind is among the sequences that go on until the sample is full
+        let weights = WEIGHTS[(n + n / 8) % 8];
+        let mut sequence = Sequence::start(capacity, share, weights, &mut words);
+        for n in 0..arrivals {
+            sequence.arrive(&mut words);
+            sequence.look_between(arrivals - n);
+        }
+        sequence.look();
+        Record::new(KIND, sequence.given, sequence.written)
+    };
+    (0..SEQUENCES).map(sequence).collect()
+}
+
+/// An initial share: 0, 1/8, 1/2, 1, and odd ones.
+fn share(capacity: usize, words: &mut Words) -> f64 {
+    let part = words.below(capacity + 1) as f64 / capacity as f64;
+    match words.below(12) {
+        0 => 0.0,
+        1 => 0.125,
+        2 => 0.5,
+        3 => 1.0,
+        4 => part,
+        5 => f64::from_bits(part.to_bits().saturating_sub(1)),
+        6 => f64::from_bits(part.to_bits() + 1).min(1.0),
+        7 => factor(words.word()),
+        8 => f64::from_bits(1f64.to_bits() - 1),
+        9 => f64::from_bits(1 + words.below(3) as u64),
+        10 => -0.0,
+        _ => words.one_of(&[1.0 / 3.0, 0.1, 0.7, 0.99]),
+    }
+}
+
+/// A sampler of the Rust, its starting chance, and the record so far.
+struct Sequence {
+    sampler: Sampler<u16>,
+    /// Only asked for the chance, which the Rust's `SamplerPlusTree` keeps to itself.
+    tree: SampledTree,
+    weights: Weights,
+    /// The pattern that weights of some kinds are made from.
+    base: u32,
+    arrivals: usize,
+    given: Vec<u8>,
+    written: Vec<u8>,
+}
+
+impl Sequence {
+    fn start(capacity: usize, share: f64, weights: Weights, words: &mut Words) -> Self {
+        let mut given = share.to_bits().to_le_bytes().to_vec();
+        given.extend_from_slice(&(capacity as u64).to_le_bytes());
+        Sequence {
+            sampler: Sampler::new(capacity, false).expect("a sampler"),
+            tree: SampledTree::make(1, capacity, 0.0, share).expect("a tree"),
+            weights,
+            base: finite(words),
+            arrivals: 0,
+            given,
+            written: Vec::new(),
+        }
+    }
+
+    fn arrive(&mut self, words: &mut Words) {
+        self.arrivals += 1;
+        let weight = self.weight(words);
+        let chance = self.tree.chance(self.sampler.get_fill_fraction());
+        let word = word(chance, words);
+        let index = if words.once_in(16) {
+            words.below(usize::from(LOOK))
+        } else {
+            words.below(1024)
+        };
+        self.item(word, weight.to_bits(), index as u16);
+
+        // as `SamplerPlusTree::update` has it
+        let mut initial = false;
+        if !self.sampler.is_full() {
+            initial = factor(word) < chance;
+        }
+        let held = self.sampler.oracle_heap().len();
+        assert!(initial || held > 0, "an empty sample starts");
+        let state = self
+            .sampler
+            .accept_point(initial, weight, index, usize::MAX);
+        let (accepted, gone, gone_weight) = Sampler::<u16>::oracle_told(&state.expect("no error"));
+        let (kind, gone, gone_weight) = match (accepted, gone) {
+            (false, _) => (PASSES, 0, 0.0),
+            (true, usize::MAX) => (STARTS, 0, 0.0),
+            (true, gone) => (EVICTS, gone as u16, gone_weight),
+        };
+        if accepted {
+            self.sampler.add_point(index).expect("no error");
+        }
+        let size = self.sampler.oracle_heap().len();
+        assert!(size == held + usize::from(kind == STARTS));
+
+        self.written.extend_from_slice(&kind.to_le_bytes());
+        self.written.extend_from_slice(&gone.to_le_bytes());
+        self.put(size as u32);
+        self.put(pattern(gone_weight));
+        self.written
+            .extend_from_slice(&chance.to_bits().to_le_bytes());
+    }
+
+    /// What is given for an arrival or a look.
+    fn item(&mut self, word: u64, weight: u32, index: u16) {
+        self.given.extend_from_slice(&word.to_le_bytes());
+        self.given.extend_from_slice(&weight.to_le_bytes());
+        self.given
+            .extend_from_slice(&u32::from(index).to_le_bytes());
+    }
+
+    fn put(&mut self, number: u32) {
+        self.written.extend_from_slice(&number.to_le_bytes());
+    }
+
+    /// The whole heap: weight and index in each slot, from the top.
+    fn look(&mut self) {
+        self.item(0, 0, LOOK);
+        for (weight, index) in self.sampler.oracle_heap() {
+            self.put(pattern(weight));
+            self.put(index as u32);
+        }
+    }
+
+    /// The same between arrivals, if there is room for it, for the arrivals left and for a look at the end.
+    fn look_between(&mut self, left: usize) {
+        let full = self.written.len() + ANSWER * left + 2 * 8 * LARGEST > ROOM;
+        if self.arrivals.is_multiple_of(ARRIVALS_BETWEEN_LOOKS) && !full {
+            self.look();
+        }
+    }
+
+    fn weight(&mut self, words: &mut Words) -> f32 {
+        // the largest held, or the float next to it
+        if let Some((top, _)) = self
+            .sampler
+            .oracle_heap()
+            .first()
+            .filter(|_| words.once_in(5))
+        {
+            let bits = top.to_bits().wrapping_add([0, 1, u32::MAX][words.below(3)]);
+            if is_number(bits) {
+                return f32::from_bits(bits);
+            }
+        }
+        let n = self.arrivals as u32;
+        let bits = match self.weights {
+            Weights::Equal => self.base,
+            Weights::FewValues => (words.between(-2, 2) as f32 * 0.5).to_bits(),
+            Weights::EverySize => finite(words),
+            Weights::Denormal => {
+                let sign = (words.below(2) as u32) << 31;
+                sign + ((words.word() as u32 & 0x007F_FFFF) >> (10 * words.below(3)))
+            }
+            Weights::Near => (self.base & 0xFFFF_FFF0) + words.below(8) as u32,
+            // from the least negative pattern down, or from a small positive number up
+            Weights::Rising => 0x3000_0000 + (n << 16) + words.below(1 << 16) as u32,
+            Weights::Falling => 0x8000_0001 + (n << 20) + words.below(1 << 20) as u32,
+            Weights::AnyPattern => match words.below(4) {
+                0 => words.one_of(&[0, 1 << 31, 0x7F80_0000, 0xFF80_0000, NAN, 0xFFC0_0001]),
+                _ => words.word() as u32,
+            },
+        };
+        match self.weights {
+            Weights::AnyPattern => f32::from_bits(bits),
+            _ if is_number(bits) => f32::from_bits(bits),
+            _ => 0.0,
+        }
+    }
+}
+
+/// The word for the starting chance: any, at an end, or with a factor at the chance or next to it.
+fn word(chance: f64, words: &mut Words) -> u64 {
+    match words.below(6) {
+        0 => words.one_of(&[0, u64::MAX, 2047, 1 << 63]),
+        1 | 2 => {
+            let factor = (chance * (1u64 << 53) as f64) as u64;
+            let next = factor + words.below(3) as u64;
+            let next = next.saturating_sub(1).min((1 << 53) - 1);
+            (next << 11) + words.below(1 << 11) as u64
+        }
+        _ => words.word(),
+    }
+}
+
+/// The pattern of a finite weight of any size and sign.
+fn finite(words: &mut Words) -> u32 {
+    loop {
+        let bits = words.word() as u32;
+        if is_number(bits) {
+            return bits;
+        }
+    }
+}
+
+/// Document 01's weights: finite and not minus zero.
+fn is_number(bits: u32) -> bool {
+    f32::from_bits(bits).is_finite() && bits != 1 << 31
+}
+
+fn pattern(weight: f32) -> u32 {
+    if weight.is_nan() {
+        NAN
+    } else {
+        weight.to_bits()
+    }
+}
+
+/// What the sequences hold.
+#[derive(Default)]
+pub struct Counted {
+    pub arrivals: usize,
+    pub passing: usize,
+    pub starting: usize,
+    pub evicting: usize,
+    pub looks: usize,
+    pub fewest_arrivals: usize,
+    pub most_arrivals: usize,
+    /// Sequences at whose end the sample is full.
+    pub full: usize,
+}
+
+pub fn counted(records: &[Record]) -> Counted {
+    let mut counted = Counted {
+        fewest_arrivals: usize::MAX,
+        ..Counted::default()
+    };
+    let two = |bytes: &[u8], at: usize| u16::from_le_bytes([bytes[at], bytes[at + 1]]);
+    for record in records {
+        let (mut place, mut arrivals, mut size) = (0, 0, 0);
+        for item in record.given.chunks(ITEM).skip(1) {
+            if two(item, 12) == LOOK {
+                counted.looks += 1;
+                place += 8 * size;
+                continue;
+            }
+            arrivals += 1;
+            match two(&record.written, place) {
+                PASSES => counted.passing += 1,
+                STARTS => counted.starting += 1,
+                _ => counted.evicting += 1,
+            }
+            size = usize::from(two(&record.written, place + 4));
+            place += ANSWER;
+        }
+        counted.arrivals += arrivals;
+        counted.full += usize::from(size == usize::from(two(&record.given, 8)));
+        counted.fewest_arrivals = counted.fewest_arrivals.min(arrivals);
+        counted.most_arrivals = counted.most_arrivals.max(arrivals);
+    }
+    counted
+}
