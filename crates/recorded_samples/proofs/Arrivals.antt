@@ -1,4 +1,4 @@
--- An accepted arrival, and any arrival. Laws.
+-- An accepted arrival, any arrival, and an eviction. Laws.
 use mathlib.Core.Path.{_≡_, refl, sym, ap, _∙_}
 use mathlib.Core.Bool.{Bool, true, false, _&&_, _||_, false≢true}
 use mathlib.Core.List.{List, [], _∷_}
@@ -15,12 +15,13 @@ use Rattle.readings.specs.Number.{nought}
 use Rattle.readings.proofs.Tests.{yes}
 use Rattle.sampler.specs.declared.Sampler.{Sampler}
 use Rattle.sampler.specs.declared.Accepted.{Accepted}
+use Rattle.sampler.specs.declared.Evicted.{Evicted}
 use Rattle.sampler.specs.Heap.{pushed, popped}
-use Rattle.sampler.specs.Sample.{Entry, above, beyond, Slots, Accepts}
+use Rattle.sampler.specs.Sample.{Entry, above, beyond, Slots, evictedOf, Evicts, Accepts}
 use Rattle.sampler.proofs.Places.{weight-at}
 use Rattle.sampledtree.specs.Sampled.{Offer, passes, begins, evicts, offer, against}
 use Rattle.recorded_samples.specs.declared.Arrived.{Arrived}
-use Rattle.recorded_samples.specs.Samples.{Kept, isInitial, sized, leftOf, Roomy, admittedOf, sampleAdmitted, kindOf, goneOf, sampleAfter, Arrives}
+use Rattle.recorded_samples.specs.Samples.{Kept, isInitial, sized, leftOf, Roomy, admittedOf, sampleAdmitted, kindOf, goneOf, sampleAfter, arrivedAt, dropped, leftBy, Does}
 use Rattle.recorded_samples.proofs.Heaps.{point-at}
 
 -- AN ACCEPTED ARRIVAL: what is left by its eviction, if any, and by its add
@@ -73,13 +74,7 @@ against-not : (w : Float) (ks : List Entry) → (0 < length ks → lt w (getD ks
 against-not w [] h = refl
 against-not w (k ∷ ks) h = rw (h (omega arith))
 
--- ANY ARRIVAL, by what the sample does with it
-arrives : {c : ℕ} {share : Float} {ks : List Entry} {word : ℕ} {w : Float} {i : ℕ} {r : Arrived} {weights : List Float} {points : List ℕ} (o : Offer) → offer c share ks w word ≡ o
-    → r .kind ≡ kindOf o → r .index ≡ goneOf ks o .index → r .weight ≡ goneOf ks o .weight → r .sampler .capacity ≡ c → r .sampler .«current_size» ≤ c
-    → Kept (r .sampler .«current_size») (sampleAfter ks (record { weight = w; index = i }) o) weights points → Arrives c share ks word w i r weights points
-arrives o e a b d f g k = record { kind-is = rw e a; index-is = rw e b; weight-is = rw e d; capacity-is = f; fits = g; kept = rw e k }
-
--- whether it is accepted is told by three tests
+-- ANY ARRIVAL: whether it is accepted is told by three tests
 module _ (s : Sampler) (share : Float) (word : ℕ) (accepts : Bool) {initial holds : Bool} (I : initial ≡ isInitial (s .«current_size») (s .capacity) share word) (H : holds ≡ ltb 0 (s .«current_size»))
     (fits : s .«current_size» ≤ s .capacity) (room : s .capacity ≤ capacityLimit) where
   not-full : initial ≡ true → s .«current_size» < s .capacity
@@ -103,12 +98,18 @@ module _ (s : Sampler) (share : Float) (word : ℕ) (accepts : Bool) {initial ho
     offer-against : initial ≡ false → offer (s .capacity) share ks w word ≡ against ks w
     offer-against e = rw (at .size, sym I ∙ e)
 
+    arrives : {r : Arrived} {weights′ : List Float} {points′ : List ℕ} (o : Offer) → offer (s .capacity) share ks w word ≡ o
+        → r .kind ≡ kindOf o → r .index ≡ goneOf ks o .index → r .weight ≡ goneOf ks o .weight → r .sampler .capacity ≡ s .capacity → r .sampler .«current_size» ≤ s .capacity
+        → Kept (r .sampler .«current_size») (sampleAfter ks (record { weight = w; index = i }) o) weights′ points′
+        → Does (s .capacity) ks (offer (s .capacity) share ks w word) (arrivedAt (s .capacity) share ks word w i) r weights′ points′
+    arrives o e a b d f g k = record { kind-is = rw e a; index-is = rw e b; weight-is = rw e d; capacity-is = f; fits = g; kept = rw e k }
+
     pub arrives-some : ((initial || holds) && accepts) ≡ true → {r : Arrived} {weights′ : List Float} {points′ : List ℕ} → r ≡ admittedOf s initial weights points
-        → Kept (r .sampler .«current_size») (sampleAdmitted initial ks w i) weights′ points′ → Arrives (s .capacity) share ks word w i r weights′ points′
+        → Kept (r .sampler .«current_size») (sampleAdmitted initial ks w i) weights′ points′ → Does (s .capacity) ks (offer (s .capacity) share ks w word) (arrivedAt (s .capacity) share ks word w i) r weights′ points′
     unfolding admittedOf sampleAdmitted
     arrives-some h {r} {weights′} {points′} f k = go initial refl
       where
-        go : (b : Bool) → initial ≡ b → Arrives (s .capacity) share ks word w i r weights′ points′
+        go : (b : Bool) → initial ≡ b → Does (s .capacity) ks (offer (s .capacity) share ks w word) (arrivedAt (s .capacity) share ks word w i) r weights′ points′
         go true e = arrives begins (offer-begins e) (rw (f, e)) (rw (f, e)) (rw (f, e)) (rw (f, e)) (rw (f, e) (omega (arith, not-full e))) (rw e at k)
         go false e =
             let n : 0 < s .«current_size» = roomy h .entry e in
@@ -116,11 +117,34 @@ module _ (s : Sampler) (share : Float) (word : ℕ) (accepts : Bool) {initial ho
             arrives (evicts (getD ks 0 beyond .index) (popped above beyond ks)) (offer-against e ∙ against-lower w ks (rw (at .size) n) lower)
             (rw (f, e)) (rw (f, e) (point-at at 0 n)) (rw (f, e) (weight-at at 0 n)) (rw (f, e)) (rw (f, e) fits) (rw e at k)
 
-    pub arrives-none : ((initial || holds) && accepts) ≡ false → Arrives (s .capacity) share ks word w i (record { kind = 0; index = 0; weight = nought; sampler = s }) weights points
+    pub arrives-none : ((initial || holds) && accepts) ≡ false → Does (s .capacity) ks (offer (s .capacity) share ks w word) (arrivedAt (s .capacity) share ks word w i) (record { kind = 0; index = 0; weight = nought; sampler = s }) weights points
     arrives-none h = go initial refl
       where
-        go : (b : Bool) → initial ≡ b → Arrives (s .capacity) share ks word w i (record { kind = 0; index = 0; weight = nought; sampler = s }) weights points
+        go : (b : Bool) → initial ≡ b → Does (s .capacity) ks (offer (s .capacity) share ks w word) (arrivedAt (s .capacity) share ks word w i) (record { kind = 0; index = 0; weight = nought; sampler = s }) weights points
         go true e = absurd (false≢true (sym h ∙ (rw (B, e))))
         go false e =
             let lower : 0 < length ks → lt w (getD ks 0 beyond .weight) ≡ false = λ n. let l : 0 < s .«current_size» = rw (← at .size) n in rw (← weight-at at 0 l) (rw (B, H, lt-ltb 0 (s .«current_size») l, e) at h) in
             arrives passes (offer-against e ∙ against-not w ks lower) refl refl refl refl fits at
+
+-- AN EVICTION by itself, by whether there is an entry
+module _ (s : Sampler) (fits : s .«current_size» ≤ s .capacity) (room : s .capacity ≤ capacityLimit) {weights : List Float} {points : List ℕ} where
+  pub evicts-none : s .«current_size» ≡ 0 → (ks : List Entry) → Kept (s .«current_size») ks weights points
+      → Does (s .capacity) ks (dropped ks) (leftBy ks (dropped ks)) (record { kind = 0; index = 0; weight = nought; sampler = s }) weights points
+  evicts-none e [] at = record { kind-is = refl; index-is = refl; weight-is = refl; capacity-is = refl; fits = fits; kept = at }
+  evicts-none e (k ∷ ks) at = absurd (omega (arith, at .size))
+
+  pub evicts-some : (s .«current_size» ≡ 0 → ⊥) → {e : Evicted} {weights′ : List Float} {points′ : List ℕ} → e ≡ evictedOf s weights points → Evicts (s .«current_size») weights points weights′ points′
+      → (ks : List Entry) → Kept (s .«current_size») ks weights points
+      → Does (s .capacity) ks (dropped ks) (leftBy ks (dropped ks)) (record { kind = 2; index = e .index; weight = e .weight; sampler = e .sampler }) weights′ points′
+  evicts-some n f E [] at = absurd (omega (arith, at .size))
+  evicts-some n f E (k ∷ ks) at =
+      let m : 0 < s .«current_size» = omega arith in
+      let z : capacityLimit - (s .«current_size» - 1) ≡ suc (capacityLimit - s .«current_size») = omega arith in
+      record {
+        kind-is = refl;
+        index-is = rw f (point-at at 0 m);
+        weight-is = rw f (weight-at at 0 m);
+        capacity-is = rw f;
+        fits = rw f (omega arith);
+        kept = rw (f, z) (E (k ∷ ks) _ _ at);
+      }

@@ -13,9 +13,10 @@ use Rattle.lines.proofs.Writes.{then}
 use Rattle.recorded.proofs.Stores.{nothing}
 use Rattle.sampler.specs.declared.Sampler.{Sampler}
 use Rattle.sampler.specs.Sample.{Entry}
+use Rattle.sampledtree.specs.Sampled.{Offer, offer}
 use Rattle.recorded_samples.specs.declared.Arrived.{Arrived}
 use Rattle.recorded_samples.specs.declared.Reached.{Reached}
-use Rattle.recorded_samples.specs.Samples.{itemBytes, looking, mostBytes, Kept, chanceAt, Arrives, slotsTo, toldNext, sampleNext, Told, Turned, shareGiven, capacityGiven, wordOf, weightOf, indexOf, after, sampleAnswer}
+use Rattle.recorded_samples.specs.Samples.{itemBytes, looking, evicting, mostBytes, Kept, chanceAt, arrivedAt, dropped, leftBy, Does, toldDone, slotsTo, toldNext, sampleNext, Told, Turned, shareGiven, capacityGiven, wordOf, weightOf, indexOf, after, sampleAnswer}
 use Rattle.recorded_samples.proofs.Heaps.{slots-told}
 
 -- TURNS
@@ -32,16 +33,29 @@ module _ (s : Sampler) (share : Float) (ks : List Entry) (word : ℕ) (w : Float
     few = omega (arith, v .1);
   }
 
-  pub turn-arrival : (i ≡ looking → ⊥) → {chance : Float} {a : Arrived} {t : Reached} {weights′ : List Float} {points′ : List ℕ} → chance ≡ chanceAt (s .«current_size») (s .capacity) share
-      → Arrives (s .capacity) share ks word w i a weights′ points′ → Told a chance at lent t out → Turned (s .capacity) share ks word w i at lent t weights′ points′ out
-  unfolding toldNext sampleNext
-  turn-arrival h {chance} {a} {t} e A T = let c : chance ≡ chanceAt (length ks) (s .capacity) share = rw (held .size) e in record {
-    capacity-is = rw (T .sampler-is) (A .capacity-is);
-    fits = rw (T .sampler-is) (A .fits);
-    kept = rw (ne-eqb i looking h, T .sampler-is) (A .kept);
-    wrote = rw (ne-eqb i looking h, A .kept .size) (rw (A .kind-is, A .index-is, A .weight-is, c) at (T .wrote));
-    few = omega (arith, T .next);
-  }
+  -- what is done and told, whatever the item's answer and the sample after it are
+  turn-done : {o : Offer} {ls : List Entry} → toldNext (s .capacity) share ks word w i ≡ toldDone ks o ls (chanceAt (length ks) (s .capacity) share) → sampleNext (s .capacity) share ks word w i ≡ ls
+      → {chance : Float} {a : Arrived} {t : Reached} {weights′ : List Float} {points′ : List ℕ} → chance ≡ chanceAt (s .«current_size») (s .capacity) share
+      → Does (s .capacity) ks o ls a weights′ points′ → Told a chance at lent t out → Turned (s .capacity) share ks word w i at lent t weights′ points′ out
+  turn-done f g {chance} {a} {t} e A T =
+      let c : chance ≡ chanceAt (length ks) (s .capacity) share = rw (held .size) e in
+      record {
+        capacity-is = rw (T .sampler-is) (A .capacity-is);
+        fits = rw (T .sampler-is) (A .fits);
+        kept = rw (g, T .sampler-is) (A .kept);
+        wrote = rw (f, A .kept .size) (rw (A .kind-is, A .index-is, A .weight-is, c) at (T .wrote));
+        few = omega (arith, T .next);
+      }
+
+  module _ {chance : Float} {a : Arrived} {t : Reached} {weights′ : List Float} {points′ : List ℕ} (e : chance ≡ chanceAt (s .«current_size») (s .capacity) share) where
+    pub turn-evict : i ≡ evicting → Does (s .capacity) ks (dropped ks) (leftBy ks (dropped ks)) a weights′ points′ → Told a chance at lent t out → Turned (s .capacity) share ks word w i at lent t weights′ points′ out
+    unfolding toldNext sampleNext
+    turn-evict h A T = turn-done (rw h) (rw h) e A T
+
+    pub turn-arrival : (i ≡ looking → ⊥) → (i ≡ evicting → ⊥) → Does (s .capacity) ks (offer (s .capacity) share ks w word) (arrivedAt (s .capacity) share ks word w i) a weights′ points′ → Told a chance at lent t out
+        → Turned (s .capacity) share ks word w i at lent t weights′ points′ out
+    unfolding toldNext sampleNext
+    turn-arrival h k A T = turn-done (rw (ne-eqb i looking h, ne-eqb i evicting k)) (rw (ne-eqb i looking h, ne-eqb i evicting k)) e A T
 
 -- A SEQUENCE, of which i items are done
 pub record Sequenced (given lent out : List ℕ) (state : Reached) (weights : List Float) (points : List ℕ) (i : ℕ) : Type 0 where

@@ -21,13 +21,17 @@ use Rattle.recorded.specs.Words.{bytes64, pairBytes}
 use Rattle.recorded_samples.specs.declared.Arrived.{Arrived}
 use Rattle.recorded_samples.specs.declared.Reached.{Reached}
 
--- the bytes of the share and the capacity, of an arrival and of a look
+-- the bytes of the share and the capacity, of an arrival, of an eviction and of a look
 abbrev pub itemBytes : ℕ
 itemBytes = 16
 
 -- the index of a look at the whole heap
 abbrev pub looking : ℕ
 looking = 65535
+
+-- the index of an eviction; any other is an arrival's
+abbrev pub evicting : ℕ
+evicting = 65534
 
 -- no item is answered with more bytes: a look at as many entries as there may be
 abbrev pub mostBytes : ℕ
@@ -58,6 +62,7 @@ pub record Roomy (s : Sampler) (initial : Bool) : Type 0 where
   pub entry : initial ≡ false → 0 < s .«current_size»
   pub within : s .«current_size» ≤ capacityLimit
 
+-- what it does, and the entries that it leaves
 unfoldable pub admittedOf : Sampler → Bool → List Float → List ℕ → Arrived
 admittedOf s initial weights points =
     cond initial (record { kind = 1; index = 0; weight = nought; sampler = sized s (s .«current_size» + 1) })
@@ -66,7 +71,7 @@ admittedOf s initial weights points =
 unfoldable pub sampleAdmitted : Bool → List Entry → Float → ℕ → List Entry
 sampleAdmitted initial ks w i = pushed above beyond (cond initial ks (popped above beyond ks)) (record { weight = w; index = i })
 
--- the same of any arrival, by what the sampled tree's sample does with it: 0 nothing, 1 it starts, 2 it evicts
+-- ANY ARRIVAL, by what the sampled tree's sample does with it: 0 nothing, 1 it starts, 2 it evicts
 abbrev pub kindOf : Offer → ℕ
 kindOf passes = 0
 kindOf begins = 1
@@ -78,27 +83,35 @@ goneOf ks passes = record { weight = nought; index = 0 }
 goneOf ks begins = record { weight = nought; index = 0 }
 goneOf ks (evicts i left) = record { weight = getD ks 0 beyond .weight; index = i }
 
+-- the entries after it: k is the arrival's own
 abbrev pub sampleAfter : List Entry → Entry → Offer → List Entry
 sampleAfter ks k passes = ks
 sampleAfter ks k begins = pushed above beyond ks k
 sampleAfter ks k (evicts i left) = pushed above beyond left k
 
-module _ (c : ℕ) (share : Float) (ks : List Entry) (word : ℕ) (w : Float) (i : ℕ) where
-  abbrev pub offered : Offer
-  offered = offer c share ks w word
+abbrev pub arrivedAt : ℕ → Float → List Entry → ℕ → Float → ℕ → List Entry
+arrivedAt c share ks word w i = sampleAfter ks (record { weight = w; index = i }) (offer c share ks w word)
 
-  abbrev pub sampleNow : List Entry
-  sampleNow = sampleAfter ks (record { weight = w; index = i }) offered
+-- AN EVICTION by itself: the first entry goes, if there is one
+abbrev pub dropped : List Entry → Offer
+dropped [] = passes
+dropped (k ∷ ks) = evicts (k .index) (popped above beyond (k ∷ ks))
 
-  pub record Arrives (r : Arrived) (weights : List Float) (points : List ℕ) : Type 0 where
-    pub kind-is : r .kind ≡ kindOf offered
-    pub index-is : r .index ≡ goneOf ks offered .index
-    pub weight-is : r .weight ≡ goneOf ks offered .weight
-    pub capacity-is : r .sampler .capacity ≡ c
-    pub fits : r .sampler .«current_size» ≤ c
-    pub kept : Kept (r .sampler .«current_size») sampleNow weights points
+abbrev pub leftBy : List Entry → Offer → List Entry
+leftBy ks passes = ks
+leftBy ks begins = ks
+leftBy ks (evicts i left) = left
 
--- WHAT IS TOLD of an arrival: what it does, the index that goes, the size after it, the bits of the weight that goes, and those of the chance
+-- what an arrival or an eviction answers and leaves, where it does o of a sample of entries ks, and the entries ls are left
+pub record Does (c : ℕ) (ks : List Entry) (o : Offer) (ls : List Entry) (r : Arrived) (weights : List Float) (points : List ℕ) : Type 0 where
+  pub kind-is : r .kind ≡ kindOf o
+  pub index-is : r .index ≡ goneOf ks o .index
+  pub weight-is : r .weight ≡ goneOf ks o .weight
+  pub capacity-is : r .sampler .capacity ≡ c
+  pub fits : r .sampler .«current_size» ≤ c
+  pub kept : Kept (r .sampler .«current_size») ls weights points
+
+-- WHAT IS TOLD of it: what it does, the index that goes, the size after it, the bits of the weight that goes, and those of the chance before it
 abbrev pub told : ℕ → ℕ → Float → ℕ → Float → List ℕ
 told kind index weight size chance = pairBytes (kind ∷ index ∷ []) ++ bytes32 size ++ bytes32 (toBits binary32 weight) ++ bytes64 (toBits binary64 chance)
 
@@ -115,16 +128,21 @@ unfoldable pub entriesTo : List Entry → ℕ → List ℕ
 entriesTo ks zero = []
 entriesTo ks (suc n) = entriesTo ks n ++ (bytes32 (toBits binary32 (getD ks n beyond .weight)) ++ bytes32 (getD ks n beyond .index))
 
--- one item more, a look or an arrival: what is written, and the sample after it
+abbrev pub toldDone : List Entry → Offer → List Entry → Float → List ℕ
+toldDone ks o ls chance = told (kindOf o) (goneOf ks o .index) (goneOf ks o .weight) (length ls) chance
+
+-- one item more, a look, an eviction or an arrival: what is written, and the sample after it
 module _ (c : ℕ) (share : Float) (ks : List Entry) (word : ℕ) (w : Float) (i : ℕ) where
   unfoldable pub toldNext : List ℕ
-  toldNext = cond (eqb i looking) (entriesTo ks (length ks))
-      (told (kindOf (offered c share ks word w i)) (goneOf ks (offered c share ks word w i) .index) (goneOf ks (offered c share ks word w i) .weight) (length (sampleNow c share ks word w i)) (chanceAt (length ks) c share))
+  toldNext =
+      cond (eqb i looking) (entriesTo ks (length ks))
+      (cond (eqb i evicting) (toldDone ks (dropped ks) (leftBy ks (dropped ks)) (chanceAt (length ks) c share))
+      (toldDone ks (offer c share ks w word) (arrivedAt c share ks word w i) (chanceAt (length ks) c share)))
 
   unfoldable pub sampleNext : List Entry
-  sampleNext = cond (eqb i looking) ks (sampleNow c share ks word w i)
+  sampleNext = cond (eqb i looking) ks (cond (eqb i evicting) (leftBy ks (dropped ks)) (arrivedAt c share ks word w i))
 
--- what is given and left by telling of an arrival, and by a turn
+-- what is given and left by telling of what is done, and by a turn
 pub record Told (a : Arrived) (chance : Float) (at : ℕ) (lent : List ℕ) (t : Reached) (out : List ℕ) : Type 0 where
   pub sampler-is : t .sampler ≡ a .sampler
   pub wrote : Wrote lent at (toldArrived a chance) (t .place) out

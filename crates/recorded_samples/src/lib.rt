@@ -1,5 +1,5 @@
-// What the port answers to a recorded sequence of a sample by itself: an initial share and a capacity, then arrivals, each answered with what it does and
-// the chance that it had; at some places the whole heap is looked at. They are read and answered as crates/replay/RECORDED.md says.
+// What the port answers to a recorded sequence of a sample by itself: an initial share and a capacity, then arrivals and evictions, each answered with what
+// it does and the starting chance before it; at some places the whole heap is looked at. They are read and answered as crates/replay/RECORDED.md says.
 use limits::CAPACITY;
 use limits::Held;
 use limits::Weights;
@@ -12,15 +12,18 @@ ghost use lib.ListN.{length};
 ghost use Rattle.limits.specs.Limits.{capacityLimit};
 ghost use Rattle.lines.specs.Lines.{Wrote};
 ghost use Rattle.sampler.specs.Sample.{Entry};
-ghost use Rattle.recorded_samples.specs.Samples.{Roomy, Kept, chanceAt, isInitial, leftOf, admittedOf, sampleAdmitted, Arrives, slotsTo, Told, Turned, sampleAnswer};
+ghost use Rattle.sampledtree.specs.Sampled.{offer};
+ghost use Rattle.recorded_samples.specs.Samples.{Roomy, Kept, chanceAt, isInitial, leftOf, admittedOf, sampleAdmitted, dropped, leftBy, arrivedAt, Does, slotsTo, Told, Turned, sampleAnswer};
 
-// The bytes of the share and the capacity, of an arrival and of a look.
+// The bytes of the share and the capacity, of an arrival, of an eviction and of a look.
 const ITEM: usize = 16;
 
-// The index of a look at the whole heap; any other is an arrival's.
+// The index of a look at the whole heap, and of an eviction; any other is an arrival's.
 const LOOK: u16 = 65535;
 
-// What an arrival does: 0 nothing, 1 it starts, 2 it evicts the entry of this index and weight. And the sampler after it.
+const EVICT: u16 = 65534;
+
+// What an arrival or an eviction does: 0 nothing, 1 it starts, 2 it evicts the entry of this index and weight. And the sampler after it.
 pub struct Arrived {
     pub kind: u16,
     pub index: u16,
@@ -114,7 +117,7 @@ fn arrive(
 ) -> Arrived
     requires { ⌜ (sampler .«current_size» ≤ sampler .capacity) × (sampler .capacity ≤ capacityLimit) ⌝ }
     ensures { λ r. ⌜ ((ks : List Entry) → Kept (sampler .«current_size») ks (now (weights .entry)) (now (points .entry))
-        → Arrives (sampler .capacity) share ks word weight index r (now (weights .exit)) (now (points .exit))) ⌝ }
+        → Does (sampler .capacity) ks (offer (sampler .capacity) share ks weight word) (arrivedAt (sampler .capacity) share ks word weight index) r (now (weights .exit)) (now (points .exit))) ⌝ }
 {
     let initial = is_initial(sampler, share, word);
     let holds = sampler.current_size > 0;
@@ -130,7 +133,31 @@ fn arrive(
     }
 }
 
-// Writes what an arrival did, the size after it, and the chance that it had.
+// An eviction by itself. At an empty sample it does nothing.
+fn evict(sampler: Sampler, weights: &mut Weights, points: &mut Held) -> Arrived
+    requires { ⌜ (sampler .«current_size» ≤ sampler .capacity) × (sampler .capacity ≤ capacityLimit) ⌝ }
+    ensures { λ r. ⌜ ((ks : List Entry) → Kept (sampler .«current_size») ks (now (weights .entry)) (now (points .entry))
+        → Does (sampler .capacity) ks (dropped ks) (leftBy ks (dropped ks)) r (now (weights .exit)) (now (points .exit))) ⌝ }
+{
+    if sampler.current_size == 0 {
+        return Arrived {
+            kind: 0,
+            index: 0,
+            weight: 0.0,
+            sampler,
+        };
+    }
+    let evicted = sampler.evict_max(weights, points);
+    let left = evicted.sampler;
+    Arrived {
+        kind: 2,
+        index: evicted.index,
+        weight: evicted.weight,
+        sampler: left,
+    }
+}
+
+// Writes what an arrival or an eviction did, the size after it, and the chance before it.
 fn put_arrived(out: &mut [u8], at: usize, arrived: Arrived, chance: f64) -> Reached
     requires { ⌜ at < 10000000000 ⌝ }
     ensures { λ r. ⌜ Told arrived chance at (now (out .entry)) r (now (out .exit)) ⌝ }
@@ -161,7 +188,7 @@ fn put_heap(out: &mut [u8], at: usize, size: usize, weights: &Weights, points: &
     p
 }
 
-// One item more of a sequence: a look at the heap, or an arrival.
+// One item more of a sequence: a look at the heap, an eviction, or an arrival.
 fn turn(
     out: &mut [u8],
     state: Reached,
@@ -190,11 +217,14 @@ fn turn(
         };
     }
     let chance = chance_of(sampler, share);
+    if index == EVICT {
+        return put_arrived(out, state.place, evict(sampler, weights, points), chance);
+    }
     let arrived = arrive(sampler, share, word, weight, index, weights, points);
     put_arrived(out, state.place, arrived, chance)
 }
 
-// The whole sequence: share and capacity, then arrivals and looks in turn. A capacity above the largest has no answer.
+// The whole sequence: share and capacity, then arrivals, evictions and looks in turn. A capacity above the largest has no answer.
 // Rules out an arrival left out, an entry told without its index, and a refused arrival that changes the heap.
 pub fn answer_sample(given: &[u8], out: &mut [u8]) -> usize
     requires { ⌜ length (now given) ≤ 1048576 ⌝ }

@@ -26,6 +26,8 @@ pub fn make(recorded: &Recorded) -> String {
         ("@PASSING", samples.passing),
         ("@STARTING", samples.starting),
         ("@EVICTING", samples.evicting),
+        ("@EVICTIONS", samples.evictions),
+        ("@EMPTIED", samples.emptied),
         ("@SAMPLE_LOOKS", samples.looks),
         ("@SAMPLES_FULL", samples.full),
         ("@FEWEST_ARRIVALS", samples.fewest_arrivals),

@@ -16,12 +16,16 @@ const ARRIVALS_BETWEEN_LOOKS: usize = 25;
 const ITEM: usize = 16;
 const ANSWER: usize = 20;
 
-/// The index that stands for a look at the whole heap.
+/// The index that stands for a look at the whole heap, and the one for an eviction by itself.
 const LOOK: u16 = 65535;
+const EVICT: u16 = 65534;
 /// The pattern that stands for every NaN.
 const NAN: u32 = 0x7FC0_0000;
 
-/// What an arrival does.
+/// Samples up to this capacity are emptied in some sequences.
+const EMPTIED: usize = 64;
+
+/// What an arrival or an eviction does.
 const PASSES: u16 = 0;
 const STARTS: u16 = 1;
 const EVICTS: u16 = 2;
@@ -71,6 +75,7 @@ pub fn records() -> Vec<Record> {
         let mut sequence = Sequence::start(capacity, share, weights, &mut words);
         for n in 0..arrivals {
             sequence.arrive(&mut words);
+            sequence.evict_some(&mut words);
             sequence.look_between(arrivals - n);
         }
         sequence.look();
@@ -104,6 +109,9 @@ struct Sequence {
     /// Only asked for the chance, which the Rust's `SamplerPlusTree` keeps to itself.
     tree: SampledTree,
     weights: Weights,
+    capacity: usize,
+    /// Whether entries are evicted by themselves, between arrivals.
+    evicting: bool,
     /// The pattern that weights of some kinds are made from.
     base: u32,
     arrivals: usize,
@@ -119,6 +127,8 @@ impl Sequence {
             sampler: Sampler::new(capacity, false).expect("a sampler"),
             tree: SampledTree::make(1, capacity, 0.0, share).expect("a tree"),
             weights,
+            capacity,
+            evicting: words.once_in(3),
             base: finite(words),
             arrivals: 0,
             given,
@@ -132,7 +142,7 @@ impl Sequence {
         let chance = self.tree.chance(self.sampler.get_fill_fraction());
         let word = word(chance, words);
         let index = if words.once_in(16) {
-            words.below(usize::from(LOOK))
+            words.below(usize::from(EVICT))
         } else {
             words.below(1024)
         };
@@ -159,16 +169,47 @@ impl Sequence {
         }
         let size = self.sampler.oracle_heap().len();
         assert!(size == held + usize::from(kind == STARTS));
+        self.answer(kind, gone, gone_weight, chance);
+    }
 
+    /// An eviction by itself. The Rust panics at an empty sample, so none is made there.
+    fn evict(&mut self) {
+        if self.sampler.oracle_heap().is_empty() {
+            return;
+        }
+        let chance = self.tree.chance(self.sampler.get_fill_fraction());
+        self.item(0, 0, EVICT);
+        let (gone, weight, _) = self.sampler.evict_max().expect("no error");
+        self.answer(EVICTS, gone as u16, weight, chance);
+    }
+
+    /// Between arrivals some entries go by themselves, where the sequence has that; now and then all.
+    fn evict_some(&mut self, words: &mut Words) {
+        if !self.evicting || !words.once_in(8) {
+            return;
+        }
+        let all = self.capacity <= EMPTIED && words.once_in(5);
+        let some = if all {
+            self.capacity
+        } else {
+            1 + words.below(3)
+        };
+        for _ in 0..some {
+            self.evict();
+        }
+    }
+
+    /// What is done, the index and weight that go, the size after it and the chance before it.
+    fn answer(&mut self, kind: u16, gone: u16, weight: f32, chance: f64) {
         self.written.extend_from_slice(&kind.to_le_bytes());
         self.written.extend_from_slice(&gone.to_le_bytes());
-        self.put(size as u32);
-        self.put(pattern(gone_weight));
+        self.put(self.sampler.oracle_heap().len() as u32);
+        self.put(pattern(weight));
         self.written
             .extend_from_slice(&chance.to_bits().to_le_bytes());
     }
 
-    /// What is given for an arrival or a look.
+    /// What is given for an arrival, an eviction or a look.
     fn item(&mut self, word: u64, weight: u32, index: u16) {
         self.given.extend_from_slice(&word.to_le_bytes());
         self.given.extend_from_slice(&weight.to_le_bytes());
@@ -191,7 +232,7 @@ impl Sequence {
 
     /// The same between arrivals, if there is room for it, for the arrivals left and for a look at the end.
     fn look_between(&mut self, left: usize) {
-        let full = self.written.len() + ANSWER * left + 2 * 8 * LARGEST > ROOM;
+        let full = self.written.len() + 2 * ANSWER * left + 2 * 8 * LARGEST > ROOM;
         if self.arrivals.is_multiple_of(ARRIVALS_BETWEEN_LOOKS) && !full {
             self.look();
         }
@@ -280,6 +321,9 @@ pub struct Counted {
     pub passing: usize,
     pub starting: usize,
     pub evicting: usize,
+    /// Evictions by themselves, and how many of them leave an empty sample.
+    pub evictions: usize,
+    pub emptied: usize,
     pub looks: usize,
     pub fewest_arrivals: usize,
     pub most_arrivals: usize,
@@ -301,13 +345,15 @@ pub fn counted(records: &[Record]) -> Counted {
                 place += 8 * size;
                 continue;
             }
-            arrivals += 1;
-            match two(&record.written, place) {
-                PASSES => counted.passing += 1,
-                STARTS => counted.starting += 1,
+            size = usize::from(two(&record.written, place + 4));
+            match (two(item, 12), two(&record.written, place)) {
+                (EVICT, _) => counted.evictions += 1,
+                (_, PASSES) => counted.passing += 1,
+                (_, STARTS) => counted.starting += 1,
                 _ => counted.evicting += 1,
             }
-            size = usize::from(two(&record.written, place + 4));
+            arrivals += usize::from(two(item, 12) != EVICT);
+            counted.emptied += usize::from(size == 0);
             place += ANSWER;
         }
         counted.arrivals += arrivals;

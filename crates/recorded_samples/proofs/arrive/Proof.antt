@@ -15,11 +15,11 @@ admit-requires : tie.Need-admit-requires
 admit-requires c κs = roomy _ _ _ _ (c .before .before .before .before .before .before .is-initial .ensures) refl (c .before .before .before .before .before .before .before .pre .0) (c .before .before .before .before .before .before .before .pre .1) (c .before .before .if1 .taken)
 
 returns : tie.Need-returns
-returns c = λ ks at. arrives-some _ _ _ _ (c .before .before .before .before .before .before .before .is-initial .ensures) refl (c .before .before .before .before .before .before .before .before .pre .0) (c .before .before .before .before .before .before .before .before .pre .1) _ _ ks at (c .before .before .before .before .accepts .ensures) (c .before .before .before .if1 .taken) (c .admit .ensures .0) (c .admit .ensures .1 ks at)
+returns c = λ ks at. arrives-some _ _ _ _ (c .before .before .before .before .before .before .before .is-initial .ensures) refl (c .before .before .before .before .before .before .before .before .pre .0) (c .before .before .before .before .before .before .before .before .pre .1) (c .before .before .before .before .before .before .before .before .args .weight) (c .before .before .before .before .before .before .before .before .args .index) ks at (c .before .before .before .before .accepts .ensures) (c .before .before .before .if1 .taken) (c .admit .ensures .0) (c .admit .ensures .1 ks at)
 
 returns-2 : tie.Need-returns-2
 unfolding ofBits
-returns-2 c = λ ks at. arrives-none _ _ _ _ (c .before .before .before .before .is-initial .ensures) refl (c .before .before .before .before .before .pre .0) (c .before .before .before .before .before .pre .1) _ _ ks at (c .before .accepts .ensures) (c .if1 .left)
+returns-2 c = λ ks at. arrives-none _ _ _ _ (c .before .before .before .before .is-initial .ensures) refl (c .before .before .before .before .before .pre .0) (c .before .before .before .before .before .pre .1) (c .before .before .before .before .before .args .weight) (c .before .before .before .before .before .args .index) ks at (c .before .accepts .ensures) (c .if1 .left)
 
 pub arrive-spec : {M : Type 1} → statement M
 arrive-spec =

@@ -1,5 +1,5 @@
--- `turn` meets its contract, by whether the heap is looked at. Assumes nothing.
-use Rattle.recorded_samples.proofs.Samples.{turn-look, turn-arrival}
+-- `turn` meets its contract, by whether the heap is looked at, an entry evicted, or neither. Assumes nothing.
+use Rattle.recorded_samples.proofs.Samples.{turn-look, turn-evict, turn-arrival}
 use borrow.Author.Needs.{needs}
 use Rattle.recorded_samples.proofs.turn.Statement.{statement}
 use Rattle.recorded_samples.proofs.turn.Tie as tie
@@ -19,8 +19,8 @@ returns c = λ ks at. turn-look _ _ _ _ _ _ (c .before .before .before .before .
 chance-of-requires : tie.Need-chance-of-requires
 chance-of-requires c κs = search needs
 
-arrive-requires : tie.Need-arrive-requires
-arrive-requires c κs = search needs
+evict-requires : tie.Need-evict-requires
+evict-requires c κs = search needs
 
 put-arrived-requires : tie.Need-put-arrived-requires
 put-arrived-requires c κs = search needs
@@ -29,7 +29,19 @@ same-length-2 : tie.Need-same-length-2
 same-length-2 c = search needs
 
 returns-2 : tie.Need-returns-2
-returns-2 c = λ ks at. turn-arrival _ _ _ _ _ _ (c .before .before .before .before .before .before .before .before .before .before .before .pre .1) (c .before .before .before .before .before .before .before .before .before .before .before .pre .2) at (c .before .before .before .before .before .before .before .before .if1 .left) (c .before .before .before .before .before .before .before .chance-of .ensures) (c .before .before .before .before .arrive .ensures ks at) (c .before .before .put-arrived .ensures)
+returns-2 c = λ ks at. turn-evict _ _ _ _ _ _ (c .before .before .before .before .before .before .before .before .before .before .before .before .pre .1) (c .before .before .before .before .before .before .before .before .before .before .before .before .pre .2) at (c .before .before .before .before .before .before .before .before .chance-of .ensures) (c .before .before .before .before .before .before .before .if2 .taken) (c .before .before .before .evict .ensures ks at) (c .before .before .put-arrived .ensures)
+
+arrive-requires : tie.Need-arrive-requires
+arrive-requires c κs = search needs
+
+put-arrived-requires-2 : tie.Need-put-arrived-requires-2
+put-arrived-requires-2 c κs = search needs
+
+same-length-3 : tie.Need-same-length-3
+same-length-3 c = search needs
+
+returns-3 : tie.Need-returns-3
+returns-3 c = λ ks at. turn-arrival _ _ _ _ _ _ (c .before .before .before .before .before .before .before .before .before .before .before .before .pre .1) (c .before .before .before .before .before .before .before .before .before .before .before .before .pre .2) at (c .before .before .before .before .before .before .before .before .chance-of .ensures) (c .before .before .before .before .before .before .before .before .before .if1 .left) (c .before .before .before .before .before .before .before .if2 .left) (c .before .before .before .before .arrive .ensures ks at) (c .before .before .put-arrived2 .ensures)
 
 pub turn-spec : {M : Type 1} → statement M
 turn-spec =
@@ -40,7 +52,11 @@ turn-spec =
     same-length
     returns
     chance-of-requires
-    arrive-requires
+    evict-requires
     put-arrived-requires
     same-length-2
-    returns-2)
+    returns-2
+    arrive-requires
+    put-arrived-requires-2
+    same-length-3
+    returns-3)
