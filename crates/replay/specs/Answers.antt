@@ -1,9 +1,9 @@
--- The kinds of records and their room, what the port answers to what a record gives, and one more record counted. Definitions.
-use mathlib.Core.Bool.{Bool, cond}
-use mathlib.Core.List.{List, [], _∷_}
-use Prim.Native.Nat.{ℕ, _+_, _%_, _^_}
+-- What the port answers to what a record gives. Definitions.
+use mathlib.Core.Bool.{cond}
+use mathlib.Core.List.{List}
+use Prim.Native.Nat.{ℕ}
 use lib.Dec.{eqb}
-use lib.ListN.{length, getD}
+use lib.ListN.{length}
 use lib.Seq.{sets}
 use Rattle.run.specs.Outcome.{outcome}
 use Rattle.treelist_text.specs.Output.{output}
@@ -11,13 +11,6 @@ use Rattle.recorded.specs.Cuts.{cutAnswer}
 use Rattle.recorded.specs.Sequences.{sequenceAnswer}
 use Rattle.recorded.specs.Floats.{floatsAnswer}
 use Rattle.recorded_samples.specs.Samples.{sampleAnswer}
-
--- the kinds are the numbers below this; no record is given more bytes than this, or answered with more
-abbrev pub kinds : ℕ
-kinds = 13
-
-abbrev pub room : ℕ
-room = 16384
 
 -- bytes written from the start of what is lent, as far as it goes, and how many they are
 abbrev pub written : List ℕ → List ℕ → ℕ × List ℕ
@@ -32,11 +25,3 @@ answered kind given lent =
     (cond (eqb kind 3) (written (output given) lent)
     (cond (eqb kind 12) (written (sampleAnswer given) lent)
     (written (floatsAnswer kind given) lent)))))
-
--- One more, as a u64 has it: no input has so many records that it starts again at 0.
-abbrev pub more : ℕ → ℕ
-more n = (n + 1) % 2 ^ 64
-
--- how many records are compared, and how many of them agree
-abbrev pub counted : List ℕ → Bool → List ℕ
-counted counts same = more (getD counts 0 0) ∷ cond same (more (getD counts 1 0)) (getD counts 1 0) ∷ []

@@ -1,3 +1,1 @@
-pub mod Agreeing
 pub mod Answers
-pub mod Heads

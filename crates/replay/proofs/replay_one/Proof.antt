@@ -1,58 +1,55 @@
--- `replay_one` is safe: a record is replayed only if its lengths have room. Assumes nothing.
-use Rattle.replay.proofs.Laws.{fits}
+-- `replay_one` is safe: what is given has room. Assumes nothing.
+use mathlib.Core.Path.{sym}
+use native.Mathlib.Omega.{arith}
+use lib.Seq.{length-take-le}
 use borrow.Author.Needs.{needs}
+use borrow.Author.Tests.{not-false}
 use Rattle.replay.proofs.replay_one.Statement.{statement}
 use Rattle.replay.proofs.replay_one.Tie as tie
 
-slice-aggregate-read-bytes : tie.Need-slice-aggregate-read-bytes
-slice-aggregate-read-bytes c = search needs
+read-requires : tie.Need-read-requires
+read-requires c κs = search needs
 
-read-bytes-requires : tie.Need-read-bytes-requires
-read-bytes-requires c κs = search needs
-
-stopped-requires : tie.Need-stopped-requires
-stopped-requires c κs = search needs
+end-requires : tie.Need-end-requires
+end-requires c κs = search needs
 
 returns : tie.Need-returns
 returns c = search needs
 
-slice-aggregate-head-of : tie.Need-slice-aggregate-head-of
-slice-aggregate-head-of c = search needs
+array-share-prefix-given : tie.Need-array-share-prefix-given
+array-share-prefix-given c = let r = c .before .before .read in let w = r .ensures (not-false _ (c .if1 .left)) in omega (arith, w .size, w .given-long)
 
-head-of-requires : tie.Need-head-of-requires
-head-of-requires c κs = search needs
+slice-aggregate-answer : tie.Need-slice-aggregate-answer
+slice-aggregate-answer c =
+    let r = c .before .before .before .read in
+    let w = r .ensures (not-false _ (c .before .if1 .left)) in
+    sym (length-take-le (r .result .size) (r .last .1 .0) (omega (arith, w .size, w .given-long)))
 
-is-head-requires : tie.Need-is-head-requires
-is-head-requires c κs = search needs
+slice-aggregate-answer-2 : tie.Need-slice-aggregate-answer-2
+slice-aggregate-answer-2 c = search needs
 
-replay-body-requires : tie.Need-replay-body-requires
-replay-body-requires c κs = fits _ _ (c .before .before .is-head .ensures) (c .before .if2 .taken)
+answer-requires : tie.Need-answer-requires
+answer-requires c κs =
+    let r = c .before .before .before .before .read in
+    let w = r .ensures (not-false _ (c .before .before .if1 .left)) in
+    omega (arith, w .size, length-take-le (r .result .size) (r .last .1 .0) (omega (arith, w .size, w .given-long)))
+
+judge-requires : tie.Need-judge-requires
+judge-requires c κs = c .before .before .before .before .before .before .before .before .before .read .ensures (not-false _ (c .before .before .before .before .before .before .before .if1 .left)) .kind
 
 returns-2 : tie.Need-returns-2
 returns-2 c = search needs
-
-slice-aggregate-ended : tie.Need-slice-aggregate-ended
-slice-aggregate-ended c = search needs
-
-ended-requires : tie.Need-ended-requires
-ended-requires c κs = search needs
-
-returns-3 : tie.Need-returns-3
-returns-3 c = search needs
 
 pub replay-one-spec : {M : Type 1} → statement M
 replay-one-spec =
     tie.close
     (tie.spec
-    slice-aggregate-read-bytes
-    read-bytes-requires
-    stopped-requires
+    read-requires
+    end-requires
     returns
-    slice-aggregate-head-of
-    head-of-requires
-    is-head-requires
-    replay-body-requires
-    returns-2
-    slice-aggregate-ended
-    ended-requires
-    returns-3)
+    array-share-prefix-given
+    slice-aggregate-answer
+    slice-aggregate-answer-2
+    answer-requires
+    judge-requires
+    returns-2)

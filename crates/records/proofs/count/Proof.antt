@@ -1,7 +1,7 @@
 -- `count` meets its contract, by whether the record agrees. Assumes nothing.
 use borrow.Author.Needs.{needs}
-use Rattle.replay.proofs.count.Statement.{statement}
-use Rattle.replay.proofs.count.Tie as tie
+use Rattle.records.proofs.count.Statement.{statement}
+use Rattle.records.proofs.count.Tie as tie
 
 array-read-wrapping-add-usize : tie.Need-array-read-wrapping-add-usize
 array-read-wrapping-add-usize c = search needs

@@ -7,7 +7,7 @@ use native.Mathlib.Omega.{arith}
 use lib.ListN.{length, getD, drop, drop-of-length-le}
 use lib.Seq.{drop-cons}
 use borrow.Author.Tests.{eq-eqb, ne-eqb}
-use Rattle.replay.specs.Agreeing.{agreeing}
+use Rattle.records.specs.Agreeing.{agreeing}
 
 pub record Same (x y : List ℕ) (i : ℕ) : Type 0 where
   pub within : i ≤ length x

@@ -1,10 +1,10 @@
--- `replay::agreeing_bytes` meets its contract. Assumes nothing.
+-- `agreeing_bytes` meets its contract. Assumes nothing.
 use borrow.Author.Needs.{needs}
 use Prim.Native.Nat.{_-_}
 use lib.ListN.{length}
-use Rattle.replay.proofs.Agreeing.{Same, same-start, first-ends, second-ends, differs, same-step}
-use Rattle.replay.proofs.agreeing_bytes.Statement.{statement}
-use Rattle.replay.proofs.agreeing_bytes.Tie as tie
+use Rattle.records.proofs.Agreeing.{Same, same-start, first-ends, second-ends, differs, same-step}
+use Rattle.records.proofs.agreeing_bytes.Statement.{statement}
+use Rattle.records.proofs.agreeing_bytes.Tie as tie
 
 abbrev Inv-loop : tie.InvT-loop
 Inv-loop x y i₀ i = Same x y i

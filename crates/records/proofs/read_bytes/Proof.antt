@@ -2,11 +2,11 @@
 use mathlib.Core.Path.{_≡_, sym, _∙_}
 use native.Mathlib.Omega.{arith}
 use lib.ListN.{length}
-use Rattle.replay.proofs.Laws.{beyond}
+use Rattle.records.proofs.Laws.{beyond}
 use lib.Seq.{length-take-le}
 use borrow.Author.Needs.{needs}
-use Rattle.replay.proofs.read_bytes.Statement.{statement}
-use Rattle.replay.proofs.read_bytes.Tie as tie
+use Rattle.records.proofs.read_bytes.Statement.{statement}
+use Rattle.records.proofs.read_bytes.Tie as tie
 
 slice-relend-prefix-read-full : tie.Need-slice-relend-prefix-read-full
 slice-relend-prefix-read-full c = search needs

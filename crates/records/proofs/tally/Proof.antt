@@ -1,7 +1,7 @@
 -- `tally` meets its contract. Assumes nothing.
 use borrow.Author.Needs.{needs}
-use Rattle.replay.proofs.tally.Statement.{statement}
-use Rattle.replay.proofs.tally.Tie as tie
+use Rattle.records.proofs.tally.Statement.{statement}
+use Rattle.records.proofs.tally.Tie as tie
 
 mul-count : tie.Need-mul-count
 mul-count c = search needs

@@ -1,0 +1,51 @@
+-- `end` meets its contract. Assumes nothing.
+use Prim.Native.Nat.{_-_, _≤_}
+use Rattle.records.specs.Records.{kinds}
+use borrow.Author.Needs.{needs}
+use Rattle.records.proofs.end.Statement.{statement}
+use Rattle.records.proofs.end.Tie as tie
+
+abbrev Inv-loop : tie.InvT-loop
+Inv-loop counts kind₀ kind = kind ≤ kinds
+
+abbrev μ-loop : tie.MeasureT-loop
+μ-loop counts kind₀ kind = kinds - kind
+
+loop-holds : tie.Need-loop-holds Inv-loop μ-loop
+loop-holds c = search needs
+
+mul-say-kind : tie.Need-mul-say-kind Inv-loop μ-loop
+mul-say-kind c = search needs
+
+element-copy-out-say-kind : tie.Need-element-copy-out-say-kind Inv-loop μ-loop
+element-copy-out-say-kind c = search needs
+
+say-kind-requires : tie.Need-say-kind-requires Inv-loop μ-loop
+say-kind-requires c κs = search needs
+
+add-kind : tie.Need-add-kind Inv-loop μ-loop
+add-kind c = search needs
+
+loop-less : tie.Need-loop-less Inv-loop μ-loop
+loop-less c = search needs
+
+loop-again : tie.Need-loop-again Inv-loop μ-loop
+loop-again c = search needs
+
+returns : tie.Need-returns Inv-loop μ-loop
+returns c = search needs
+
+pub end-spec : {M : Type 1} → statement M
+end-spec =
+    tie.close
+    (tie.spec
+    Inv-loop
+    μ-loop
+    loop-holds
+    mul-say-kind
+    element-copy-out-say-kind
+    say-kind-requires
+    add-kind
+    loop-less
+    loop-again
+    returns)
