@@ -1,9 +1,8 @@
 -- What lies beyond a part that is read, and what is known of a record that begins well. Laws.
 use mathlib.Core.Path.{_≡_, sym, ap, subst, _∙_}
-use mathlib.Core.Bool.{Bool, true, _&&_}
+use mathlib.Core.Bool.{Bool, true, false, _&&_, true≢false}
 use mathlib.Core.List.{List, _++_}
 use Prim.Native.Nat.{ℕ, _≤_, _<_}
-use native.Mathlib.Omega.{arith}
 use lib.Dec.{T, ltb, leb, ltb→lt, leb→le}
 use lib.ListN.{length, drop}
 use lib.Seq.{drop-at}
@@ -23,5 +22,5 @@ fits h r e t =
     (ltb→lt _ _ (and-l (ltb (h .kind) kinds) _ all), (leb→le _ _ (and-l (leb (h .size) room) _ both), leb→le _ _ (and-r (leb (h .size) room) _ both)))
 
 -- where there is no record, none was read whole
-pub not-read : {A : Type 0} (r : Record) → r ≡ noRecord → r .whole ≡ true → A
-not-read r e h = absurd (let z : _≡_ {A = ℕ} 0 1 = cc (ap (λ (x : Record). x .whole) e) in omega arith)
+pub not-read : {A : Type 0} (r : Record) (why : ℕ) → r ≡ noRecord why → (r .whole ≡ true → A) × (r .whole ≡ false → r ≡ noRecord (r .why))
+not-read r why e = ((λ h. absurd (true≢false (sym h ∙ ap (λ (x : Record). x .whole) e))), (λ _. e ∙ ap noRecord (sym (ap (λ (x : Record). x .why) e))))

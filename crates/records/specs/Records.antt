@@ -1,12 +1,12 @@
--- The kinds of records and their room, what is known of one that is read, whether the port agrees with it, how it is counted, and the replay after it. Definitions.
+-- The kinds of records and their room, what is known of one that is read, whether the port agrees with it, and how it is counted. Definitions.
 use mathlib.Core.Path.{_≡_}
-use mathlib.Core.Bool.{Bool, true, false, cond, _&&_}
+use mathlib.Core.Bool.{Bool, false, cond, _&&_}
 use mathlib.Core.List.{List, [], _∷_}
 use Prim.Native.Nat.{ℕ, _+_, _%_, _^_, _≤_, _<_}
-use lib.Dec.{eqb, ltb}
+use lib.Dec.{eqb}
 use lib.ListN.{length, getD, drop}
 use Rattle.records.specs.declared.Record.{Record}
-use Rattle.records.specs.declared.State.{State}
+use Rattle.records.specs.declared.Judgement.{Judgement}
 use Rattle.records.specs.Agreeing.{agreeing}
 
 -- the kinds are the numbers below this; no record is given more bytes than this, or answered with more
@@ -25,13 +25,16 @@ pub record Read (r : Record) (given given′ expected expected′ : List ℕ) : 
   pub given-beyond : drop (r .size) given′ ≡ drop (r .size) given
   pub expected-beyond : drop (r .count) expected′ ≡ drop (r .count) expected
 
--- where there is none
-abbrev pub noRecord : Record
-noRecord = record { kind = 0; size = 0; returned = 0; count = 0; whole = false }
+-- where there is none, for one of four reasons
+abbrev pub noRecord : ℕ → Record
+noRecord why = record { kind = 0; size = 0; returned = 0; count = 0; whole = false; why = why }
 
 -- the same number is returned, and every byte lent is the same
 abbrev pub agreed : (returned got : ℕ) → (expected answers : List ℕ) → Bool
 agreed returned got expected answers = eqb returned got && eqb (agreeing expected answers) room
+
+abbrev pub judgement : (returned got : ℕ) → (expected answers : List ℕ) → Judgement
+judgement returned got expected answers = record { agrees = agreed returned got expected answers; same = agreeing expected answers }
 
 -- One more, as a u64 has it: no input has so many records that it starts again at 0.
 abbrev pub more : ℕ → ℕ
@@ -40,15 +43,3 @@ more n = (n + 1) % 2 ^ 64
 -- how many records are compared, and how many of them agree
 abbrev pub counted : List ℕ → Bool → List ℕ
 counted counts same = more (getD counts 0 0) ∷ cond same (more (getD counts 1 0)) (getD counts 1 0) ∷ []
-
--- the replay after a record that differs: the first 20 are said
-abbrev pub saidOf : State → State
-saidOf s = cond (ltb (s .said) 20) (record { said = s .said + 1; going = true }) s
-
--- after any record
-abbrev pub after : State → Bool → State
-after s same = cond same s (saidOf s)
-
--- at its end
-abbrev pub ending : State
-ending = record { said = 0; going = false }

@@ -1,23 +1,33 @@
--- `main` is safe and ends: the records that are still counted get fewer. Assumes nothing.
+-- `main` is safe and ends. Assumes nothing.
 use Prim.Native.Nat.{_-_, _≤_}
+use Rattle.records.specs.Records.{kinds}
 use borrow.Author.Needs.{needs}
 use Rattle.replay.proofs.main.Statement.{statement}
 use Rattle.replay.proofs.main.Tie as tie
 
 abbrev Inv-loop : tie.InvT-loop
-Inv-loop counts₀ state₀ number₀ counts state number = number ≤ 18446744073709551615
+Inv-loop counts kind₀ kind = kind ≤ kinds
 
 abbrev μ-loop : tie.MeasureT-loop
-μ-loop counts₀ state₀ number₀ counts state number = 18446744073709551615 - number
+μ-loop counts kind₀ kind = kinds - kind
+
+replay-all-requires : tie.Need-replay-all-requires Inv-loop μ-loop
+replay-all-requires c κs = search needs
 
 loop-holds : tie.Need-loop-holds Inv-loop μ-loop
 loop-holds c = search needs
 
-replay-one-requires : tie.Need-replay-one-requires Inv-loop μ-loop
-replay-one-requires c κs = search needs
+mul-say-kind : tie.Need-mul-say-kind Inv-loop μ-loop
+mul-say-kind c = search needs
 
-add-number : tie.Need-add-number Inv-loop μ-loop
-add-number c = search needs
+array-copy-out-say-kind : tie.Need-array-copy-out-say-kind Inv-loop μ-loop
+array-copy-out-say-kind c = search needs
+
+say-kind-requires : tie.Need-say-kind-requires Inv-loop μ-loop
+say-kind-requires c κs = search needs
+
+add-kind : tie.Need-add-kind Inv-loop μ-loop
+add-kind c = search needs
 
 loop-less : tie.Need-loop-less Inv-loop μ-loop
 loop-less c = search needs
@@ -28,19 +38,18 @@ loop-again c = search needs
 returns : tie.Need-returns Inv-loop μ-loop
 returns c = search needs
 
-returns-2 : tie.Need-returns-2 Inv-loop μ-loop
-returns-2 c = search needs
-
 pub main-spec : {M : Type 1} → statement M
 main-spec =
     tie.close
     (tie.spec
     Inv-loop
     μ-loop
+    replay-all-requires
     loop-holds
-    replay-one-requires
-    add-number
+    mul-say-kind
+    array-copy-out-say-kind
+    say-kind-requires
+    add-kind
     loop-less
     loop-again
-    returns
-    returns-2)
+    returns)

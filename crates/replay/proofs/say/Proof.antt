@@ -2,8 +2,8 @@
 use Prim.Native.Nat.{_-_, _≤_}
 use lib.ListN.{length}
 use borrow.Author.Needs.{needs}
-use Rattle.records.proofs.say.Statement.{statement}
-use Rattle.records.proofs.say.Tie as tie
+use Rattle.replay.proofs.say.Statement.{statement}
+use Rattle.replay.proofs.say.Tie as tie
 
 abbrev Inv-loop : tie.InvT-loop
 Inv-loop word numbers i₀ t4 i = i ≤ length numbers
