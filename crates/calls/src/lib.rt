@@ -25,7 +25,7 @@ ghost use Rattle.treestore.specs.Arrays.{Lent, lent};
 ghost use Rattle.randomcuttree.specs.State.{SomeState};
 ghost use Rattle.randomcuttree.specs.Answers.{AddDone, headerAdded, headerDeleted};
 ghost use Rattle.randomcuttree.specs.Queries.{BoxRead, SomeBoxRead};
-ghost use Rattle.calls.specs.Done.{Does, queryOf};
+ghost use Rattle.calls.specs.Done.{PutRead, Does, queryOf};
 
 // As many coordinates of a given list as are looked at: one more than any tree has.
 pub const COORDINATES: usize = CHANNELS + 1;
@@ -65,7 +65,8 @@ pub fn put(
     reply: &mut Reply,
 )
     requires { ⌜ n ≤ (width + 1) ⌝ }
-    ensures { λ _. ⌜ ((a : Lent) (xs : List Float) → a .copies ≡ now (copies .entry) → take n (now (coordinates .entry)) ≡ take (width + 1) xs
+    ensures read { λ _. ⌜ PutRead tree (now (copies .entry)) index (take n (now (coordinates .entry))) (now (points .entry)) (now (written .entry)) (now (points .exit)) (now (written .exit)) (now (reply .exit)) ⌝ }
+    ensures does { λ _. ⌜ ((a : Lent) (xs : List Float) → a .copies ≡ now (copies .entry) → take n (now (coordinates .entry)) ≡ take (width + 1) xs
         → Does (λ d. put index xs) tree a (now (points .entry)) (now (written .entry)) tree a (now (points .exit)) (now (written .exit)) (now (reply .exit))) ⌝ }
 {
     let answer = put_first(tree, copies, points, written, index, coordinates, n);

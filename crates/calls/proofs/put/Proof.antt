@@ -11,7 +11,10 @@ tell-put-requires : tie.Need-tell-put-requires
 tell-put-requires c κs = search needs
 
 returns : tie.Need-returns
-returns c = put-does _ _ _ _ _ _ _ _ _ _ (c .before .before .put-first .ensures) (c .tell-put .ensures)
+returns c = (
+  record { answer = c .before .before .put-first .result; puts = c .before .before .put-first .ensures; told = c .tell-put .ensures },
+  put-does _ _ _ _ _ _ _ _ _ _ (c .before .before .put-first .ensures) (c .tell-put .ensures),
+)
 
 pub put-spec : {M : Type 1} → statement M
 put-spec = tie.close (tie.spec put-first-requires tell-put-requires returns)

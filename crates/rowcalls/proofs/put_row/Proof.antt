@@ -26,7 +26,7 @@ returns : tie.Need-returns
 returns c =
     let s = c .before .before .before .before .before .before .before .before .before .before in
     let first = first-fields (λ p. coordinateOrZero (coordinateOf p)) (piecesFrom 32 (s .args .row .now) (s .args .start)) _ _ (width + 1) _ _ refl (c .before .before .before .before .before .before .before .read-coordinates .ensures .0) (c .before .before .before .before .before .at-most .ensures) (c .before .before .before .before .before .before .before .read-coordinates .ensures .1) in
-    λ a e. c .put .ensures a _ e first
+    λ a e. c .put .ensures .1 a _ e first
 
 pub put-row-spec : {M : Type 1} → statement M
 put-row-spec =
