@@ -262,7 +262,8 @@ fn leaf_mass(k: u16) -> u16
 }
 
 // The mass of the node of an id.
-fn mass_of(nodes: &Nodes, copies: &Copies, node: u16, capacity: u16) -> u16
+// Rules out a leaf's copies taken for its mass, and a branch's mass read for a leaf.
+pub fn mass_of(nodes: &Nodes, copies: &Copies, node: u16, capacity: u16) -> u16
     requires { ⌜ (node < capacity → node < branchLimit) ⌝ }
     requires { ⌜ node - capacity < pointLimit ⌝ }
     requires { ⌜ (capacity ≤ node → 1 ≤ getD (now copies) (node - capacity) 0) ⌝ }

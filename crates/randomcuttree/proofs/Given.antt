@@ -104,15 +104,19 @@ module _ {d c : ℕ} {s : Float} {W : World (whole d)} {tree : RCFTree} {a : Len
     light = sound R T .light;
   }
 
-  pub walks : (i : ℕ) (p : Reading) → W .table i ≡ some p → Walks d c (a .nodes) (a .cuts) (getD points i []) (tree .root) t p
-  walks i p P = record {
+  -- the walk of any reading, and of the one that an index has
+  pub walks-of : (p : Reading) (point : List Float) → point ≡ p .row → Walks d c (a .nodes) (a .cuts) point (tree .root) t p
+  walks-of p point e = record {
     rows = rows-laid;
     values = values-laid;
     in-range = within;
     few = few R T (H .limits .2);
     root-is = root-is H ∙ ap (rootOf d c k) T;
-    point-is = point-at R T (H .table-is) i p P;
+    point-is = e;
   }
+
+  pub walks : (i : ℕ) (p : Reading) → W .table i ≡ some p → Walks d c (a .nodes) (a .cuts) (getD points i []) (tree .root) t p
+  walks i p P = walks-of p (getD points i []) (point-at R T (H .table-is) i p P)
 
   pub boxed : Boxed d c k (a .nodes) points (a .boxes) t
   boxed = record {

@@ -167,7 +167,7 @@ branches-are-told tree nodes cuts x = by-test (leb branchLimit x)
 
 -- ---- boxes
 -- boxes that stand below a tree stand below each of its nodes
-boxed-in : (d c k : ℕ) (nodes : List (List ℕ)) (points : List (List Float)) (boxes : List (List (List Float))) {v t : Tree (whole d)} → In (whole d) v t → Boxed d c k nodes points boxes t → Boxed d c k nodes points boxes v
+pub boxed-in : (d c k : ℕ) (nodes : List (List ℕ)) (points : List (List Float)) (boxes : List (List (List Float))) {v t : Tree (whole d)} → In (whole d) v t → Boxed d c k nodes points boxes t → Boxed d c k nodes points boxes v
 boxed-in d c k nodes points boxes here B = B
 boxed-in d c k nodes points boxes (left i) B = boxed-in d c k nodes points boxes i (left-boxed d c k nodes points boxes B)
 boxed-in d c k nodes points boxes (right i) B = boxed-in d c k nodes points boxes i (right-boxed d c k nodes points boxes B)

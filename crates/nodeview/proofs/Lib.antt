@@ -1,0 +1,5 @@
+pub mod Fronts
+pub mod Nodes
+pub mod Going
+pub mod Reports
+pub mod Chances

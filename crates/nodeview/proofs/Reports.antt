@@ -1,0 +1,112 @@
+-- A report by its steps: each refusal, what the walk and the rows are told of a state, and the rows as the report's. Assumes nothing.
+use mathlib.Core.Path.{_≡_, refl, sym, ap, _∙_}
+use mathlib.Core.Bool.{true, false}
+use mathlib.Core.Option.{Option, none, some}
+use mathlib.Core.List.{List, _++_, map}
+use Prim.Native.Nat.{ℕ, _≤_, _<_}
+use native.Mathlib.Omega.{arith}
+use lib.Dec.{eqb}
+use lib.ListN.{length, drop}
+use lib.Ieee.{Float}
+use borrow.Author.Tests.{lt-ltb, le-ltb}
+use Rattle.limits.specs.Limits.{width, capacityLimit}
+use Rattle.readings.proofs.Tests.{yes}
+use Rattle.cuttree.specs.Tree.{Tree, walk}
+use Rattle.cuttree.specs.Run.{World}
+use Rattle.cuttree.proofs.Tests.{by-test, cond-true, cond-false}
+use Rattle.wholetree.specs.Reading.{Reading, padded, reading}
+use Rattle.wholetree.specs.Whole.{whole, allCoordinates}
+use Rattle.wholetree.proofs.Readings.{tab-length, reading-row}
+use Rattle.pointstore.specs.Puts.{pointRefusal}
+use Rattle.walk.specs.Walks.{Walks, SomeWalks, Walked}
+use Rattle.treestore.specs.Arrays.{Lent}
+use Rattle.randomcuttree.specs.declared.RCFTree.{RCFTree}
+use Rattle.randomcuttree.specs.State.{State}
+use Rattle.randomcuttree.proofs.Parts.{dimensions-are, capacity-is, cached-is}
+use Rattle.randomcuttree.proofs.Given.{stored, walks-of, boxed}
+use Rattle.randomcuttree.proofs.Calls.{no-tree}
+use Rattle.nodeview.specs.declared.ReportAnswer.{ReportAnswer}
+use Rattle.nodeview.specs.declared.ReportAnswer.the-variants.{Rows, NoReport}
+use Rattle.nodeview.specs.Report.{ReportRefusal, fewRows, treeEmpty, coordinateCount, badCoordinate, reportNumber, refused, rows, rowAt, rowsOf, reportIn, reportOf}
+use Rattle.nodeview.specs.Told.{numbersOf, reportSays, rowsAfter, ReportRead, Reported}
+use Rattle.nodeview.specs.Writing.{Writing, SomeWriting, Writes}
+
+-- what is wrong with a given point, or nothing
+by-point : {P : Type 0} (d : ℕ) (xs : List Float) → (eqb (length xs) d ≡ false → pointRefusal d xs ≡ 6 → P) → (eqb (length xs) d ≡ true → allCoordinates xs ≡ false → pointRefusal d xs ≡ 7 → P)
+    → (eqb (length xs) d ≡ true → allCoordinates xs ≡ true → pointRefusal d xs ≡ 0 → P) → P
+unfolding pointRefusal
+by-point d xs f g h = by-test (eqb (length xs) d) (λ a. by-test (allCoordinates xs) (λ b. h a b (rw (a, b))) (λ b. g a b (rw (a, b)))) (λ a. f a (rw a))
+
+module _ {d c : ℕ} {s : Float} {W : World (whole d)} {tree : RCFTree} {a : Lent} {points : List (List Float)} {marks : List ℕ} {nodes : List (List ℕ)} {cuts : List Float} {copies : List ℕ} {boxes : List (List (List Float))}
+    (H : State d c s W tree a points marks) (E : ReportRead a nodes cuts copies boxes) (xs : List Float) (lent : List (List ℕ)) where
+  abbrev Done : ReportAnswer → List (List ℕ) → Type 0
+  Done r lent′ = Reported (reportOf d c W (length lent) xs) lent r lent′
+
+  not-done : (r : ReportRefusal) (n : ℕ) → reportOf d c W (length lent) xs ≡ refused r → n ≡ reportNumber r → Done (NoReport n) lent
+  not-done r n e f = record { answer = ap NoReport f ∙ sym (ap reportSays e); after = sym (ap (λ x. rowsAfter x lent) e) }
+
+  -- ---- the given coordinates
+  module _ (r : ℕ) (e : r ≡ pointRefusal (tree .dimensions) xs) where
+    is : r ≡ pointRefusal d xs
+    is = e ∙ ap (λ x. pointRefusal x xs) (dimensions-are H)
+
+    pub no-point : (r ≡ 0 → ⊥) → Done (NoReport r) lent
+    no-point h = by-point d xs
+        (λ a f. not-done coordinateCount r (rw a refl) (is ∙ f))
+        (λ a b f. not-done badCoordinate r (rw (a, b) refl) (is ∙ f))
+        (λ a b f. absurd (h (is ∙ f)))
+
+    module _ (z : r ≡ 0) where
+      taken : (eqb (length xs) d ≡ true) × (allCoordinates xs ≡ true)
+      taken = by-point d xs (λ a f. absurd (omega (arith, sym (is ∙ f) ∙ z))) (λ a b f. absurd (omega (arith, sym (is ∙ f) ∙ z))) (λ a b f. (a, b))
+
+      -- the report is that of the tree
+      in-tree : (o : Option (Tree (whole d))) → W .tree ≡ o → reportOf d c W (length lent) xs ≡ reportIn d c o (length lent) (reading xs)
+      in-tree o T = rw (taken .0, taken .1, T) refl
+
+      pub empty : tree .total ≡ 0 → Done (NoReport 12) lent
+      empty h = not-done treeEmpty 12 (in-tree none (no-tree H h)) refl
+
+      -- ---- a tree that holds something, and the query as a row
+      module _ {t : Tree (whole d)} (T : W .tree ≡ some t) (point : List Float) (row : point ≡ padded width xs) where
+        abbrev p : Reading
+        p = reading xs
+
+        point-is : point ≡ p .row
+        point-is = row ∙ sym (reading-row xs (yes (taken .1)))
+
+        walks : Walks d (tree .capacity) nodes cuts point (tree .root) t p
+        walks = rw (capacity-is H, ← E .nodes-are, ← E .cuts-are) (walks-of H T p point point-is)
+
+        pub some-walks : (tree .capacity ≤ capacityLimit) × SomeWalks (tree .capacity) nodes cuts point (tree .root)
+        some-walks = (rw (capacity-is H) (H .limits .3), record { channels = d; tree = t; reading = p; walks = walks })
+
+        -- ---- its walk
+        module _ (path : List (List ℕ)) (n : ℕ) (w : (d : ℕ) (t : Tree (whole d)) (p : Reading) → Walks d (tree .capacity) nodes cuts point (tree .root) t p → Walked d (tree .capacity) path n t p) where
+          walked : Walked d c path n t p
+          walked = rw (capacity-is H) at (w d t p walks)
+
+          pub too-few : length lent < n → Done (NoReport 15) lent
+          too-few h = not-done fewRows 15 (in-tree (some t) T ∙ cond-true _ _ _ (lt-ltb (length lent) (walk (whole d) t p) (omega (arith, walked .count)))) refl
+
+          module _ (room : n ≤ length lent) where
+            writing : Writing d (tree .capacity) (tree .cached) nodes copies points boxes path n point t p
+            writing = rw (capacity-is H, cached-is H) (record {
+              cuts = cuts;
+              stored = rw (E .nodes-are, E .cuts-are, E .copies-are) at (stored H T);
+              boxed = rw (E .nodes-are, E .boxes-are) at (boxed H T);
+              walked = walked;
+              row = point-is;
+            })
+
+            pub some-writing : SomeWriting (tree .capacity) (tree .cached) nodes copies points boxes path n point lent
+            some-writing = record { channels = d; tree = t; reading = p; writing = writing; room = room }
+
+            pub told : (lent′ : List (List ℕ)) → Writes (tree .capacity) (tree .cached) nodes copies points boxes path n point lent lent′ → Done (Rows n) lent′
+            told lent′ g =
+                let e : reportOf d c W (length lent) xs ≡ rows (rowsOf d c t p) = in-tree (some t) T ∙ cond-false _ _ _ (le-ltb (length lent) (walk (whole d) t p) (omega (arith, walked .count))) in
+                let l : length (rowsOf d c t p) ≡ n = tab-length (walk (whole d) t p) (rowAt d c t p) ∙ sym (walked .count) in
+                record {
+                  answer = ap Rows (sym l) ∙ sym (ap reportSays e);
+                  after = rw (capacity-is H) at (g d t p writing) ∙ sym (ap (λ x. rowsAfter x lent) e ∙ ap (λ x. map numbersOf (rowsOf d c t p) ++ drop x lent) l);
+                }

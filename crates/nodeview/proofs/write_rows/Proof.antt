@@ -1,0 +1,176 @@
+-- `write_rows` meets its contract: m rows are written, and the box is that of the last row's node (`Going`). Assumes nothing.
+use mathlib.Core.Path.{_∙_}
+use mathlib.Core.Logic.{⊎-elim}
+use Prim.Native.Nat.{_-_}
+use native.Mathlib.Omega.{arith}
+use lib.ListN.{length-set}
+use Rattle.nodeview.proofs.Nodes.{leaf-low, mass-asks, some-node}
+use Rattle.nodeview.proofs.Going.{Going, read-box, some-side, grown-box, box-numbers, going-starts, going-on, going-ends}
+use borrow.Author.Needs.{needs}
+use Rattle.nodeview.proofs.write_rows.Statement.{statement}
+use Rattle.nodeview.proofs.write_rows.Tie as tie
+
+abbrev Inv-loop : tie.InvT-loop
+Inv-loop nodes copies points boxes path len point capacity cached rows₀ c leaf leaf-id leaf-mass current₀ m₀ rows current m = Going capacity cached nodes copies points boxes path len point m current rows₀ rows
+
+abbrev μ-loop : tie.MeasureT-loop
+μ-loop nodes copies points boxes path len point capacity cached rows₀ c leaf leaf-id leaf-mass current₀ m₀ rows current m = len - m
+
+wide16-requires : tie.Need-wide16-requires Inv-loop μ-loop
+wide16-requires c κs = search needs
+
+leaf-at-requires : tie.Need-leaf-at-requires Inv-loop μ-loop
+leaf-at-requires c κs = let p = c .before .pre in record { channels = p .channels; tree = p .tree; reading = p .reading; walked = p .writing .walked }
+
+sub-node-at : tie.Need-sub-node-at Inv-loop μ-loop
+sub-node-at c = omega (arith, c .before .before .pre .writing .walked .count)
+
+node-at-requires : tie.Need-node-at-requires Inv-loop μ-loop
+node-at-requires c κs = let w = c .before .before .pre .writing .walked in omega (arith, w .count, w .most)
+
+mass-of-requires : tie.Need-mass-of-requires Inv-loop μ-loop
+mass-of-requires c κs = let w = c .before .before .before .pre .writing in mass-asks w _ 0 (omega (arith, w .walked .count)) _ (c .node-at .ensures)
+
+sub-leaf-row : tie.Need-sub-leaf-row Inv-loop μ-loop
+sub-leaf-row c = omega (arith, c .before .before .before .before .pre .writing .walked .count)
+
+mul-leaf-row : tie.Need-mul-leaf-row Inv-loop μ-loop
+mul-leaf-row c = let w = c .before .before .before .before .pre .writing in omega (arith, leaf-low w _ (c .before .before .leaf-at .ensures _ _ _ (w .walked)))
+
+index-1-leaf-row : tie.Need-index-1-leaf-row Inv-loop μ-loop
+index-1-leaf-row c = let w = c .before .before .before .before .pre .writing in leaf-low w _ (c .before .before .leaf-at .ensures _ _ _ (w .walked))
+
+leaf-row-requires : tie.Need-leaf-row-requires Inv-loop μ-loop
+leaf-row-requires c κs = search needs
+
+slice-set-from-rows : tie.Need-slice-set-from-rows Inv-loop μ-loop
+slice-set-from-rows c = let p = c .before .before .before .before .before .before .pre in omega (arith, p .room, p .writing .walked .count)
+
+wide16-requires-2 : tie.Need-wide16-requires-2 Inv-loop μ-loop
+wide16-requires-2 c κs = search needs
+
+bounding-box-requires : tie.Need-bounding-box-requires Inv-loop μ-loop
+bounding-box-requires c κs =
+    let w = c .before .before .before .before .before .before .before .pre .writing in
+    rw (c .wide162 .ensures .0, c .before .before .before .before .before .before .wide16 .ensures .0)
+    (w .stored .small, some-node w _ 0 (omega (arith, w .walked .count)) _ (c .before .before .before .before .node-at .ensures))
+
+loop-holds : tie.Need-loop-holds Inv-loop μ-loop
+loop-holds c =
+    let p = c .before .before .before .before .before .before .before .before .pre in
+    let w = p .writing .walked in
+    let n = c .before .before .before .before .before .node-at .ensures in
+    going-starts _ _ _ _ _ _ _ _ _ (c .before .before .before .before .before .before .before .before .args .rows .now) (p .room) (omega (arith, w .count)) _
+    _ (omega (arith, w .count)) _ n _ (c .before .before .before .before .before .before .leaf-at .ensures) _ (c .before .before .before .before .mass-of .ensures) (c .before .before .leaf-row .ensures)
+    _ (read-box _ _ _ _ _ _ _ _ _ _ 0 (omega (arith, w .count)) _ n _ (rw (c .before .wide162 .ensures .0, c .before .before .before .before .before .before .before .wide16 .ensures .0) at (c .bounding-box .ensures)))
+
+sub-depth : tie.Need-sub-depth Inv-loop μ-loop
+sub-depth c = omega (arith, c .loop-test .taken)
+
+sub-depth-2 : tie.Need-sub-depth-2 Inv-loop μ-loop
+sub-depth-2 c = omega (arith, c .loop-test .taken)
+
+node-at-requires-2 : tie.Need-node-at-requires-2 Inv-loop μ-loop
+node-at-requires-2 c κs = omega (arith, c .before .before .before .before .before .before .before .before .before .before .pre .writing .walked .most)
+
+wide16-requires-3 : tie.Need-wide16-requires-3 Inv-loop μ-loop
+wide16-requires-3 c κs = search needs
+
+wide16-requires-4 : tie.Need-wide16-requires-4 Inv-loop μ-loop
+wide16-requires-4 c κs = search needs
+
+bounding-box-requires-2 : tie.Need-bounding-box-requires-2 Inv-loop μ-loop
+bounding-box-requires-2 c κs =
+    let w = c .before .before .before .before .before .before .before .before .before .before .before .before .before .before .pre .writing in
+    rw (c .wide164 .ensures .0, c .before .before .before .before .before .before .before .before .before .before .before .before .before .wide16 .ensures .0)
+    (w .stored .small, some-node w _ (c .before .before .before .before .before .loop .m) (omega (arith, c .before .before .before .before .loop-test .taken)) _ (c .before .before .before .node-at2 .ensures))
+
+sub-sibling-at : tie.Need-sub-sibling-at Inv-loop μ-loop
+sub-sibling-at c = c .before .before .before .before .loop .inv .some
+
+sibling-at-requires : tie.Need-sibling-at-requires Inv-loop μ-loop
+sibling-at-requires c κs = (omega (arith, c .before .before .before .loop-test .taken), c .before .before .before .before .before .before .before .before .before .before .before .before .before .pre .writing .walked .most)
+
+grow-node-box-requires : tie.Need-grow-node-box-requires Inv-loop μ-loop
+grow-node-box-requires c κs =
+    let w = c .before .before .before .before .before .before .before .before .before .before .before .before .before .before .pre .writing in
+    rw (c .before .before .before .before .before .before .before .before .before .before .before .before .before .wide16 .ensures .0)
+    (w .stored .small, (some-side _ _ _ _ _ _ _ _ _ _ (c .before .before .before .before .before .loop .inv .some) (c .before .before .before .before .loop-test .taken) _ (c .sibling-at .ensures) w, box-numbers _ _ _ _ _ _ _ _ _ _ _ (c .before .before .before .before .before .loop .inv .box) w))
+
+mass-of-requires-2 : tie.Need-mass-of-requires-2 Inv-loop μ-loop
+mass-of-requires-2 c κs =
+    mass-asks (c .before .before .before .before .before .before .before .before .before .before .before .before .before .pre .writing) _ (c .before .before .before .before .loop .m) (omega (arith, c .before .before .before .loop-test .taken)) _ (c .before .before .node-at2 .ensures)
+
+branch-row-requires : tie.Need-branch-row-requires Inv-loop μ-loop
+branch-row-requires c κs = search needs
+
+mul-t29 : tie.Need-mul-t29 Inv-loop μ-loop
+mul-t29 c = omega (arith, c .before .before .before .before .before .loop-test .taken, c .before .before .before .before .before .before .before .before .before .before .before .before .before .before .before .pre .writing .walked .most)
+
+slice-set-from-rows-2 : tie.Need-slice-set-from-rows-2 Inv-loop μ-loop
+slice-set-from-rows-2 c = let g = c .before .before .before .before .before .before .loop .inv in omega (arith, g .room, g .long, c .before .before .before .before .before .loop-test .taken)
+
+add-m : tie.Need-add-m Inv-loop μ-loop
+add-m c = omega (arith, c .before .before .before .before .before .loop-test .taken, c .before .before .before .before .before .before .before .before .before .before .before .before .before .before .before .pre .writing .walked .most)
+
+loop-less : tie.Need-loop-less Inv-loop μ-loop
+loop-less c = omega (arith, c .before .before .before .before .before .loop-test .taken)
+
+loop-again : tie.Need-loop-again Inv-loop μ-loop
+loop-again c =
+    let h = c .before .before .before .before .before .loop-test .taken in
+    let g = c .before .before .before .before .before .before .loop .inv in
+    let m = c .before .before .before .before .before .before .loop .m in
+    let n = c .before .before .before .before .node-at2 .ensures in
+    let same = c .before .before .before .before .before .before .before .before .before .before .before .before .before .before .wide16 .ensures .0 in
+    going-on _ _ _ _ _ _ _ _ _ m _ _ _ g h _ (omega (arith, h)) _ n _
+    (⊎-elim (λ w. rw (w .3) (read-box _ _ _ _ _ _ _ _ _ _ m (omega (arith, h)) _ n _ (rw (w .1 .ensures .0, same) at (w .2 .ensures))))
+    (λ w. rw (w .3) (grown-box _ _ _ _ _ _ _ _ _ m (g .some) h _ (w .1 .ensures) _ _ (g .box) (rw same at (w .2 .ensures))))
+    (c .before .before .if1 .came))
+    _ (c .before .mass-of2 .ensures) _ (c .branch-row .ensures)
+
+same-length : tie.Need-same-length Inv-loop μ-loop
+same-length c = c .before .loop .inv .long ∙ simp length-set
+
+returns : tie.Need-returns Inv-loop μ-loop
+returns c =
+    let p = c .before .before .before .before .before .before .before .before .before .before .pre in
+    going-ends _ _ _ _ _ _ _ _ _ _ (p .room) (omega (arith, p .writing .walked .count)) _ _ _ _ (c .before .loop .inv) (c .loop-test .left)
+
+pub write-rows-spec : {M : Type 1} → statement M
+write-rows-spec =
+    tie.close
+    (tie.spec
+    Inv-loop
+    μ-loop
+    wide16-requires
+    leaf-at-requires
+    sub-node-at
+    node-at-requires
+    mass-of-requires
+    sub-leaf-row
+    mul-leaf-row
+    index-1-leaf-row
+    leaf-row-requires
+    slice-set-from-rows
+    wide16-requires-2
+    bounding-box-requires
+    loop-holds
+    sub-depth
+    sub-depth-2
+    node-at-requires-2
+    wide16-requires-3
+    wide16-requires-4
+    bounding-box-requires-2
+    sub-sibling-at
+    sibling-at-requires
+    grow-node-box-requires
+    mass-of-requires-2
+    branch-row-requires
+    mul-t29
+    slice-set-from-rows-2
+    add-m
+    loop-less
+    loop-again
+    same-length
+    returns)

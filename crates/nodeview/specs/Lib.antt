@@ -1,0 +1,4 @@
+pub mod Report
+pub mod Told
+pub mod Writing
+pub mod Laws
