@@ -14,7 +14,7 @@ use Rattle.wholetree.specs.Whole.{tab}
 use Rattle.wholetree.proofs.Readings.{tab-length, tab-at}
 use Rattle.answers.specs.Said.{filled, replyWidth}
 
-filled-length : (n : ℕ) (xs : List ℕ) → length (filled n xs) ≡ n
+pub filled-length : (n : ℕ) (xs : List ℕ) → length (filled n xs) ≡ n
 unfolding filled
 filled-length zero xs = refl
 filled-length (suc n) [] = ap suc (filled-length n [])

@@ -25,7 +25,7 @@ use Rattle.calls.specs.Done.{Does}
 
 module _ (d c : ℕ) (W : World (whole d)) where
   -- no add takes more words than the capacity, which is 256 at most
-  add-alike : c ≤ capacityLimit → (i : ℕ) (ws : List ℕ) → call (whole d) c W (add i (take capacityLimit ws)) ≡ call (whole d) c W (add i ws)
+  pub add-alike : c ≤ capacityLimit → (i : ℕ) (ws : List ℕ) → call (whole d) c W (add i (take capacityLimit ws)) ≡ call (whole d) c W (add i ws)
   add-alike h i ws = by-test (leb (length ws) capacityLimit)
       (λ t. ap (λ (y : List ℕ). call (whole d) c W (add i y)) (take-all capacityLimit ws (leb-true (length ws) capacityLimit t)))
       (λ t. let long = leb-false (length ws) capacityLimit t in few-words (whole d) c (take capacityLimit ws) ws

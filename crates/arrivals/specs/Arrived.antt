@@ -1,0 +1,33 @@
+-- An arrival's answer as numbers, and what an arrival gives and leaves. Definitions.
+use mathlib.Core.Path.{_≡_}
+use mathlib.Core.List.{List, [], _∷_}
+use Prim.Native.Nat.{ℕ}
+use lib.Ieee.{Float}
+use Rattle.wholetree.specs.Whole.{whole}
+use Rattle.sampledtree.specs.Sampled.{Sampled, SampledAnswer, arrive, call}
+use Rattle.treestore.specs.Arrays.{Lent}
+use Rattle.samplerplustree.specs.declared.SamplerPlusTree.{SamplerPlusTree}
+use Rattle.samplerplustree.specs.declared.UpdateAnswer.{UpdateAnswer}
+use Rattle.samplerplustree.specs.declared.UpdateAnswer.the-variants.{Refused, NotAccepted, Accepted, Replaced}
+use Rattle.samplerplustree.specs.State.{SampledState, headOf}
+use Rattle.samplerplustree.specs.Updates.{updateSays}
+use Rattle.answers.specs.Said.{filled, replyWidth}
+
+-- 'refusal, what became of it (0 not accepted, 1 accepted, 2 accepted and another evicted), the leaf's point index, the evicted point index'
+abbrev pub arrivalNumbers : UpdateAnswer → List ℕ
+arrivalNumbers (Accepted h j) = 0 ∷ 1 ∷ j ∷ 0 ∷ []
+arrivalNumbers (Replaced h j e) = 0 ∷ 2 ∷ j ∷ e ∷ []
+arrivalNumbers NotAccepted = 0 ∷ 0 ∷ 0 ∷ 0 ∷ []
+arrivalNumbers (Refused r) = r ∷ 0 ∷ 0 ∷ 0 ∷ []
+
+-- the numbers of the answer, with 0 after them, and a state of the sampled world after the arrival
+pub record Arrived (d : ℕ) (s : Float) (x : SampledAnswer (whole d) × Sampled (whole d)) (tree : SamplerPlusTree) (a : Lent) (points : List (List Float)) (marks : List ℕ) (weights : List Float) (held reply : List ℕ) : Type 0 where
+  pub reply-is : reply ≡ filled replyWidth (arrivalNumbers (updateSays d (headOf d s (x .1)) (x .0)))
+  pub state : SampledState d s (x .1) tree a points marks weights held
+
+-- An arrival of the index i, the weight w, the word x for the starting chance and the words ws, whichever sampled world's the lent state is:
+-- header, arrays and sample before it, with the table, then after it. The table is not written.
+abbrev pub Arrives : ℕ → Float → ℕ → List ℕ → SamplerPlusTree → Lent → List (List Float) → List ℕ → List Float → List ℕ → SamplerPlusTree → Lent → List Float → List ℕ → List ℕ → Type 0
+Arrives i w x ws tree a points marks weights held tree′ a′ weights′ held′ reply =
+    (d : ℕ) (s : Float) (X : Sampled (whole d)) → SampledState d s X tree a points marks weights held
+    → Arrived d s (call (whole d) X (arrive i w x ws)) tree′ a′ points marks weights′ held′ reply
