@@ -1,6 +1,6 @@
 #!/bin/bash
-# Holds the oracle against document 01, the recorded answers against the Rust, and the port, its leaves
-# and the program treelist against the Rust.
+# Holds the oracle against document 01, the recorded answers against the Rust, the generated runs against
+# faults in the Rust, and the port, its leaves and the program treelist against the Rust.
 #   harness/run.sh [--digests]
 # KRCF_SRC names the folder that holds crates/rcflib/src, seen from the project's root; the default
 # is ../shared/docs/src. COMPARE says for how long the port is compared, 75s if unset, LEAVES on how many
@@ -33,6 +33,7 @@ built() {
 built build
 built run --package selftest
 built run --package record -- check crates
+KRCF_SRC=$source harness/faults.sh
 
 rt staticlib run
 rt staticlib leaves
@@ -44,10 +45,18 @@ else
   echo "harness: crates.txt has no treelist, no texts are compared"
 fi
 built run --package compare -- --fault
-built run --package compare -- "${COMPARE:-75s}"
+# The comparison of byte runs has one core for its time; leaves and texts are compared on the other meanwhile.
+compared=$(mktemp)
+built run --package compare -- "${COMPARE:-75s}" >"$compared" 2>&1 &
+comparing=$!
+trap 'kill "$comparing" 2>/dev/null; rm -f "$compared"' EXIT
 built run --package compare_leaves -- --fault
 built run --package compare_leaves -- "${LEAVES:-1000000}"
 if [ -n "$listed" ]; then
   built run --package compare_texts -- --fault
   built run --package compare_texts -- "${TEXTS:-2000}"
 fi
+status=0
+wait "$comparing" || status=$?
+cat "$compared"
+exit "$status"

@@ -1,33 +1,31 @@
 -- An arrival of the code is the one on the sampled world: refused, not accepted, or the calls that it counts as. Assumes nothing.
 use mathlib.Core.Path.{_≡_, refl, sym, ap, _∙_, subst}
-use mathlib.Core.Option.{Option, none, some}
+use mathlib.Core.Option.{none, some}
 use mathlib.Core.List.{List}
 use Prim.Native.Nat.{ℕ}
 use lib.Ieee.{Float}
 use Rattle.sampler.specs.Sample.{Entry}
-use Rattle.cuttree.specs.Run.{World, Refusal, numberOf, Query, query, Answer, refused, Call, worldAfter, answers}
-use Rattle.cuttree.specs.Counts.{Counts, countAll}
-use Rattle.cuttree.specs.Graph.{View}
+use Rattle.cuttree.specs.Run.{World, Refusal, refused, worldAfter}
+use Rattle.cuttree.specs.Counts.{Counts}
 use Rattle.cuttree.specs.Demand3.{viewOf}
 use Rattle.cuttree.proofs.Keeps.{Inv}
 use Rattle.wholetree.specs.Whole.{whole}
 use Rattle.wholetree.proofs.Laws.{whole-laws}
 use Rattle.sampledtree.specs.Sampled.{Sampled, SampledAnswer, plain, notAccepted, accepted, arrive, call}
-use Rattle.sampledtree.specs.Arrivals.{countsAs, answersAs, AsCalls, Arrives}
+use Rattle.sampledtree.specs.Arrivals.{countsAs, Arrives}
 use Rattle.sampledtree.proofs.Arrivals.{every-arrival}
-use Rattle.treestore.specs.Arrays.{Lent}
 use Rattle.randomcuttree.specs.declared.RCFTree.{RCFTree}
-use Rattle.randomcuttree.specs.State.{State, headerOf}
+use Rattle.randomcuttree.specs.State.{State}
 use Rattle.samplerplustree.specs.declared.SamplerPlusTree.{SamplerPlusTree}
 use Rattle.samplerplustree.specs.State.{headOf, SampledState}
 use Rattle.samplerplustree.specs.Updates.{updateSays, headUpdated}
 use Rattle.demand3.specs.Heard.{heardUpdate}
-use Rattle.demand3.specs.Steps.{Sample, Kept, headIn, arrives, CallStep, ArrivalStep}
-use Rattle.demand3.specs.Answered.{Answered}
-use Rattle.demand3.specs.Claim.{countEvent, EventClaim}
+use Rattle.demand3.specs.Steps.{Sample, Kept, headIn, ArrivalStep}
+use Rattle.demand3.specs.Answered.{countArrival, ArrivalClaim}
+use Rattle.demand3.specs.Claim.{Gives}
 use Rattle.demand3.proofs.Heard.{refusal-is}
 use Rattle.demand3.proofs.Asked.{asked-is}
-use Rattle.demand3.proofs.Answered.{inv-all, answered-from}
+use Rattle.demand3.proofs.Answered.{accepted-as}
 use Rattle.demand3.proofs.Sampled.{sampledAt, SampledAs, OfWorld}
 use Rattle.demand3.proofs.Steps.{Stands}
 
@@ -40,11 +38,6 @@ module _ (d c : ℕ) (s : Float) where
   heard-arrival X i w ws (accepted j none, Y) A = (refl, refl)
   heard-arrival X i w ws (accepted j (some e), Y) A = (refl, refl)
 
-  -- the counts after the calls that an arrival counts as
-  counted : (i : ℕ) (w : Float) (x : ℕ) (ws : List ℕ) (j n : ℕ) (e : Option ℕ) (K : Counts (whole d)) → countAll (whole d) (countsAs (whole d) e i ws) (answersAs (whole d) e j n) K ≡ countEvent d c s (arrives i w x ws) (accepted j e) K
-  counted i w x ws j n none K = refl
-  counted i w x ws j n (some e) K = refl
-
   -- what a sampled world's state says of what is kept
   pub stands-at : (W : World (whole d)) (x : Kept) (p : Sample) → x .sample ≡ some p → SampledAs d c s x p W → Stands d c s W x
   stands-at W x p e B = (subst (λ (t : RCFTree). State d c s W t (x .arrays) (x .points) (x .marks)) (sym (ap (λ (h : SamplerPlusTree). h .tree) (B .state .head-is))) (B .state .tree-is), subst (OfWorld d c s W x) (sym e) B)
@@ -54,24 +47,23 @@ module _ (d c : ℕ) (s : Float) where
     pub record Left (o : SampledAnswer (whole d)) (y : Kept) : Type 0 where
       pub world : World (whole d)
       pub stands : Stands d c s world y
-      pub counts : Inv (whole d) c world (countEvent d c s (arrives i w t ws) o K)
-      pub claim : EventClaim d c s (viewOf (whole d) c W K) K (arrives i w t ws) o y
+      pub counts : Inv (whole d) c world (countArrival d c i ws o K)
+      pub claim : ArrivalClaim d c (viewOf (whole d) c W K) (Gives d c s y) K i ws o
 
     left-by : (f : Float) (ks : List Entry) (o : SampledAnswer (whole d)) (y : Kept) (q : Sample) → y .sample ≡ some q → (z : SampledAnswer (whole d) × Sampled (whole d)) → Arrives (whole d) (sampledAt d c s f W ks) i w ws z → o ≡ z .0
         → SampledState d s (z .1) (headIn (y .tree) q) (y .arrays) (y .points) (y .marks) (q .weights) (q .held) → Left o y
-    left-by f ks o y q e (plain a, Y) (r, same) h S = rw h (record { world = W; stands = stands-at W y q e (record { initial = f; entries = ks; state = rw same at S }); counts = I; claim = tt })
-    left-by f ks o y q e (notAccepted, Y) same h S = rw h (record { world = W; stands = stands-at W y q e (record { initial = f; entries = ks; state = rw same at S }); counts = I; claim = tt })
+    left-by f ks o y q e (plain a, Y) (r, same) h S =
+        let T = stands-at W y q e (record { initial = f; entries = ks; state = rw same at S }) in
+        rw h (record { world = W; stands = T; counts = I; claim = (r, asked-is d c s W y (T .0)) })
+    left-by f ks o y q e (notAccepted, Y) same h S =
+        let T = stands-at W y q e (record { initial = f; entries = ks; state = rw same at S }) in
+        rw h (record { world = W; stands = T; counts = I; claim = asked-is d c s W y (T .0) })
     left-by f ks o y q e (accepted j m, Y) (A, top, agrees) h S =
-        let es = countsAs (whole d) m i ws in
-        let after = worldAfter (whole d) c W es in
+        let after = worldAfter (whole d) c W (countsAs (whole d) m i ws) in
         let B : SampledAs d c s y q after = record { initial = f; entries = A .entries; state = subst (λ (Z : Sampled (whole d)). SampledState d s Z (headIn (y .tree) q) (y .arrays) (y .points) (y .marks) (q .weights) (q .held)) (A .leaves) S } in
         let T = stands-at after y q e B in
-        rw h (record {
-          world = after;
-          stands = T;
-          counts = subst (λ (K′ : Counts (whole d)). Inv (whole d) c after K′) (ap (λ (as′ : List (Answer (whole d))). countAll (whole d) es as′ K) (A .answered) ∙ counted i w t ws j (A .words) m K) (inv-all d c W K es I);
-          claim = (A .words, subst (Answered d c _ K es) (A .answered) (answered-from d c (λ H. (q : Query) (a : Answer (whole d)) (z : Kept) → CallStep d y (query q) a z → a ≡ H .asked q) W K es I (λ K′ I′. asked-is d c s after y (T .0))));
-        })
+        let (counts, claim) = accepted-as d c (Gives d c s y) W K i ws j (A .words) m I (A .answered) (λ K′ I′. asked-is d c s after y (T .0)) in
+        rw h (record { world = after; stands = T; counts = counts; claim = (A .words, claim) })
 
     pub arrival-is : OfWorld d c s W x (x .sample) → (o : SampledAnswer (whole d)) (y : Kept) → ArrivalStep d x i w t ws o y → Left o y
     arrival-is B o y step =

@@ -6,4 +6,5 @@ pub mod Answered
 pub mod Sampled
 pub mod Steps
 pub mod Arrivals
+pub mod Reports
 pub mod Claim

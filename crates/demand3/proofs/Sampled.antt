@@ -1,5 +1,5 @@
 -- The sample that is kept beside a world: what puts and arrivals leave of it, and what it says of the counts. Assumes nothing.
-use mathlib.Core.Path.{_≡_, refl, sym, ap, ap₂, _∙_, subst, fun-ext}
+use mathlib.Core.Path.{_≡_, refl, sym, ap, _∙_, subst, fun-ext}
 use mathlib.Core.Option.{Option, none, some}
 use mathlib.Core.List.{List, [], _∷_, _++_, map}
 use Prim.Native.Nat.{ℕ}
@@ -16,12 +16,12 @@ use Rattle.wholetree.specs.Whole.{whole}
 use Rattle.pointstore.specs.declared.PutAnswer.{PutAnswer}
 use Rattle.pointstore.specs.Puts.{PutDone}
 use Rattle.sampledtree.specs.Sampled.{Sampled}
-use Rattle.sampledtree.specs.Arrivals.{keptOf}
+use Rattle.sampledtree.specs.Arrivals.{keptOf, Agrees}
 use Rattle.samplerplustree.specs.declared.SamplerPlusTree.{SamplerPlusTree}
 use Rattle.samplerplustree.specs.State.{samplerOf, SampledState}
 use Rattle.samplerplustree.proofs.Standing.{puts-keep-sampled}
 use Rattle.demand3.specs.Steps.{Sample, Kept, headIn, SameTree}
-use Rattle.demand3.specs.Claim.{SampleClaim, OfSample}
+use Rattle.demand3.specs.Claim.{OfSample}
 
 -- the entries that slots are read as are those that they keep
 entries-read : (ks : List Entry) (ws : List Float) (ps : List ℕ) → entriesIn (length ks) (map (λ k. k .weight) ks ++ ws) (map (λ k. k .index) ks ++ ps) ≡ ks
@@ -57,6 +57,10 @@ module _ (d c : ℕ) (s : Float) where
     put-keeps B = subst (OfWorld (call (whole d) c W (put i xs) .1) y) (sym (same .sample)) (put-sampled (x .sample) B)
 
   -- THE COUNTS number the kept arrivals of each value
+  pub kept-numbers : (f : Float) (W : World (whole d)) (ks : List Entry) (K : Counts (whole d)) → Inv (whole d) c W K → Agrees (whole d) (sampledAt f W ks)
+      → (v : Reading) → K .number v ≡ keptOf (whole d) (K .kept) ks v
+  kept-numbers f W ks K I A v = sym (I .number-is v) ∙ A .values-are v ∙ ap (λ (g : ℕ → Option Reading). keptOf (whole d) g ks v) (fun-ext (I .kept-is))
+
   sample-claim : (W : World (whole d)) (K : Counts (whole d)) (x : Kept) → Inv (whole d) c W K → (o : Option Sample) → OfWorld W x o → OfSample d c s o K
   sample-claim W K x I none B = tt
   sample-claim W K x I (some p) B =
@@ -65,8 +69,7 @@ module _ (d c : ℕ) (s : Float) where
       let A = B .state .agrees in
       record {
         room = omega (arith, n, A .room);
-        kept = λ v. sym (I .number-is v) ∙ A .values-are v ∙ ap₂ (λ f ks. keptOf (whole d) f ks v) (fun-ext (I .kept-is))
-            (sym (rw (n, B .state .weights-are, B .state .held-are) (entries-read (B .entries) _ _)));
+        kept = rw (n, B .state .weights-are, B .state .held-are, entries-read (B .entries)) (kept-numbers (B .initial) W (B .entries) K I A);
       }
 
   pub of-sample : (W : World (whole d)) (K : Counts (whole d)) (x : Kept) → Inv (whole d) c W K → OfWorld W x (x .sample) → OfSample d c s (x .sample) K

@@ -9,7 +9,7 @@ use Rattle.wholetree.specs.Whole.{whole}
 use Rattle.pointstore.specs.declared.PutAnswer.{PutAnswer}
 use Rattle.pointstore.specs.Puts.{Puts}
 use Rattle.sampler.specs.declared.Sampler.{Sampler}
-use Rattle.sampledtree.specs.Sampled.{SampledAnswer, plain}
+use Rattle.sampledtree.specs.Sampled.{SampledAnswer}
 use Rattle.treestore.specs.Arrays.{Lent}
 use Rattle.randomcuttree.specs.declared.RCFTree.{RCFTree}
 use Rattle.randomcuttree.specs.declared.AddAnswer.{AddAnswer}
@@ -20,6 +20,8 @@ use Rattle.randomcuttree.specs.Queries.{copiesRead, branchRead, BoxTold}
 use Rattle.samplerplustree.specs.declared.SamplerPlusTree.{SamplerPlusTree}
 use Rattle.samplerplustree.specs.declared.UpdateAnswer.{UpdateAnswer}
 use Rattle.samplerplustree.specs.Updates.{UpdateDone, headUpdated}
+use Rattle.nodeview.specs.declared.ReportAnswer.{ReportAnswer}
+use Rattle.nodeview.specs.Told.{ReportTold}
 use Rattle.demand3.specs.Heard.{heardUpdate, heardPut, heardAdd, heardDelete, heardCopies, heardBranch, heardBox}
 
 -- the sample of a sampled tree, with the initial share
@@ -51,11 +53,12 @@ pub record SameTree (x y : Kept) : Type 0 where
 abbrev pub headIn : RCFTree → Sample → SamplerPlusTree
 headIn t p = record { tree = t; sampler = p .sampler; «initial_accept_fraction» = p .initial }
 
--- What a caller does: a call, or an arrival with its point index, weight, word for the starting chance and words for the tree. 'A sampled
--- tree takes arrivals only, a bare tree adds and deletes only'; puts and queries stand on both.
+-- What a caller does: a call; an arrival with its point index, weight, word for the starting chance and words for the tree; or a report, with
+-- the lent rows, of a query's coordinates. 'A sampled tree takes arrivals only, a bare tree adds and deletes only'; the rest stands on both.
 pub data Event (d : ℕ) : Type 0 where
   calls : Call (whole d) → Event d
   arrives : ℕ → Float → ℕ → List ℕ → Event d
+  reports : List (List ℕ) → List Float → Event d
 
 module _ (d : ℕ) where
   -- A call on x that answers a and leaves y, on a tree of d channels, exactly as the contract of `RCFTree`'s function ensures it. 'Each call
@@ -80,6 +83,14 @@ module _ (d : ℕ) where
     pub head : headIn (y .tree) after ≡ headUpdated (headIn (x .tree) before) answer
     pub table : SameTable x y
 
-  abbrev pub Step : Kept → Event d → SampledAnswer (whole d) → Kept → Type 0
-  Step x (calls e) o y = (a : Answer (whole d)) × (o ≡ plain a) × CallStep x e a y
+  -- what an event is answered; a report also leaves the rows that it was lent
+  abbrev pub AnswerTo : Event d → Type 0
+  AnswerTo (calls e) = Answer (whole d)
+  AnswerTo (arrives i w c ws) = SampledAnswer (whole d)
+  AnswerTo (reports lent xs) = ReportAnswer × List (List ℕ)
+
+  -- a report is as the contract of `traverse` ensures it
+  abbrev pub Step : Kept → (e : Event d) → AnswerTo e → Kept → Type 0
+  Step x (calls e) a y = CallStep x e a y
   Step x (arrives i w c ws) o y = ArrivalStep x i w c ws o y
+  Step x (reports lent xs) (r, rows) y = ReportTold (x .tree) (x .arrays .nodes) (x .arrays .cuts) (x .arrays .copies) (x .points) (x .arrays .boxes) xs lent r rows × (y ≡ x)

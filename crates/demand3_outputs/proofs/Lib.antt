@@ -1,3 +1,4 @@
 pub mod Made
+pub mod Numbers
 pub mod Run
 pub mod Text

@@ -1,76 +1,136 @@
 -- The answers of a byte run are as demand 3 says, and written. Assumes nothing.
-use mathlib.Core.Path.{_≡_, refl, sym, ap, ap₂, _∙_}
-use mathlib.Core.Option.{Option, none, some}
+use mathlib.Core.Path.{_≡_, refl, sym, ap, ap₂, _∙_, subst}
+use mathlib.Core.Bool.{Bool, true, cond}
 use mathlib.Core.List.{List, [], _∷_, _++_}
-use Prim.Native.Nat.{ℕ, _+_, _*_, _-_, _≤_}
+use Prim.Native.Nat.{ℕ, _≤_}
 use native.Mathlib.Omega.{arith}
-use lib.ListN.{replicate, getD-replicate, replicate-append-replicate}
-use lib.Ieee.{Float, nan, binary32, toBits}
+use lib.Ieee.{Float}
 use Rattle.limits.specs.Limits.{width}
 use Rattle.readings.specs.Number.{nought}
-use Rattle.cuttree.specs.Tree.{Tree, leaf, branch}
-use Rattle.cuttree.specs.Run.{World, Call, put, add, delete, query, copiesOf, branchOf, boxOf, call, answers, fresh, lookIn, copiesFound, branchFound, boxFound}
-use Rattle.cuttree.proofs.Refused.{by-put, by-add, by-delete}
-use Rattle.wholetree.specs.Whole.{whole, tab}
-use Rattle.layout.specs.Layout.{noEnds}
-use Rattle.layout.proofs.Tabs.{same-tab, constant}
-use Rattle.pointstore.specs.Puts.{putSays}
-use Rattle.randomcuttree.specs.State.{headerOf}
-use Rattle.randomcuttree.specs.Answers.{addSays, deleteSays}
-use Rattle.randomcuttree.specs.Queries.{copiesSay, branchSays, boxSays}
-use Rattle.randomcuttree.specs.declared.Made.{Made}
-use Rattle.answers.specs.Said.{putNumbers, addNumbers, deleteNumbers, copiesNumbers, branchNumbers, boxNumbers, endBits, said, saidFrom}
-use Rattle.runlayout.specs.Layout.{channels, capacity, share}
-use Rattle.run.specs.Outcome.{given, answered, outcomeOf}
-use Rattle.demand3.proofs.Answered as Demand3
-use Rattle.demand3_outputs.specs.Run.{numbersOf, allNumbers, RunsAnswer}
-use Rattle.demand3_outputs.proofs.Made.{taken}
+use Rattle.sampler.specs.Sample.{Entry}
+use Rattle.cuttree.specs.Run as Bare
+use Rattle.cuttree.specs.Run.{World, Call, put, add, delete, query, worldAfter}
+use Rattle.cuttree.specs.Counts.{Counts, nothing, count}
+use Rattle.cuttree.specs.Graph.{View}
+use Rattle.cuttree.specs.Demand3.{viewOf}
+use Rattle.cuttree.proofs.Tests.{clash}
+use Rattle.cuttree.proofs.Keeps.{Inv, inv-call, inv-fresh}
+use Rattle.cuttree.proofs.Claims.{call-claim}
+use Rattle.wholetree.specs.Whole.{whole}
+use Rattle.wholetree.proofs.Laws.{whole-laws}
+use Rattle.sampledtree.specs.Sampled.{Sampled, SampledAnswer, plain as bare, notAccepted, accepted, arrive, call}
+use Rattle.sampledtree.specs.Arrivals.{Agrees, Arrives, countsAs}
+use Rattle.sampledtree.proofs.Arrivals.{every-arrival}
+use Rattle.sampledtree.proofs.Keeps.{every-put, fresh-agrees}
+use Rattle.samplerplustree.specs.declared.MadeSampled.{MadeSampled}
+use Rattle.samplerplustree.specs.State.{headOf}
+use Rattle.samplerplustree.specs.Updates.{updateSays}
+use Rattle.nodeview.specs.Report.{reportOf}
+use Rattle.demand3.specs.Answered.{SameTree}
+use Rattle.demand3.proofs.Answered.{seen, leaves-tree, accepted-as}
+use Rattle.demand3.proofs.Sampled.{sampledAt, kept-numbers}
+use Rattle.demand3.proofs.Reports.{report-rows}
+use Rattle.arrivals.specs.Arrived as Code
+use Rattle.runlayout.specs.Layout.{RunCall, plain, arrives, reports, sample, isSampled, channels, capacity, share, initial}
+use Rattle.runlayout.proofs.OfKind.{OfKind, AllOfKind, calls-kind}
+use Rattle.runsteps.specs.Told.{told, left, toldFrom}
+use Rattle.run.specs.Outcome.{given, begun, answered, outcomeOf}
+use Rattle.demand3_outputs.specs.Run.{RunAnswer, RunAnswers, numbersOf, allNumbers, countCall, RunClaim, RunAnswered, RunsAnswer}
+use Rattle.demand3_outputs.proofs.Made.{taken-by}
+use Rattle.demand3_outputs.proofs.Numbers.{numbers-are, arrival-numbers}
 
--- +0.0 has no bit
-no-bits : toBits binary32 nought ≡ 0
-unfolding toBits
-no-bits = refl
+-- what the calls of a run are answered
+module _ (d : ℕ) (s : Float) where
+  abbrev answerTo : Sampled (whole d) → (e : RunCall d) → RunAnswer d e
+  answerTo X (plain e) = Bare.call (whole d) (X .capacity) (X .world) e .0
+  answerTo X (arrives i w x ws) = call (whole d) X (arrive i w x ws) .0
+  answerTo X (reports n xs) = reportOf d (X .capacity) (X .world) n xs
+  answerTo X sample = X .sample
 
-module _ (d c : ℕ) (s : Float) (few : d ≤ width) where
-  no-ends : endBits d noEnds ≡ replicate d 0
-  no-ends = same-tab 0 d _ (λ (i : ℕ). 0) (λ i h. ap (toBits binary32) (getD-replicate width i nought nan (omega (arith, few, h))) ∙ no-bits) ∙ sym (constant d 0 (λ (i : ℕ). 0) (λ i. refl))
+  abbrev answersTo : Sampled (whole d) → (es : List (RunCall d)) → RunAnswers d es
+  answersTo X [] = tt
+  answersTo X (e ∷ es) = (answerTo X e, answersTo (left d s X e) es)
 
-  no-box : endBits d noEnds ++ endBits d noEnds ≡ replicate (1 + 2 * d - 1) 0
-  no-box = let n : d + d ≡ 1 + 2 * d - 1 = omega arith in ap₂ _++_ no-ends no-ends ∙ replicate-append-replicate d d 0 ∙ ap (λ (m : ℕ). replicate m 0) n
+-- A call, from a world that agrees with the counts, and with the sample where there is one.
+module _ (d c : ℕ) (s : Float) (few : d ≤ width) (sampled : Bool) (f : Float) where
+  abbrev at : World (whole d) → List Entry → Sampled (whole d)
+  at W ks = sampledAt d c s f W ks
 
-  copies-numbers : (x : ℕ) (o : Option (Tree (whole d))) → copiesNumbers (copiesSay d (copiesFound (whole d) o)) ≡ numbersOf d (query (copiesOf x)) (copiesFound (whole d) o)
-  copies-numbers x none = refl
-  copies-numbers x (some (leaf i q n)) = refl
-  copies-numbers x (some (branch b k g l r)) = refl
+  record Kept (W : World (whole d)) (ks : List Entry) (K : Counts (whole d)) : Type 0 where
+    counts : Inv (whole d) c W K
+    agrees : sampled ≡ true → Agrees (whole d) (at W ks)
 
-  branch-numbers : (x : ℕ) (o : Option (Tree (whole d))) → branchNumbers (branchSays d (branchFound (whole d) c o)) ≡ numbersOf d (query (branchOf x)) (branchFound (whole d) c o)
-  branch-numbers x none = refl
-  branch-numbers x (some (leaf i q n)) = refl
-  branch-numbers x (some (branch b k g l r)) = refl
+  -- the world and the sample that a call leaves, its claim, and the numbers of its answer
+  record Step (W : World (whole d)) (K : Counts (whole d)) (e : RunCall d) (a : RunAnswer d e) (X : Sampled (whole d)) (ns : List ℕ) : Type 0 where
+    world : World (whole d)
+    entries : List Entry
+    leaves : X ≡ at world entries
+    kept : Kept world entries (countCall d c e a K)
+    claim : RunClaim d c (viewOf (whole d) c W K) K e a (viewOf (whole d) c world (countCall d c e a K))
+    numbers-are : ns ≡ numbersOf d c e a
 
-  box-numbers : (x : ℕ) (o : Option (Tree (whole d))) → boxNumbers d (boxSays d (boxFound (whole d) o)) ≡ numbersOf d (query (boxOf x)) (boxFound (whole d) o)
-  box-numbers x none = ap (λ (l : List ℕ). 16 ∷ l) no-box
-  box-numbers x (some (leaf i q n)) = ap (λ (l : List ℕ). 16 ∷ l) no-box
-  box-numbers x (some (branch b k g l r)) = refl
+  module _ (W : World (whole d)) (ks : List Entry) (K : Counts (whole d)) (k : Kept W ks K) where
+    plain-agrees : (e : Call (whole d)) → OfKind {d = d} sampled (plain e) → sampled ≡ true → Agrees (whole d) (at (Bare.call (whole d) c W e .1) ks)
+    plain-agrees (put i xs) o t = every-put (whole d) (whole-laws d) (at W ks) i xs (k .agrees t)
+    plain-agrees (add i ws) o t = clash sampled t o
+    plain-agrees (delete i) o t = clash sampled t o
+    plain-agrees (query q) o t = k .agrees t
 
-  -- the numbers of a call's answer are those of docs/LAYOUT.md
-  numbers-are : (W : World (whole d)) (e : Call (whole d)) → said d c s e (call (whole d) c W e) ≡ numbersOf d e (call (whole d) c W e .0)
-  numbers-are W (put i xs) = by-put (whole d) c (λ x. putNumbers (putSays d (x .0)) ≡ numbersOf d (put i xs) (x .0)) W (λ m. refl) i xs (λ U _. refl)
-  numbers-are W (add i ws) = by-add (whole d) c (λ x. addNumbers (addSays d (headerOf d c s (x .1)) (x .0)) ≡ numbersOf d (add i ws) (x .0)) W (λ m. refl) i ws (λ j n U _. refl)
-  numbers-are W (delete i) = by-delete (whole d) c (λ x. deleteNumbers (deleteSays d (headerOf d c s (x .1)) (x .0)) ≡ numbersOf d (delete i) (x .0)) W (λ m. refl) i (λ j U _. refl)
-  numbers-are W (query (copiesOf x)) = copies-numbers x (lookIn (whole d) c (W .tree) x)
-  numbers-are W (query (branchOf x)) = branch-numbers x (lookIn (whole d) c (W .tree) x)
-  numbers-are W (query (boxOf x)) = box-numbers x (lookIn (whole d) c (W .tree) x)
+    arrival : (i : ℕ) (w : Float) (x : ℕ) (ws : List ℕ) (z : SampledAnswer (whole d) × Sampled (whole d)) → Arrives (whole d) (at W ks) i w ws z
+        → Step W K (arrives i w x ws) (z .0) (z .1) (Code.arrivalNumbers (updateSays d (headOf d s (z .1)) (z .0)))
+    arrival i w x ws (bare a, Y) (r, same) = record { world = W; entries = ks; leaves = same; kept = k; claim = (r, λ q. refl); numbers-are = arrival-numbers d s (at W ks) i w ws (bare a, Y) (r, same) }
+    arrival i w x ws (notAccepted, Y) same = record { world = W; entries = ks; leaves = same; kept = k; claim = λ q. refl; numbers-are = refl }
+    arrival i w x ws (accepted j m, Y) (A, top, agree) =
+        let after = worldAfter (whole d) c W (countsAs (whole d) m i ws) in
+        let H = viewOf (whole d) c after (countCall d c (arrives i w x ws) (accepted j m) K) in
+        let (I, answered) = accepted-as d c (λ T. SameTree d c T H) W K i ws j (A .words) m (k .counts) (A .answered) (λ K′ I′ q. refl) in
+        record {
+          world = after;
+          entries = A .entries;
+          leaves = A .leaves;
+          kept = record { counts = I; agrees = λ _. subst (Agrees (whole d)) (A .leaves) agree };
+          claim = (A .words, answered);
+          numbers-are = arrival-numbers d s (at W ks) i w ws (accepted j m, Y) (A, top, agree);
+        }
 
-  all-numbers : (W : World (whole d)) (es : List (Call (whole d))) → saidFrom d c s W es ≡ allNumbers d es (answers (whole d) c W es)
-  all-numbers W [] = refl
-  all-numbers W (e ∷ es) = ap₂ _++_ (numbers-are W e) (all-numbers (call (whole d) c W e .1) es)
+    step : (e : RunCall d) → OfKind sampled e → Step W K e (answerTo d s (at W ks) e) (left d s (at W ks) e) (told d s (at W ks) e)
+    step (plain e) o = record {
+      world = Bare.call (whole d) c W e .1;
+      entries = ks;
+      leaves = refl;
+      kept = record { counts = inv-call (whole d) c (whole-laws d) W K e (k .counts); agrees = plain-agrees e o };
+      claim = (call-claim (whole d) c (whole-laws d) W K e (k .counts), leaves-tree d c W K (count (whole d) e (Bare.call (whole d) c W e .0) K) e);
+      numbers-are = numbers-are d c s few W e;
+    }
+    step (arrives i w x ws) o = arrival i w x ws (call (whole d) (at W ks) (arrive i w x ws)) (every-arrival (whole d) (whole-laws d) (at W ks) i w x ws (k .agrees o))
+    step (reports n xs) o = record { world = W; entries = ks; leaves = refl; kept = k; claim = (report-rows d c K n xs W (k .counts), λ q. refl); numbers-are = refl }
+    step sample o =
+        let A = k .agrees o in
+        record { world = W; entries = ks; leaves = refl; kept = k; claim = (record { room = A .room; kept = kept-numbers d c s f W ks K (k .counts) A }, λ q. refl); numbers-are = refl }
+
+  -- all calls
+  abbrev Runs : View (whole d) → Counts (whole d) → List (RunCall d) → Sampled (whole d) → Type 0
+  Runs G K es X = RunAnswered d c G K es (answersTo d s X es) × (toldFrom d s X es ≡ allNumbers d c es (answersTo d s X es))
+
+  runs : (W : World (whole d)) (ks : List Entry) (K : Counts (whole d)) (es : List (RunCall d)) → Kept W ks K → AllOfKind sampled es → Runs (viewOf (whole d) c W K) K es (at W ks)
+  runs W ks K [] k o = (seen d c W K (k .counts), refl)
+  runs W ks K (e ∷ es) k (o, os) =
+      let T = step W ks K k e o in
+      let K′ = countCall d c e (answerTo d s (at W ks) e) K in
+      let H = viewOf (whole d) c (T .world) K′ in
+      let (A, N) = subst (Runs H K′ es) (sym (T .leaves)) (runs (T .world) (T .entries) K′ es (T .kept) os) in
+      ((seen d c W K (k .counts), (H, T .claim, A)), ap₂ _++_ (T .numbers-are) N)
 
 pub runs-answer : RunsAnswer
-runs-answer run lent es tree C M =
-    let (few, room) = taken (channels run) (capacity run) (share run) tree M in
-    let world = fresh (whole (channels run)) (capacity run) in (
-      answers (whole (channels run)) (capacity run) world es,
-      Demand3.answered (channels run) (capacity run) (λ G. Unit {0}) room es (λ K I. tt),
-      ap (λ o. outcomeOf run o lent) C ∙ ap (λ (m : Made). given (answered run m es) lent) M ∙ ap (λ (l : List ℕ). given (0 ∷ l) lent) (all-numbers (channels run) (capacity run) (share run) few world es),
+runs-answer run lent es h C M =
+    let d = channels run in
+    let c = capacity run in
+    let s = share run in
+    let f = cond (isSampled run) (initial run) nought in
+    let (few, room, small) = taken-by run h M in
+    let (A, N) = runs d c s few (isSampled run) f (Bare.fresh (whole d) c) [] (nothing (whole d)) es (record { counts = inv-fresh (whole d) c room; agrees = λ _. fresh-agrees (whole d) c f room (omega (arith, small)) }) (calls-kind run es C) in (
+      answersTo d s (begun run) es,
+      viewOf (whole d) c (Bare.fresh (whole d) c) (nothing (whole d)),
+      A,
+      ap (λ o. outcomeOf run o lent) C ∙ ap (λ (m : MadeSampled). given (answered run m es) lent) M ∙ ap (λ (l : List ℕ). given (0 ∷ l) lent) N,
     )

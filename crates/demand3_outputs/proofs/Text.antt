@@ -6,7 +6,7 @@ use mathlib.Core.List.{List, [], _∷_, _++_, map, append-assoc}
 use Prim.Native.Nat.{ℕ, _+_}
 use Rattle.cuttree.specs.Tree.{Tree, leaf, branch, id}
 use Rattle.cuttree.specs.Run.{World, call, answers, worldAfter, fresh}
-use Rattle.cuttree.specs.Counts.{Counts}
+use Rattle.cuttree.specs.Counts.{Counts, nothing}
 use Rattle.cuttree.specs.Graph.{IsNode}
 use Rattle.cuttree.specs.Demand3.{viewOf}
 use Rattle.cuttree.proofs.Tests.{nonsense}
@@ -70,6 +70,7 @@ texts-answer text m os tree P M =
     let last = worldAfter (whole d) c (fresh (whole d) c) es in (
       answers (whole d) c (fresh (whole d) c) es,
       linesIn d c (last .tree),
+      viewOf (whole d) c (fresh (whole d) c) (nothing (whole d)),
       Demand3.answered d c (Listing d (linesIn d c (last .tree))) (taken d c (sixteenthsOf (m .sixteenths)) tree M .1) es (λ K I. listing-of d c (last .table) (last .free) K (last .tree) I),
       ap outputOf P ∙ ap (λ (x : Made). outputBy d c x os) M ∙ output-is d c (fresh (whole d) c) 0 os,
     )

@@ -41,6 +41,6 @@ module _ (d : ℕ) where
 -- then the names, then the last tree in its lines. `output` is what the text's promise ensures.
 abbrev pub TextsAnswer : Type 0
 TextsAnswer = (text : List ℕ) (m : Making) (os : List Op) (tree : RCFTree) → parsed text ≡ read m os → madeBy (m .channels) (m .capacity) (sixteenthsOf (m .sixteenths)) ≡ Tree tree
-    → (as′ : List (Answer (whole (m .channels)))) × (lines : List ℕ)
-    × Answered (m .channels) (m .capacity) (Listing (m .channels) lines) (nothing (whole (m .channels))) (map (callOf (m .channels)) os) as′
+    → (as′ : List (Answer (whole (m .channels)))) × (lines : List ℕ) × (G : View (whole (m .channels)))
+    × Answered (m .channels) (m .capacity) (Listing (m .channels) lines) G (nothing (whole (m .channels))) (map (callOf (m .channels)) os) as′
     × (output text ≡ toldRows (m .channels) 0 as′ ++ (namesLine ++ lines))

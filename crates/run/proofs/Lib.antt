@@ -1,6 +1,5 @@
-pub mod Widths
 pub mod Given
-pub mod Starts
-pub mod Checking
-pub mod Makes
 pub mod Turns
+pub mod Starts
+pub mod Makings
+pub mod Checking

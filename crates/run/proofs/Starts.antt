@@ -4,42 +4,39 @@ use mathlib.Core.List.{List, _∷_}
 use Prim.Native.Nat.{ℕ, _+_, _*_}
 use native.Mathlib.Omega.{arith}
 use lib.ListN.{length}
-use lib.Ieee.{Float}
 use lib.Seq.{sets, length-sets}
 use Rattle.little.specs.Little.{bytes32, bytesOf}
 use Rattle.little.proofs.Stored.{sets-append}
-use Rattle.cuttree.specs.Run.{World, Call}
-use Rattle.wholetree.specs.Whole.{whole}
-use Rattle.randomcuttree.specs.declared.RCFTree.{RCFTree}
-use Rattle.treestore.specs.Arrays.{Lent}
-use Rattle.answers.specs.Said.{saidFrom}
+use Rattle.samplerplustree.specs.declared.SamplerPlusTree.{SamplerPlusTree}
+use Rattle.runlayout.specs.Layout.{RunCall, makingWidth, channels, capacity, share}
 use Rattle.runlayout.specs.Check.{widths}
-use Rattle.run.specs.Outcome.{given}
+use Rattle.runsteps.specs.Told.{toldFrom}
+use Rattle.runsteps.specs.Standing.{Kept}
+use Rattle.runsteps.proofs.Capacity.{length-all}
+use Rattle.run.specs.Outcome.{given, begun}
 use Rattle.run.specs.Running.{Running, Started}
-use Rattle.run.proofs.Widths.{length-all}
 use Rattle.run.proofs.Given.{given-whole}
 
-module _ (d c : ℕ) (s : Float) (W : World (whole d)) (cs : List (Call (whole d))) (run : List ℕ) (tree : RCFTree) (a : Lent) (points : List (List Float)) (marks lent e : List ℕ)
-    (S : Started d c s W cs run tree a points marks lent) (first : e ≡ sets lent 0 (bytes32 0)) where
+module _ (run : List ℕ) (cs : List (RunCall (channels run))) (h : SamplerPlusTree) (k : Kept) (lent e : List ℕ) (S : Started run cs h k lent) (first : e ≡ sets lent 0 (bytes32 0)) where
+  abbrev numbers : List ℕ
+  numbers = toldFrom (channels run) (share run) (begun run) cs
+
   length-first : length e ≡ length lent
   length-first = ap length first ∙ length-sets lent 0 (bytes32 0)
 
-  pub start : Running run 5 1 tree a points marks e (sets e 4 (bytesOf (saidFrom d c s W cs))) (1 + widths d cs)
+  pub start : Running run (makingWidth run) 1 h k e (sets e 4 (bytesOf numbers)) (1 + widths (channels run) (capacity run) cs)
   start = record {
-    channels = d;
-    capacity = c;
-    share = s;
-    world = W;
+    world = begun run;
     calls = cs;
-    state = S .state;
+    standing = S .standing;
     rest = S .rest;
     room = omega (arith, S .room, length-first);
     numbers = refl;
     finish = refl;
   }
 
-  pub gives : (r : ℕ) (last : List ℕ) → (r ≡ 1 + widths d cs) × (last ≡ sets e 4 (bytesOf (saidFrom d c s W cs))) → (4 * r, last) ≡ given (0 ∷ saidFrom d c s W cs) lent
-  gives r last h =
-      let n : length (saidFrom d c s W cs) ≡ widths d cs = length-all d c s W cs in
-      given-whole (0 ∷ saidFrom d c s W cs) lent last (4 * r) (omega (arith, h .0, n)) (omega (arith, S .room, n))
-      (h .1 ∙ ap (λ (l : List ℕ). sets l 4 (bytesOf (saidFrom d c s W cs))) first ∙ sym (sets-append lent 0 (bytes32 0) (bytesOf (saidFrom d c s W cs))))
+  pub gives : (r : ℕ) (last : List ℕ) → (r ≡ 1 + widths (channels run) (capacity run) cs) × (last ≡ sets e 4 (bytesOf numbers)) → (4 * r, last) ≡ given (0 ∷ numbers) lent
+  gives r last f =
+      let n : length numbers ≡ widths (channels run) (capacity run) cs = length-all (channels run) (capacity run) (share run) (begun run) cs refl in
+      given-whole (0 ∷ numbers) lent last (4 * r) (omega (arith, f .0, n)) (omega (arith, S .room, n))
+      (f .1 ∙ ap (λ (l : List ℕ). sets l 4 (bytesOf numbers)) first ∙ sym (sets-append lent 0 (bytes32 0) (bytesOf numbers)))

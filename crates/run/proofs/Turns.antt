@@ -3,133 +3,94 @@ use mathlib.Core.Path.{_≡_, refl, sym, ap, _∙_}
 use mathlib.Core.Bool.{true}
 use mathlib.Core.Option.{Option, some}
 use mathlib.Core.List.{List, [], _∷_}
-use Prim.Native.Nat.{ℕ, zero, suc, _+_, _*_, _≤_, _<_}
+use Prim.Native.Nat.{ℕ, _+_, _*_, _≤_, _<_}
 use native.Mathlib.Omega.{arith}
-use lib.ListN.{length, take}
-use lib.Ieee.{Float}
+use lib.ListN.{length}
 use lib.Seq.{sets, length-sets}
-use Rattle.limits.specs.Limits.{width}
 use Rattle.little.specs.Little.{bytesOf}
 use Rattle.little.proofs.Stored.{sets-append, length-bytes, bytes-append}
-use Rattle.cuttree.specs.Run.{World, Call, put, add, delete, query, copiesOf, branchOf, boxOf, call}
 use Rattle.wholetree.specs.Whole.{whole}
-use Rattle.randomcuttree.specs.declared.RCFTree.{RCFTree}
-use Rattle.randomcuttree.proofs.Parts.{dimensions-are}
-use Rattle.treestore.specs.Arrays.{Lent}
-use Rattle.randomcuttree.specs.State.{SomeState}
-use Rattle.answers.specs.Said.{filled, said, saidFrom, replyWidth}
-use Rattle.calls.specs.Done.{Done, Does}
-use Rattle.runlayout.specs.Layout.{size, number, widthAt, standsAt, callAt, restFrom}
+use Rattle.sampledtree.specs.Sampled.{Sampled}
+use Rattle.samplerplustree.specs.declared.SamplerPlusTree.{SamplerPlusTree}
+use Rattle.runlayout.specs.Layout.{RunCall, size, number, isSampled, channels, capacity, share, widthAt, standsAt, callAt, restFrom}
 use Rattle.runlayout.specs.Check.{widthOf, widths, widthOfKind}
-use Rattle.runlayout.proofs.Rest.{rest-end, Begun, rest-call, is-call, width-kind}
+use Rattle.runlayout.proofs.ByKind.{width-kind}
+use Rattle.runlayout.proofs.Rest.{rest-end, Begun, rest-call, is-call}
+use Rattle.runsteps.specs.Told.{told, left, toldFrom}
+use Rattle.runsteps.specs.Standing.{Kept, Standing, SomeStanding}
+use Rattle.runsteps.specs.Steps.{Room, Stepped, Steps}
+use Rattle.runsteps.proofs.Widths.{length-told}
 use Rattle.run.specs.Running.{Running}
-use Rattle.run.proofs.Widths.{length-said}
 
--- what was filled up with zeros, cut off again
-take-filled : (n : ℕ) (xs : List ℕ) → length xs ≤ n → take (length xs) (filled n xs) ≡ xs
-unfolding filled
-take-filled n [] h = refl
-take-filled zero (x ∷ xs) h = absurd (omega arith)
-take-filled (suc n) (x ∷ xs) h = ap {B = List ℕ} (λ l. x ∷ l) (take-filled n xs (omega arith))
+module _ (run : List ℕ) where
+  module _ (p out : ℕ) (h : SamplerPlusTree) (k : Kept) (answers final : List ℕ) (count : ℕ) (R : Running run p out h k answers final count) where
+    -- at the end
+    ended : (o : Option (List (RunCall (channels run)))) → restFrom run (channels run) p ≡ o → o ≡ some [] → R .calls ≡ []
+    ended o e f = let z : some (R .calls) ≡ some [] = sym (R .rest) ∙ e ∙ f in cc
 
-length-filled : (n : ℕ) (xs : List ℕ) → length (filled n xs) ≡ n
-unfolding filled
-length-filled zero xs = refl
-length-filled (suc n) [] = ap suc (length-filled n [])
-length-filled (suc n) (x ∷ xs) = ap suc (length-filled n xs)
+    pub last : p ≡ size run → (out ≡ count) × (answers ≡ final)
+    last e =
+        let z : R .calls ≡ [] = ended (restFrom run (channels run) p) refl (ap (λ (n : ℕ). restFrom run (channels run) n) e ∙ rest-end run (channels run)) in
+        (omega (arith, R .numbers, ap (widths (channels run) (capacity run)) z), ap (λ (cs : List (RunCall (channels run))). sets answers (4 * out) (bytesOf (toldFrom (channels run) (share run) (R .world) cs))) (sym z) ∙ R .finish)
 
-width-most : (d : ℕ) (x : Call (whole d)) → d ≤ width → widthOf d x ≤ replyWidth
-width-most d (put i xs) h = omega arith
-width-most d (add i ws) h = omega arith
-width-most d (delete i) h = omega arith
-width-most d (query (copiesOf x)) h = omega arith
-width-most d (query (branchOf x)) h = omega arith
-width-most d (query (boxOf x)) h = omega arith
+    module _ (l : p < size run) where
+      begun : Begun run (channels run) p (R .calls)
+      begun = rest-call run (channels run) p (R .calls) l (R .rest)
 
--- by the kind that was read
-pub of-kind : (w d k kind : ℕ) → w ≡ widthOfKind d k → k ≡ kind → w ≡ widthOfKind d kind
-of-kind w d k kind e f = e ∙ ap (λ (n : ℕ). widthOfKind d n) f
+      -- what the call is told
+      pub stands : standsAt run p ≡ true
+      stands = begun .stands
 
-module _ (run : List ℕ) (p out : ℕ) (tree : RCFTree) (a : Lent) (points : List (List Float)) (marks answers final : List ℕ) (count : ℕ) (R : Running run p out tree a points marks answers final count) where
-  -- at the end
-  ended : (o : Option (List (Call (whole (R .channels))))) → restFrom run (R .channels) p ≡ o → o ≡ some [] → R .calls ≡ []
-  ended o e h = let z : some (R .calls) ≡ some [] = sym (R .rest) ∙ e ∙ h in cc
+      pub some-standing : SomeStanding run h k
+      some-standing = record { world = R .world; standing = R .standing }
 
-  pub last : p ≡ size run → (out ≡ count) × (answers ≡ final)
-  last e =
-      let z : R .calls ≡ [] = ended (restFrom run (R .channels) p) refl (ap (λ (n : ℕ). restFrom run (R .channels) n) e ∙ rest-end run (R .channels)) in
-      (omega (arith, R .numbers, ap (widths (R .channels)) z), ap (λ (cs : List (Call (whole (R .channels)))). sets answers (4 * out) (bytesOf (saidFrom (R .channels) (R .capacity) (R .share) (R .world) cs))) (sym z) ∙ R .finish)
+      abbrev here : RunCall (channels run)
+      here = callAt run (channels run) p
 
-  module _ (h : p < size run) where
-    begun : Begun run (R .channels) p (R .calls)
-    begun = rest-call run (R .channels) p (R .calls) h (R .rest)
+      module _ (w : ℕ) (e : w ≡ widthOfKind (channels run) (capacity run) (number run p) (number run (p + 1))) where
+        width-is : w ≡ widthOf (channels run) (capacity run) here
+        width-is = e ∙ sym (width-kind run (channels run) (capacity run) p (isSampled run) (is-call run p stands))
 
-    -- what the call is told
-    pub stands : standsAt run p ≡ true
-    stands = begun .stands
-
-    pub some-state : SomeState tree a points marks
-    some-state = record { channels = R .channels; capacity = R .capacity; share = R .share; world = R .world; state = R .state }
-
-    abbrev here : Call (whole (R .channels))
-    here = callAt run (R .channels) p
-
-    abbrev after : World (whole (R .channels))
-    after = call (whole (R .channels)) (R .capacity) (R .world) here .1
-
-    abbrev told : List ℕ
-    told = said (R .channels) (R .capacity) (R .share) here (call (whole (R .channels)) (R .capacity) (R .world) here)
-
-    module _ (tree′ : RCFTree) (a′ : Lent) (points′ : List (List Float)) (marks′ reply : List ℕ) (does : Does (λ d. callAt run d p) tree a points marks tree′ a′ points′ marks′ reply) where
-      done : Done (R .channels) (R .capacity) (R .share) (R .world) here tree′ a′ points′ marks′ reply
-      done = does (R .channels) (R .capacity) (R .share) (R .world) (R .state)
-
-      pub few-channels : tree′ .dimensions ≤ width
-      few-channels = omega (arith, dimensions-are (done .state), done .state .limits .1)
-
-      pub reply-length : replyWidth ≡ length reply
-      reply-length = sym (ap length (done .reply-is) ∙ length-filled replyWidth told)
-
-      module _ (w : ℕ) (e : w ≡ widthOfKind (tree′ .dimensions) (number run p)) where
-        width-is : w ≡ widthOf (R .channels) here
-        width-is = e ∙ ap (λ (d : ℕ). widthOfKind d (number run p)) (dimensions-are (done .state)) ∙ sym (width-kind run (R .channels) p (is-call run p stands))
-
-        rest-width : w + widths (R .channels) (begun .rest) ≡ widths (R .channels) (R .calls)
-        rest-width = omega (arith, width-is, ap (widths (R .channels)) (begun .is))
+        rest-width : w + widths (channels run) (capacity run) (begun .rest) ≡ widths (channels run) (capacity run) (R .calls)
+        rest-width = omega (arith, width-is, ap (widths (channels run) (capacity run)) (begun .is))
 
         -- its answer's numbers find room
-        pub fits : (w ≤ replyWidth) × (4 * (out + w) ≤ length answers)
-        fits = (omega (arith, width-is, width-most (R .channels) here (done .state .limits .1)), omega (arith, rest-width, R .numbers, R .room))
+        pub fits : 4 * (out + w) ≤ length answers
+        fits = omega (arith, rest-width, R .numbers, R .room)
 
-        told-width : length told ≡ w
-        told-width = length-said (R .channels) (R .capacity) (R .share) here _ ∙ sym width-is
+        module _ (r : Room) (h′ : SamplerPlusTree) (k′ : Kept) (r′ : Room) (steps : Steps run p out h k r h′ k′ r′) (lent : r .answers ≡ answers) where
+          abbrev numbers : List ℕ
+          numbers = told (channels run) (share run) (R .world) here
 
-        first-told : take w reply ≡ told
-        first-told =
-            ap (λ (n : ℕ). take n reply) (sym told-width) ∙ ap (λ (l : List ℕ). take (length told) l) (done .reply-is)
-            ∙ take-filled replyWidth told (omega (arith, told-width, fits .0))
+          abbrev after : Sampled (whole (channels run))
+          after = left (channels run) (share run) (R .world) here
 
-        pub answers-length : (answers′ : List ℕ) → answers′ ≡ sets answers (4 * out) (bytesOf (take w reply)) → length answers′ ≡ length answers
-        answers-length answers′ f = ap length f ∙ length-sets answers (4 * out) (bytesOf (take w reply))
+          done : Stepped run p out (R .world) r h′ k′ r′
+          done = steps (R .world) (R .standing)
 
-        -- the run at the next call
-        pub turn : (answers′ : List ℕ) (next : ℕ) → answers′ ≡ sets answers (4 * out) (bytesOf (take w reply)) → next ≡ p + widthAt run p → Running run next (out + w) tree′ a′ points′ marks′ answers′ final count
-        turn answers′ next f g =
-            let z : answers′ ≡ sets answers (4 * out) (bytesOf told) = f ∙ ap (λ (l : List ℕ). sets answers (4 * out) (bytesOf l)) first-told in
-            let others = saidFrom (R .channels) (R .capacity) (R .share) after (begun .rest) in
-            let place : 4 * (out + w) ≡ 4 * out + length (bytesOf told) = omega (arith, length-bytes told, told-width) in
-            record {
-              channels = R .channels;
-              capacity = R .capacity;
-              share = R .share;
-              world = after;
-              calls = begun .rest;
-              state = done .state;
-              rest = ap (λ (n : ℕ). restFrom run (R .channels) n) g ∙ begun .after;
-              room = omega (arith, R .room, answers-length answers′ f);
-              numbers = omega (arith, R .numbers, rest-width);
-              finish =
-                  ap (λ (n : ℕ). sets answers′ n (bytesOf others)) place ∙ ap (λ (l : List ℕ). sets l (4 * out + length (bytesOf told)) (bytesOf others)) z
-                  ∙ sym (sets-append answers (4 * out) (bytesOf told) (bytesOf others)) ∙ ap (λ (l : List ℕ). sets answers (4 * out) l) (sym (bytes-append told others))
-                  ∙ ap (λ (cs : List (Call (whole (R .channels)))). sets answers (4 * out) (bytesOf (saidFrom (R .channels) (R .capacity) (R .share) (R .world) cs))) (sym (begun .is)) ∙ R .finish;
-            }
+          written : r′ .answers ≡ sets answers (4 * out) (bytesOf numbers)
+          written = ap (λ (x : Room). x .answers) (done .room-is) ∙ ap (λ (l : List ℕ). sets l (4 * out) (bytesOf numbers)) lent
+
+          told-width : length numbers ≡ w
+          told-width = length-told (channels run) (share run) (R .world) here ∙ ap (λ (c : ℕ). widthOf (channels run) c here) (R .standing .capacity-is) ∙ sym width-is
+
+          pub answers-length : length (r′ .answers) ≡ length answers
+          answers-length = ap length written ∙ length-sets answers (4 * out) (bytesOf numbers)
+
+          -- the run at the next call
+          pub turn : (next : ℕ) → next ≡ p + widthAt run p → Running run next (out + w) h′ k′ (r′ .answers) final count
+          turn next g =
+              let others = toldFrom (channels run) (share run) after (begun .rest) in
+              let place : 4 * (out + w) ≡ 4 * out + length (bytesOf numbers) = omega (arith, length-bytes numbers, told-width) in
+              record {
+                world = after;
+                calls = begun .rest;
+                standing = done .standing;
+                rest = ap (λ (n : ℕ). restFrom run (channels run) n) g ∙ begun .after;
+                room = omega (arith, R .room, answers-length);
+                numbers = omega (arith, R .numbers, rest-width);
+                finish =
+                    ap (λ (n : ℕ). sets (r′ .answers) n (bytesOf others)) place ∙ ap (λ (l : List ℕ). sets l (4 * out + length (bytesOf numbers)) (bytesOf others)) written
+                    ∙ sym (sets-append answers (4 * out) (bytesOf numbers) (bytesOf others)) ∙ ap (λ (l : List ℕ). sets answers (4 * out) l) (sym (bytes-append numbers others))
+                    ∙ ap (λ (cs : List (RunCall (channels run))). sets answers (4 * out) (bytesOf (toldFrom (channels run) (share run) (R .world) cs))) (sym (begun .is)) ∙ R .finish;
+              }

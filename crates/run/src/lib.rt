@@ -7,45 +7,34 @@ use limits::CHANNELS;
 use limits::Copies;
 use limits::Cuts;
 use limits::Free;
+use limits::Held;
 use limits::Marks;
 use limits::Nodes;
 use limits::POINTS;
 use limits::Points;
+use limits::Weights;
 use randomcuttree::Made;
 use randomcuttree::RCFTree;
 use runlayout::Checked;
+use sampler::Sampler;
+use samplerplustree::MadeSampled;
+use samplerplustree::SamplerPlusTree;
 ghost use mathlib.Core.Path.{_≡_};
 ghost use mathlib.Core.Bool.{true};
 ghost use mathlib.Core.List.{List, [], _∷_};
 ghost use Prim.Native.Nat.{ℕ, _+_, _*_, _/_, _<_, _≤_};
-ghost use lib.ListN.{length, take};
-ghost use lib.Seq.{sets};
-ghost use lib.Ieee.{Float};
-ghost use Rattle.little.specs.Little.{bytesOf};
-ghost use Rattle.cuttree.specs.Run.{World, Call};
-ghost use Rattle.wholetree.specs.Whole.{whole};
+ghost use lib.ListN.{length};
 ghost use Rattle.treestore.specs.Arrays.{lent};
-ghost use Rattle.randomcuttree.specs.Making.{madeBy};
-ghost use Rattle.answers.specs.Said.{saidFrom};
-ghost use Rattle.runlayout.specs.Layout.{beginsWithMaking, channels, capacity, share};
-ghost use Rattle.run.specs.Outcome.{given, answered, outcome};
+ghost use Rattle.runlayout.specs.Layout.{RunCall, makingWidth, beginsWithMaking, channels, share};
+ghost use Rattle.runsteps.specs.Told.{toldFrom};
+ghost use Rattle.runsteps.specs.Standing.{kept};
+ghost use Rattle.run.specs.Outcome.{given, begun, asSampled, made, answered, outcome};
 ghost use Rattle.run.specs.Running.{Running, SomeRunning, Started, SomeStarted, Checks};
+ghost use Rattle.run.specs.Makes.{Makes};
 
-// Writes the first n numbers of a reply, from the answer number `out` on.
-fn write_reply(answers: &mut [u8], out: usize, reply: &[usize], n: usize)
-    requires { ⌜ (n ≤ length (now reply)) × (4 * (out + n) ≤ length (now answers)) ⌝ }
-    ensures { λ _. ⌜ now (answers .exit) ≡ sets (now (answers .entry)) (4 * out) (bytesOf (take n (now (reply .entry)))) ⌝ }
-{
-    let mut i: usize = 0;
-    while i < n {
-        little::put_u32(answers, 4 * (out + i), reply[i]);
-        i += 1;
-    }
-}
-
-// The calls from place 5 of the run on, each answered in turn, after the making's own number. Gives how many numbers are answered.
+// The calls after the making, each answered in turn, after the making's own number. Gives how many numbers are answered.
 fn run_calls(
-    tree: RCFTree,
+    tree: SamplerPlusTree,
     nodes: &mut Nodes,
     cuts: &mut Cuts,
     copies: &mut Copies,
@@ -53,22 +42,25 @@ fn run_calls(
     boxes: &mut Boxes,
     points: &mut Points,
     written: &mut Marks,
+    weights: &mut Weights,
+    held: &mut Held,
     run: &[u8],
     answers: &mut [u8],
 ) -> usize
     requires making { ⌜ beginsWithMaking (now run) ≡ true ⌝ }
-    requires ready { ⌜ SomeRunning (now run) 5 1 tree (lent (now nodes) (now cuts) (now copies) (now free) (now boxes)) (now points) (now written) (now answers) ⌝ }
-    ensures { λ r. ⌜ ((final : List ℕ) (count : ℕ) → Running (now (run .entry)) 5 1 tree (lent (now (nodes .entry)) (now (cuts .entry)) (now (copies .entry)) (now (free .entry)) (now (boxes .entry))) (now (points .entry)) (now (written .entry)) (now (answers .entry)) final count
-        → (r ≡ count) × (now (answers .exit) ≡ final)) ⌝ }
+    requires ready { ⌜ SomeRunning (now run) (makingWidth (now run)) 1 tree (kept (lent (now nodes) (now cuts) (now copies) (now free) (now boxes)) (now points) (now written) (now weights) (now held)) (now answers) ⌝ }
+    ensures { λ r. ⌜ ((final : List ℕ) (count : ℕ) → Running (now (run .entry)) (makingWidth (now (run .entry))) 1 tree (kept (lent (now (nodes .entry)) (now (cuts .entry)) (now (copies .entry)) (now (free .entry)) (now (boxes .entry))) (now (points .entry)) (now (written .entry)) (now (weights .entry)) (now (held .entry))) (now (answers .entry)) final count → (r ≡ count) × (now (answers .exit) ≡ final)) ⌝ }
 {
     let n = runlayout::size_of(run);
     let mut words = [0u64; CAPACITY];
     let mut reply = [0usize; REPLY];
+    let mut rows = [[0u64; 4]; CAPACITY];
     let mut current = tree;
-    let mut p: usize = 5;
+    let mut p = runlayout::making_width(run);
     let mut out: usize = 1;
     while p < n {
-        current = runcalls::call_at(
+        let width = runlayout::answer_width(run, p);
+        current = runsteps::step(
             current,
             nodes,
             cuts,
@@ -77,13 +69,17 @@ fn run_calls(
             boxes,
             points,
             written,
+            weights,
+            held,
             run,
             p,
             &mut words,
             &mut reply,
+            &mut rows,
+            answers,
+            out,
+            width,
         );
-        let width = runlayout::answer_width(runlayout::number_at(run, p), current.dimensions);
-        write_reply(answers, out, &reply, width);
         out = out + width;
         p = p + runlayout::width_at(run, p);
     }
@@ -103,7 +99,7 @@ fn tell_refusal(answers: &mut [u8], refusal: u8) -> usize
 
 // A tree that is made: 0 for the making, then its calls.
 fn run_tree(
-    tree: RCFTree,
+    tree: SamplerPlusTree,
     nodes: &mut Nodes,
     cuts: &mut Cuts,
     copies: &mut Copies,
@@ -111,13 +107,15 @@ fn run_tree(
     boxes: &mut Boxes,
     points: &mut Points,
     written: &mut Marks,
+    weights: &mut Weights,
+    held: &mut Held,
     run: &[u8],
     answers: &mut [u8],
 ) -> usize
     requires making { ⌜ beginsWithMaking (now run) ≡ true ⌝ }
-    requires ready { ⌜ SomeStarted (now run) tree (lent (now nodes) (now cuts) (now copies) (now free) (now boxes)) (now points) (now written) (now answers) ⌝ }
-    ensures { λ r. ⌜ ((d c : ℕ) (s : Float) (W : World (whole d)) (cs : List (Call (whole d))) → Started d c s W cs (now (run .entry)) tree (lent (now (nodes .entry)) (now (cuts .entry)) (now (copies .entry)) (now (free .entry)) (now (boxes .entry))) (now (points .entry)) (now (written .entry)) (now (answers .entry))
-        → (r, now (answers .exit)) ≡ given (0 ∷ saidFrom d c s W cs) (now (answers .entry))) ⌝ }
+    requires ready { ⌜ SomeStarted (now run) tree (kept (lent (now nodes) (now cuts) (now copies) (now free) (now boxes)) (now points) (now written) (now weights) (now held)) (now answers) ⌝ }
+    ensures { λ r. ⌜ ((cs : List (RunCall (channels (now (run .entry))))) → Started (now (run .entry)) cs tree (kept (lent (now (nodes .entry)) (now (cuts .entry)) (now (copies .entry)) (now (free .entry)) (now (boxes .entry))) (now (points .entry)) (now (written .entry)) (now (weights .entry)) (now (held .entry))) (now (answers .entry))
+        → (r, now (answers .exit)) ≡ given (0 ∷ toldFrom (channels (now (run .entry))) (share (now (run .entry))) (begun (now (run .entry))) cs) (now (answers .entry))) ⌝ }
 {
     little::put_u32(answers, 0, 0);
     4
@@ -130,17 +128,83 @@ fn run_tree(
             boxes,
             points,
             written,
+            weights,
+            held,
             run,
             answers,
         )
+}
+
+// A bare tree's making as a sampled one's.
+fn as_sampled(made: Made) -> MadeSampled
+    ensures { λ r. ⌜ r ≡ asSampled made ⌝ }
+{
+    match made {
+        Made::NotMade(refusal) => MadeSampled::NotMade(refusal),
+        Made::Tree(tree) => {
+            let sampler = Sampler {
+                capacity: tree.capacity,
+                current_size: 0,
+            };
+            MadeSampled::Tree(SamplerPlusTree {
+                tree,
+                sampler,
+                initial_accept_fraction: 0.0,
+            })
+        }
+    }
+}
+
+// The making of either kind.
+fn make(
+    run: &[u8],
+    nodes: &mut Nodes,
+    cuts: &mut Cuts,
+    copies: &mut Copies,
+    free: &mut Free,
+    boxes: &mut Boxes,
+    weights: &mut Weights,
+    held: &mut Held,
+) -> MadeSampled
+    requires { ⌜ beginsWithMaking (now run) ≡ true ⌝ }
+    ensures { λ r. ⌜ Makes (now (run .entry)) (lent (now (nodes .exit)) (now (cuts .exit)) (now (copies .exit)) (now (free .exit)) (now (boxes .exit))) (now (weights .exit)) (now (held .exit)) r ⌝ }
+{
+    let dimensions = runlayout::number_at(run, 1);
+    let capacity = runlayout::number_at(run, 2);
+    let share = little::double_of(runlayout::double_at(run, 3));
+    if runlayout::is_sampled(run) {
+        let initial = little::double_of(runlayout::double_at(run, 5));
+        return SamplerPlusTree::new(
+            dimensions,
+            capacity,
+            share,
+            initial,
+            nodes,
+            cuts,
+            copies,
+            free,
+            boxes,
+            weights,
+            held,
+        );
+    }
+    as_sampled(RCFTree::new(
+        dimensions,
+        capacity,
+        share,
+        nodes,
+        cuts,
+        copies,
+        free,
+        boxes,
+    ))
 }
 
 // A run in its layout, with what its calls' answers need lent or not.
 fn run_made(run: &[u8], answers: &mut [u8], enough: bool) -> usize
     requires making { ⌜ beginsWithMaking (now run) ≡ true ⌝ }
     requires calls { ⌜ Checks (now run) enough (now answers) ⌝ }
-    ensures { λ r. ⌜ ((q : Checks (now (run .entry)) enough (now (answers .entry)))
-        → (r, now (answers .exit)) ≡ given (answered (now (run .entry)) (madeBy (channels (now (run .entry))) (capacity (now (run .entry))) (share (now (run .entry)))) (q .calls)) (now (answers .entry))) ⌝ }
+    ensures { λ r. ⌜ ((q : Checks (now (run .entry)) enough (now (answers .entry))) → (r, now (answers .exit)) ≡ given (answered (now (run .entry)) (made (now (run .entry))) (q .calls)) (now (answers .entry))) ⌝ }
 {
     let mut nodes = [[0u16; 4]; BRANCHES];
     let mut cuts = [0.0f32; BRANCHES];
@@ -149,19 +213,21 @@ fn run_made(run: &[u8], answers: &mut [u8], enough: bool) -> usize
     let mut boxes = [[[0.0f32; CHANNELS]; 2]; BRANCHES];
     let mut points = pointstore::no_points();
     let mut written = pointstore::no_marks();
-    let made = RCFTree::new(
-        runlayout::number_at(run, 1),
-        runlayout::number_at(run, 2),
-        little::double_of(runlayout::double_at(run, 3)),
+    let mut weights = [0.0f32; CAPACITY];
+    let mut held = [0u16; CAPACITY];
+    let made = make(
+        run,
         &mut nodes,
         &mut cuts,
         &mut copies,
         &mut free,
         &mut boxes,
+        &mut weights,
+        &mut held,
     );
     match made {
-        Made::NotMade(refusal) => tell_refusal(answers, refusal),
-        Made::Tree(tree) => {
+        MadeSampled::NotMade(refusal) => tell_refusal(answers, refusal),
+        MadeSampled::Tree(tree) => {
             if !enough {
                 return 15;
             }
@@ -174,6 +240,8 @@ fn run_made(run: &[u8], answers: &mut [u8], enough: bool) -> usize
                 &mut boxes,
                 &mut points,
                 &mut written,
+                &mut weights,
+                &mut held,
                 run,
                 answers,
             )

@@ -2,24 +2,17 @@
 use mathlib.Core.Path.{_≡_, sym, ap, _∙_, subst}
 use mathlib.Core.List.{List}
 use Prim.Native.Nat.{ℕ, _+_, _*_, min}
-use native.Mathlib.Omega.{arith}
-use lib.ListN.{take, length-take}
-use lib.Seq.{sets, getD-take}
+use lib.ListN.{take}
+use lib.Seq.{sets}
 use lib.Ieee.{Float, binary32, ofBits}
 use Rattle.limits.specs.Limits.{width, capacityLimit}
 use Rattle.cuttree.specs.Run.{put, add, delete}
 use Rattle.wholetree.specs.Whole.{tab}
-use Rattle.wholetree.proofs.Readings.{tab-length, tab-at}
-use Rattle.layout.proofs.Tabs.{is-tab}
 use Rattle.randomcuttree.specs.declared.RCFTree.{RCFTree}
 use Rattle.treestore.specs.Arrays.{Lent}
 use Rattle.calls.specs.Done.{Does}
 use Rattle.runlayout.specs.Layout.{number, double, coordinatesAt, wordsAt}
-
--- the first k entries of a table of m
-module _ {A : Type 0} (f : ℕ → A) (k m n : ℕ) (e : n ≡ min m k) where
-  take-tab : take k (tab m f) ≡ tab n f
-  take-tab = is-tab (f 0) n f (take k (tab m f)) (omega (arith, e, length-take k (tab m f), tab-length m f)) (λ j h. getD-take k (tab m f) j (f 0) (omega (arith, e, h)) ∙ tab-at m f j (f 0) (omega (arith, e, h)))
+use Rattle.rungiven.proofs.Taken.{take-tab, taken-read}
 
 -- the call at the place p of the run, from what was read there: the index i, and n of the m entries that it says
 module _ (bytes : List ℕ) (p : ℕ) (tree : RCFTree) (a : Lent) (points : List (List Float)) (marks : List ℕ) (tree′ : RCFTree) (b : Lent) (points′ : List (List Float)) (marks′ reply : List ℕ) (i : ℕ) (at : i ≡ number bytes (p + 1)) where
@@ -35,8 +28,8 @@ module _ (bytes : List ℕ) (p : ℕ) (tree : RCFTree) (a : Lent) (points : List
       → ((ws : List ℕ) → take n l ≡ take capacityLimit ws → Does (λ d. add i ws) tree a points marks tree′ b points′ marks′ reply)
       → Does (λ d. add (number bytes (p + 1)) (wordsAt bytes p)) tree a points marks tree′ b points′ marks′ reply × (l ≡ sets l₀ 0 (take capacityLimit (wordsAt bytes p)))
   add-given m n l₀ l k e s D =
-      let few : tab n (λ (j : ℕ). double bytes (p + 3 + 2 * j)) ≡ take capacityLimit (wordsAt bytes p) = sym (take-tab _ capacityLimit _ n (e ∙ ap (λ (y : ℕ). min y capacityLimit) k)) in
-      (subst (λ (y : ℕ). Does (λ d. add y (wordsAt bytes p)) tree a points marks tree′ b points′ marks′ reply) at (D (wordsAt bytes p) (s .1 ∙ few)), s .0 ∙ ap (sets l₀ 0) few)
+      let few = taken-read _ capacityLimit _ n (e ∙ ap (λ (y : ℕ). min y capacityLimit) k) l₀ l s in
+      (subst (λ (y : ℕ). Does (λ d. add y (wordsAt bytes p)) tree a points marks tree′ b points′ marks′ reply) at (D (wordsAt bytes p) (few .0)), few .1)
 
   pub delete-given : Does (λ d. delete i) tree a points marks tree′ b points′ marks′ reply → Does (λ d. delete (number bytes (p + 1))) tree a points marks tree′ b points′ marks′ reply
   delete-given = subst (λ (y : ℕ). Does (λ d. delete y) tree a points marks tree′ b points′ marks′ reply) at

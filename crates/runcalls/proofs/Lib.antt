@@ -1,3 +1,2 @@
-pub mod Firsts
 pub mod Given
 pub mod Places

@@ -1,6 +1,6 @@
 -- The call at a place of a run, by its kind: that it lies within the run, and which one it is. Assumes nothing.
 use mathlib.Core.Path.{_≡_, refl, sym, _∙_, subst}
-use mathlib.Core.Bool.{Bool, true, false, cond, _&&_}
+use mathlib.Core.Bool.{true, cond}
 use mathlib.Core.List.{List}
 use Prim.Native.Nat.{ℕ, _+_, _*_, _≤_}
 use native.Mathlib.Omega.{arith}
@@ -8,50 +8,44 @@ use lib.Dec.{eqb}
 use lib.ListN.{take}
 use lib.Seq.{sets}
 use lib.Ieee.{Float}
-use borrow.Author.Tests.{leb-true, eq-eqb, ne-eqb}
+use borrow.Author.Tests.{eq-eqb, ne-eqb}
 use Rattle.limits.specs.Limits.{capacityLimit}
 use Rattle.cuttree.specs.Run.{Call, put, add, delete, query, copiesOf, branchOf, boxOf}
-use Rattle.cuttree.proofs.Tests.{clash, by-cond, by-test, cond-true, cond-false}
+use Rattle.cuttree.proofs.Tests.{by-test, cond-true, cond-false}
 use Rattle.wholetree.specs.Whole.{whole}
 use Rattle.randomcuttree.specs.declared.RCFTree.{RCFTree}
 use Rattle.treestore.specs.Arrays.{Lent}
 use Rattle.randomcuttree.specs.State.{SomeState}
 use Rattle.randomcuttree.specs.Queries.{SomeBoxRead}
 use Rattle.calls.specs.Done.{Does, Done, queryOf}
-use Rattle.runlayout.specs.Layout.{size, number, coordinatesAt, wordsAt, callAt, widthAt, standsAt, isCall}
+use Rattle.runlayout.specs.Layout.{size, number, coordinatesAt, wordsAt, IsPlain, callWidth, plainAt, standsAt}
+use Rattle.runlayout.proofs.ByKind.{two-least}
+use Rattle.runlayout.proofs.Rest.{within}
 use Rattle.runcalls.specs.Words.{wordsAfter}
 
-both : (a b : Bool) → a && b ≡ true → b ≡ true
-both true b e = e
-both false b e = clash false e refl
+-- the numbers of a call of kind k, whose third number is n and whose sixth is m
+module _ (k n m p s : ℕ) (h : p + callWidth k n m ≤ s) where
+  of-put : k ≡ 3 → p + 3 + n ≤ s
+  unfolding callWidth
+  of-put e = omega (arith, rw e at h)
 
--- the numbers of a call of kind k, whose third number is n
-module _ (k n p s : ℕ) where
-  abbrev Within : ℕ → Type 0
-  Within w = p + w ≤ s
+  of-add : k ≡ 4 → p + 3 + 2 * n ≤ s
+  unfolding callWidth
+  of-add e = omega (arith, rw e at h)
 
-  of-put : Within (cond (eqb k 3) (3 + n) (cond (eqb k 4) (3 + 2 * n) 2)) → k ≡ 3 → p + 3 + n ≤ s
-  of-put h e = omega (arith, subst Within (cond-true _ _ _ (eq-eqb k 3 e)) h)
-
-  of-add : Within (cond (eqb k 3) (3 + n) (cond (eqb k 4) (3 + 2 * n) 2)) → (k ≡ 3 → ⊥) → k ≡ 4 → p + 3 + 2 * n ≤ s
-  of-add h f e = omega (arith, subst Within (cond-false _ _ _ (ne-eqb k 3 f) ∙ cond-true _ _ _ (eq-eqb k 4 e)) h)
-
-  of-any : Within (cond (eqb k 3) (3 + n) (cond (eqb k 4) (3 + 2 * n) 2)) → p + 2 ≤ s
-  of-any = by-cond (λ w. Within w → p + 2 ≤ s) (eqb k 3) _ _ (λ _ h. omega (arith, h)) (λ _. by-cond (λ w. Within w → p + 2 ≤ s) (eqb k 4) _ _ (λ _ h. omega (arith, h)) (λ _ h. h))
+  of-any : IsPlain k → p + 2 ≤ s
+  of-any o = omega (arith, h, two-least k n m (o .2))
 
 module _ (bytes : List ℕ) (p : ℕ) where
-  module _ (h : standsAt bytes p ≡ true) where
-    inside : p + widthAt bytes p ≤ size bytes
-    inside = leb-true _ _ (both (isCall (number bytes p)) _ h)
-
+  module _ (o : IsPlain (number bytes p)) (h : standsAt bytes p ≡ true) where
     pub put-inside : (k : ℕ) → k ≡ number bytes p → k ≡ 3 → p + 3 + number bytes (p + 2) ≤ size bytes
-    put-inside k e f = of-put (number bytes p) (number bytes (p + 2)) p (size bytes) inside (sym e ∙ f)
+    put-inside k e f = of-put (number bytes p) (number bytes (p + 2)) (number bytes (p + 5)) p (size bytes) (within bytes p h) (sym e ∙ f)
 
-    pub add-inside : (k : ℕ) → k ≡ number bytes p → (k ≡ 3 → ⊥) → k ≡ 4 → p + 3 + 2 * number bytes (p + 2) ≤ size bytes
-    add-inside k e f g = of-add (number bytes p) (number bytes (p + 2)) p (size bytes) inside (λ x. f (e ∙ x)) (sym e ∙ g)
+    pub add-inside : (k : ℕ) → k ≡ number bytes p → k ≡ 4 → p + 3 + 2 * number bytes (p + 2) ≤ size bytes
+    add-inside k e g = of-add (number bytes p) (number bytes (p + 2)) (number bytes (p + 5)) p (size bytes) (within bytes p h) (sym e ∙ g)
 
     pub any-inside : p + 2 ≤ size bytes
-    any-inside = of-any (number bytes p) (number bytes (p + 2)) p (size bytes) inside
+    any-inside = of-any (number bytes p) (number bytes (p + 2)) (number bytes (p + 5)) p (size bytes) (within bytes p h) o
 
   -- the lent words after it, by its kind k
   module _ (k : ℕ) (e : k ≡ number bytes p) (words : List ℕ) where
@@ -66,20 +60,20 @@ module _ (bytes : List ℕ) (p : ℕ) where
     same : (x y : (d : ℕ) → Call (whole d)) → ((d : ℕ) → x d ≡ y d) → Does y tree a points marks tree′ b points′ marks′ reply → Does x tree a points marks tree′ b points′ marks′ reply
     same x y f D d c s W S = subst (λ (z : Call (whole d)). Done d c s W z tree′ b points′ marks′ reply) (sym (f d)) (D d c s W S)
 
-    pub put-there : k ≡ 3 → Does (λ d. put (number bytes (p + 1)) (coordinatesAt bytes p)) tree a points marks tree′ b points′ marks′ reply → Does (λ d. callAt bytes d p) tree a points marks tree′ b points′ marks′ reply
-    put-there f = same (λ d. callAt bytes d p) _ (λ d. cond-true _ _ _ (eq-eqb (number bytes p) 3 (sym e ∙ f)))
+    pub put-there : k ≡ 3 → Does (λ d. put (number bytes (p + 1)) (coordinatesAt bytes p)) tree a points marks tree′ b points′ marks′ reply → Does (λ d. plainAt bytes d p) tree a points marks tree′ b points′ marks′ reply
+    put-there f = same (λ d. plainAt bytes d p) _ (λ d. cond-true _ _ _ (eq-eqb (number bytes p) 3 (sym e ∙ f)))
 
-    pub add-there : (k ≡ 3 → ⊥) → k ≡ 4 → Does (λ d. add (number bytes (p + 1)) (wordsAt bytes p)) tree a points marks tree′ b points′ marks′ reply → Does (λ d. callAt bytes d p) tree a points marks tree′ b points′ marks′ reply
-    add-there f g = same (λ d. callAt bytes d p) _ (λ d. cond-false _ _ _ (ne-eqb (number bytes p) 3 (λ x. f (e ∙ x))) ∙ cond-true _ _ _ (eq-eqb (number bytes p) 4 (sym e ∙ g)))
+    pub add-there : (k ≡ 3 → ⊥) → k ≡ 4 → Does (λ d. add (number bytes (p + 1)) (wordsAt bytes p)) tree a points marks tree′ b points′ marks′ reply → Does (λ d. plainAt bytes d p) tree a points marks tree′ b points′ marks′ reply
+    add-there f g = same (λ d. plainAt bytes d p) _ (λ d. cond-false _ _ _ (ne-eqb (number bytes p) 3 (λ x. f (e ∙ x))) ∙ cond-true _ _ _ (eq-eqb (number bytes p) 4 (sym e ∙ g)))
 
-    pub delete-there : (k ≡ 3 → ⊥) → (k ≡ 4 → ⊥) → k ≡ 5 → Does (λ d. delete (number bytes (p + 1))) tree a points marks tree′ b points′ marks′ reply → Does (λ d. callAt bytes d p) tree a points marks tree′ b points′ marks′ reply
-    delete-there f g h = same (λ d. callAt bytes d p) _ (λ d. cond-false _ _ _ (ne-eqb (number bytes p) 3 (λ x. f (e ∙ x))) ∙ cond-false _ _ _ (ne-eqb (number bytes p) 4 (λ x. g (e ∙ x))) ∙ cond-true _ _ _ (eq-eqb (number bytes p) 5 (sym e ∙ h)))
+    pub delete-there : (k ≡ 3 → ⊥) → (k ≡ 4 → ⊥) → k ≡ 5 → Does (λ d. delete (number bytes (p + 1))) tree a points marks tree′ b points′ marks′ reply → Does (λ d. plainAt bytes d p) tree a points marks tree′ b points′ marks′ reply
+    delete-there f g h = same (λ d. plainAt bytes d p) _ (λ d. cond-false _ _ _ (ne-eqb (number bytes p) 3 (λ x. f (e ∙ x))) ∙ cond-false _ _ _ (ne-eqb (number bytes p) 4 (λ x. g (e ∙ x))) ∙ cond-true _ _ _ (eq-eqb (number bytes p) 5 (sym e ∙ h)))
 
     queried : (d x : ℕ) → cond {A = Call (whole d)} (eqb (number bytes p) 8) (query (copiesOf x)) (cond (eqb (number bytes p) 9) (query (branchOf x)) (query (boxOf x))) ≡ query (queryOf (number bytes p) x)
     queried d x = by-test (eqb (number bytes p) 8) (λ f. rw f refl) (λ f. by-test (eqb (number bytes p) 9) (λ g. rw (f, g) refl) (λ g. rw (f, g) refl))
 
-    pub query-there : (k ≡ 3 → ⊥) → (k ≡ 4 → ⊥) → (k ≡ 5 → ⊥) → (x : ℕ) → x ≡ number bytes (p + 1) → Does (λ d. query (queryOf k x)) tree a points marks tree′ b points′ marks′ reply → Does (λ d. callAt bytes d p) tree a points marks tree′ b points′ marks′ reply
-    query-there f g h x y = same (λ d. callAt bytes d p) _ (λ d. cond-false _ _ _ (ne-eqb (number bytes p) 3 (λ x. f (e ∙ x))) ∙ cond-false _ _ _ (ne-eqb (number bytes p) 4 (λ x. g (e ∙ x))) ∙ cond-false _ _ _ (ne-eqb (number bytes p) 5 (λ x. h (e ∙ x)))
+    pub query-there : (k ≡ 3 → ⊥) → (k ≡ 4 → ⊥) → (k ≡ 5 → ⊥) → (x : ℕ) → x ≡ number bytes (p + 1) → Does (λ d. query (queryOf k x)) tree a points marks tree′ b points′ marks′ reply → Does (λ d. plainAt bytes d p) tree a points marks tree′ b points′ marks′ reply
+    query-there f g h x y = same (λ d. plainAt bytes d p) _ (λ d. cond-false _ _ _ (ne-eqb (number bytes p) 3 (λ x. f (e ∙ x))) ∙ cond-false _ _ _ (ne-eqb (number bytes p) 4 (λ x. g (e ∙ x))) ∙ cond-false _ _ _ (ne-eqb (number bytes p) 5 (λ x. h (e ∙ x)))
         ∙ queried d (number bytes (p + 1)) ∙ (rw (← e, ← y) refl))
 
 -- what a query asks of its caller, of a lent state

@@ -1,7 +1,6 @@
 // The calls of a byte run (docs/LAYOUT.md): each read from its place in the run and carried out on the lent state, with its answer as numbers.
 use answers::Reply;
 use calls::COORDINATES;
-use calls::Coordinates;
 use calls::Words;
 use limits::Boxes;
 use limits::CAPACITY;
@@ -14,53 +13,16 @@ use limits::Points;
 use randomcuttree::RCFTree;
 ghost use mathlib.Core.Path.{_≡_};
 ghost use mathlib.Core.Bool.{true};
-ghost use Prim.Native.Nat.{ℕ, _+_, _*_, _≤_};
-ghost use lib.ListN.{length, take};
+ghost use Prim.Native.Nat.{_+_, _*_, _≤_};
+ghost use lib.ListN.{take};
 ghost use lib.Seq.{sets};
-ghost use lib.Ieee.{binary32, ofBits};
-ghost use Rattle.limits.specs.Limits.{width, capacityLimit};
+ghost use Rattle.limits.specs.Limits.{capacityLimit};
 ghost use Rattle.cuttree.specs.Run.{put, add, delete};
-ghost use Rattle.wholetree.specs.Whole.{tab};
 ghost use Rattle.treestore.specs.Arrays.{Lent, lent};
 ghost use Rattle.randomcuttree.specs.State.{SomeState};
 ghost use Rattle.calls.specs.Done.{Does};
-ghost use Rattle.runlayout.specs.Layout.{size, number, double, coordinatesAt, wordsAt, callAt, standsAt};
+ghost use Rattle.runlayout.specs.Layout.{size, number, coordinatesAt, wordsAt, IsPlain, plainAt, standsAt};
 ghost use Rattle.runcalls.specs.Words.{wordsAfter};
-
-// n coordinates from a place on.
-fn coordinates_at(run: &[u8], from: usize, n: usize) -> Coordinates
-    requires { ⌜ (n ≤ (width + 1)) × (from + n ≤ size (now run)) ⌝ }
-    ensures { λ r. ⌜ take n r ≡ tab n (λ (i : ℕ). ofBits binary32 (number (now (run .entry)) (from + i))) ⌝ }
-{
-    let mut coordinates = [0.0f32; COORDINATES];
-    let mut i: usize = 0;
-    while i < n {
-        coordinates[i] = little::float_of(runlayout::bits_at(run, from + i));
-        i += 1;
-    }
-    coordinates
-}
-
-// Writes n words from a place on, from the front; the others stay.
-fn fill_words(run: &[u8], from: usize, n: usize, words: &mut [u64])
-    requires { ⌜ (n ≤ length (now words)) × (from + 2 * n ≤ size (now run)) ⌝ }
-    ensures { λ _. ⌜ now (words .exit) ≡ sets (now (words .entry)) 0 (tab n (λ (i : ℕ). double (now (run .entry)) (from + 2 * i))) ⌝ }
-{
-    let mut i: usize = 0;
-    while i < n {
-        words[i] = runlayout::double_at(run, from + 2 * i);
-        i += 1;
-    }
-}
-
-// The same in the room lent for words. A walk takes no more words than a tree has leaves.
-fn read_words(run: &[u8], from: usize, n: usize, words: &mut Words)
-    requires { ⌜ (n ≤ capacityLimit) × (from + 2 * n ≤ size (now run)) ⌝ }
-    ensures all { λ _. ⌜ now (words .exit) ≡ sets (now (words .entry)) 0 (tab n (λ (i : ℕ). double (now (run .entry)) (from + 2 * i))) ⌝ }
-    ensures first { λ _. ⌜ take n (now (words .exit)) ≡ tab n (λ (i : ℕ). double (now (run .entry)) (from + 2 * i)) ⌝ }
-{
-    fill_words(run, from, n, words);
-}
 
 fn put_call(
     tree: RCFTree,
@@ -76,7 +38,7 @@ fn put_call(
 {
     let index = runlayout::number_at(run, p + 1);
     let n = casts::at_most(runlayout::number_at(run, p + 2), COORDINATES);
-    let coordinates = coordinates_at(run, p + 3, n);
+    let coordinates = rungiven::coordinates_at(run, p + 3, n);
     calls::put(tree, copies, points, written, index, &coordinates, n, reply);
 }
 
@@ -100,7 +62,7 @@ fn add_call(
 {
     let index = runlayout::number_at(run, p + 1);
     let n = casts::at_most(runlayout::number_at(run, p + 2), CAPACITY);
-    read_words(run, p + 3, n, words);
+    rungiven::read_words(run, p + 3, n, words);
     calls::add(
         tree,
         nodes,
@@ -148,7 +110,8 @@ fn delete_call(
     )
 }
 
-// The call at a place of the run: its answer's numbers in the reply, with 0 after them, and the header after it. An add reads its words into the lent ones.
+// The put, add, delete or query at a place of the run: its answer's numbers in the reply, with 0 after them, and the header after it. An add reads its
+// words into the lent ones.
 // Rules out a call read from another place, and lent words written by a put.
 pub fn call_at(
     tree: RCFTree,
@@ -164,8 +127,9 @@ pub fn call_at(
     words: &mut Words,
     reply: &mut Reply,
 ) -> RCFTree
-    requires { ⌜ (standsAt (now run) p ≡ true) × SomeState tree (lent (now nodes) (now cuts) (now copies) (now free) (now boxes)) (now points) (now written) ⌝ }
-    ensures done { λ r. ⌜ Does (λ d. callAt (now (run .entry)) d p) tree (lent (now (nodes .entry)) (now (cuts .entry)) (now (copies .entry)) (now (free .entry)) (now (boxes .entry))) (now (points .entry)) (now (written .entry)) r (lent (now (nodes .exit)) (now (cuts .exit)) (now (copies .exit)) (now (free .exit)) (now (boxes .exit))) (now (points .exit)) (now (written .exit)) (now (reply .exit)) ⌝ }
+    requires plain { ⌜ IsPlain (number (now run) p) × (standsAt (now run) p ≡ true) ⌝ }
+    requires state { ⌜ SomeState tree (lent (now nodes) (now cuts) (now copies) (now free) (now boxes)) (now points) (now written) ⌝ }
+    ensures done { λ r. ⌜ Does (λ d. plainAt (now (run .entry)) d p) tree (lent (now (nodes .entry)) (now (cuts .entry)) (now (copies .entry)) (now (free .entry)) (now (boxes .entry))) (now (points .entry)) (now (written .entry)) r (lent (now (nodes .exit)) (now (cuts .exit)) (now (copies .exit)) (now (free .exit)) (now (boxes .exit))) (now (points .exit)) (now (written .exit)) (now (reply .exit)) ⌝ }
     ensures words { λ _. ⌜ now (words .exit) ≡ wordsAfter (now (run .entry)) p (now (words .entry)) ⌝ }
 {
     let kind = runlayout::number_at(run, p);

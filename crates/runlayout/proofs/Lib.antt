@@ -1,1 +1,3 @@
+pub mod ByKind
 pub mod Rest
+pub mod OfKind

@@ -1,65 +1,107 @@
-//! Times the Rust and the port on the same calls, in the same process, and prints a table.
+//! Times the Rust and the port on the same calls, in the same process, and prints tables.
 //!
-//!   bench [OPERATIONS [REPETITIONS]]
+//!   bench [OPERATIONS [REPETITIONS]]        a table for each kind of call
+//!   bench --growth [MOST [REPETITIONS]]     how the cost grows with capacity and calls
 //!
-//! Capacity 256. Each run fills the tree with 256 adds, then deletes the oldest reading and adds a
-//! new one in turn; every add is given exactly the words that its walk takes. The answers of both
-//! are compared before anything is timed. The Rust's time is that of the adds and deletes alone;
-//! the port's is that of the whole run less that of the making and the puts.
+//! The answers of both are compared before anything is timed. The Rust's time is that of the timed calls
+//! alone; the port's is that of a whole run less that of the run without them.
 #![forbid(unsafe_code)]
 
-mod port_side;
-mod rust_side;
+mod adds;
+mod arrivals;
+mod growth;
+mod readings;
+mod reports;
+mod times;
 mod workload;
 
+use arrivals::Arrivals;
 use std::process::ExitCode;
 use workload::Workload;
 
+const SEED: u64 = 12345;
 const OPERATIONS: usize = 20_000;
 const REPETITIONS: usize = 7;
+const CAPACITY: usize = 256;
 const SHARES: [f64; 3] = [1.0, 0.5, 0.0];
-const CHANNELS: [usize; 3] = [1, 4, 8];
+const CHANNELS: [u32; 3] = [1, 4, 8];
+
+/// Makes so many calls on a tree of a shape.
+type Make<'a> = &'a dyn Fn(&Shape, usize) -> Workload;
+
+/// What a tree is made with.
+#[derive(Clone, Copy)]
+pub struct Shape {
+    pub channels: u32,
+    pub capacity: usize,
+    pub share: f64,
+}
 
 fn main() -> ExitCode {
-    let numbers: Result<Vec<usize>, _> = std::env::args().skip(1).map(|n| n.parse()).collect();
+    let arguments: Vec<String> = std::env::args().skip(1).collect();
+    let arguments: Vec<&str> = arguments.iter().map(String::as_str).collect();
+    let (growth, rest) = match &arguments[..] {
+        ["--growth", rest @ ..] => (true, rest),
+        rest => (false, rest),
+    };
+    let numbers: Result<Vec<usize>, _> = rest.iter().map(|n| n.parse()).collect();
     let Ok(numbers) = numbers else {
-        eprintln!("usage: bench [OPERATIONS [REPETITIONS]]");
+        eprintln!("usage: bench [--growth] [OPERATIONS [REPETITIONS]]");
         return ExitCode::FAILURE;
     };
-    let operations = numbers.first().copied().unwrap_or(OPERATIONS);
     let repetitions = numbers.get(1).copied().unwrap_or(REPETITIONS);
-    println!("| Share | Channels | Words per add | Rust, ns | Port, ns | Port / Rust |");
-    println!("|---|---|---|---|---|---|");
-    for share in SHARES {
-        for channels in CHANNELS {
-            row(&Workload::new(channels, share, operations), repetitions);
-        }
+    let first = numbers.first().copied();
+    match growth {
+        true => growth::print(first, repetitions),
+        false => kinds(first.unwrap_or(OPERATIONS), repetitions),
     }
-    println!();
-    println!(
-        "{operations} adds and deletes a run, time for one, least of {repetitions} repetitions."
-    );
     println!("The port's time includes reading the run's bytes and writing the answers' bytes.");
     ExitCode::SUCCESS
 }
 
-/// Times both in turn, so that whatever else the machine does meets both.
-fn row(workload: &Workload, repetitions: usize) {
-    port_side::compare(workload);
-    let (mut rust, mut port) = (f64::INFINITY, f64::INFINITY);
-    let mut puts_alone = f64::INFINITY;
-    for _ in 0..repetitions {
-        rust = rust.min(rust_side::seconds(workload));
-        port = port.min(port_side::seconds(&workload.whole));
-        puts_alone = puts_alone.min(port_side::seconds(&workload.puts_alone));
+/// A table for each kind of call.
+fn kinds(operations: usize, repetitions: usize) {
+    let filling = |shape: &Shape, calls| arrivals::arrivals(Arrivals::Filling, shape, calls);
+    let evicting = |shape: &Shape, calls| arrivals::arrivals(Arrivals::Evicting, shape, calls);
+    let passing = |shape: &Shape, calls| arrivals::arrivals(Arrivals::NotAccepted, shape, calls);
+    let tables: [(&str, &str, Make); 5] = [
+        ("Adds and deletes", "Words per add", &adds::adds_and_deletes),
+        ("Arrivals that fill the sample", "Words", &filling),
+        ("Arrivals that evict", "Words", &evicting),
+        ("Arrivals that are not accepted", "Words", &passing),
+        ("Reports", "Rows", &reports::reports),
+    ];
+    for (name, to_a_call, workload) in tables {
+        println!("{name}:\n");
+        println!("| Share | Channels | {to_a_call} | Rust, ns | Port, ns | Port / Rust |");
+        println!("|---|---|---|---|---|---|");
+        for share in SHARES {
+            for channels in CHANNELS {
+                let shape = Shape {
+                    channels,
+                    capacity: CAPACITY,
+                    share,
+                };
+                row(&shape, &workload(&shape, operations), repetitions);
+            }
+        }
+        println!();
     }
-    let each = |seconds: f64| seconds * 1e9 / workload.operations() as f64;
-    let (rust, port) = (each(rust), each(port - puts_alone));
     println!(
-        "| {} | {} | {:.1} | {rust:.0} | {port:.0} | {:.2} |",
-        workload.share,
-        workload.channels,
-        workload.words_per_add(),
-        port / rust
+        "Capacity {CAPACITY}; {operations} calls a run, {CAPACITY} where they fill the sample."
+    );
+    println!("Times are for one call, the least of {repetitions} repetitions.");
+}
+
+fn row(shape: &Shape, workload: &Workload, repetitions: usize) {
+    let times = times::least(workload, repetitions);
+    println!(
+        "| {} | {} | {:.1} | {:.0} | {:.0} | {:.2} |",
+        shape.share,
+        shape.channels,
+        workload.to_a_call,
+        times.rust,
+        times.port,
+        times.port / times.rust
     );
 }

@@ -33,7 +33,8 @@ pub fn text(difference: &Difference) -> String {
         text += &format!("changed and should not have: {harm}\n");
     }
     let mut end = run.len();
-    if let (Some(decoded), Outcome::Answered(bytes)) = (decode(run), expected) {
+    let answered = called.returned.is_multiple_of(4);
+    if let (true, Some(decoded), Outcome::Answered(bytes)) = (answered, decode(run), expected) {
         if let Some(answer) = first_differing(&decoded, bytes, &called.written) {
             text += &answer.text;
             end = answer.run_end;
@@ -51,28 +52,17 @@ struct Differing {
     run_end: usize,
 }
 
-/// The first call whose answers differ.
+/// The first call whose answers differ; the making is call 0.
 fn first_differing(run: &Run, expected: &[u8], got: &[u8]) -> Option<Differing> {
-    let (mut run_end, mut place) = (20, 4);
-    if expected.get(..4) != got.get(..4) {
-        let text = told(
-            &format!("{:?}", run.making),
-            expected.get(..4),
-            got.get(..4),
-        );
-        return Some(Differing { text, run_end });
-    }
-    for (n, call) in run.calls.iter().enumerate() {
-        run_end += call.run_bytes();
-        let answer = place..place + 4 * call.answer_numbers(run.making.channels);
-        place = answer.end;
-        let (ours, theirs) = (expected.get(answer.clone()), got.get(answer));
-        if ours != theirs {
-            let text = told(&format!("call {n}, {call:X?}"), ours, theirs);
-            return Some(Differing { text, run_end });
-        }
-    }
-    None
+    let mut numbered = run.spans().into_iter().enumerate();
+    numbered.find_map(|(n, span)| {
+        let answer = || span.answer.clone();
+        let (ours, theirs) = (expected.get(answer()), got.get(answer()));
+        (ours != theirs).then(|| Differing {
+            text: told(&format!("call {n}, {}", span.name(run)), ours, theirs),
+            run_end: span.run.end,
+        })
+    })
 }
 
 fn told(call: &str, expected: Option<&[u8]>, got: Option<&[u8]>) -> String {

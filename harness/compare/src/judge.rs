@@ -1,10 +1,9 @@
 //! Lends runs to the port and holds what it returns, writes and leaves against what it must.
 use crate::difference::{self, Difference};
 use crate::inputs::Inputs;
-use command::reached;
+use crate::tally::{Least, Tally};
 use port::{Called, Lending};
-use runs::{bytes_of, check, outcome, page, Checked, Outcome};
-use std::collections::BTreeMap;
+use runs::{bytes_of, check, outcome, page, Checked, Outcome, MOST_LENT};
 
 /// So many differences are shown in full.
 const SHOWN: usize = 5;
@@ -29,22 +28,6 @@ impl Answers for Plain {
     }
 }
 
-/// What was compared so far.
-#[derive(Default)]
-pub struct Tally {
-    /// Calls that docs/LAYOUT.md shows.
-    shown: usize,
-    runs: usize,
-    damaged: usize,
-    out_of_layout: usize,
-    too_few: usize,
-    calls: usize,
-    answer_bytes: usize,
-    /// How often each refusal was to be answered within a run.
-    refusals: BTreeMap<u32, usize>,
-    pub differing: usize,
-}
-
 pub struct Judge<A> {
     pub answers: A,
     pub tally: Tally,
@@ -61,7 +44,7 @@ impl<A: Answers> Judge<A> {
         }
     }
 
-    /// Compares the worked run of docs/LAYOUT.md with what the page says of it.
+    /// Compares the worked runs of docs/LAYOUT.md with what the page says of them.
     pub fn look_at_page(&mut self) -> Result<(), String> {
         for shown in page::shown()? {
             self.tally.shown += 1;
@@ -76,18 +59,13 @@ impl<A: Answers> Judge<A> {
         let run = inputs.written.run.encode();
         let expected = bytes_of(&inputs.written.answers);
         let needs = expected.len();
-        self.tally.runs += 1;
-        self.tally.calls += inputs.written.answers.len() - 1;
+        self.tally.add(&inputs.written);
         self.tally.answer_bytes += needs;
-        for answer in &inputs.written.answers {
-            *self.tally.refusals.entry(answer[0]).or_insert(0) += 1;
-        }
         let name = format!("run {}", inputs.number);
         let more = [0, 0, 1, 3, 4, 100][inputs.number % 6];
         self.hold(&name, &run, needs + more, &Outcome::Answered(expected));
         for lent in [needs - 1, needs - 4, 0] {
-            self.tally.too_few += 1;
-            self.hold(&name, &run, lent, &Outcome::Refused(15));
+            self.hold_too_few(&name, &run, lent);
         }
         for damaged in &inputs.damaged {
             self.look_at_damaged(&format!("damaged {name}"), damaged);
@@ -96,23 +74,38 @@ impl<A: Answers> Judge<A> {
 
     fn look_at_damaged(&mut self, name: &str, bytes: &[u8]) {
         self.tally.damaged += 1;
-        let expected = outcome(bytes, usize::MAX);
+        let expected = outcome(bytes, MOST_LENT);
         match check(bytes) {
             Checked::OutOfLayout => {
                 assert_eq!(expected, Outcome::Refused(17));
-                self.tally.out_of_layout += 1;
-                for lent in [0, 4, bytes.len() * 8] {
-                    self.hold(name, bytes, lent, &expected);
+                self.hold_out_of_layout(name, bytes);
+            }
+            Checked::Needs(needs) if needs > MOST_LENT => {
+                // as many bytes are lent as 32 bits have left of the number
+                let left = needs as u32 as usize;
+                for lent in [0, 4, left.min(MOST_LENT)] {
+                    self.hold_too_few(name, bytes, lent);
                 }
             }
             Checked::Needs(needs) => {
                 assert_eq!(expected.returned(), needs);
                 self.tally.answer_bytes += needs;
                 self.hold(name, bytes, needs, &expected);
-                self.tally.too_few += 1;
-                self.hold(name, bytes, needs - 1, &Outcome::Refused(15));
+                self.hold_too_few(name, bytes, needs - 1);
             }
         }
+    }
+
+    fn hold_out_of_layout(&mut self, name: &str, bytes: &[u8]) {
+        self.tally.out_of_layout += 1;
+        for lent in [0, 4, bytes.len() * 8] {
+            self.hold(name, bytes, lent, &Outcome::Refused(17));
+        }
+    }
+
+    fn hold_too_few(&mut self, name: &str, bytes: &[u8], lent: usize) {
+        self.tally.too_few += 1;
+        self.hold(name, bytes, lent, &Outcome::Refused(15));
     }
 
     /// One call of the port.
@@ -138,27 +131,15 @@ impl<A: Answers> Judge<A> {
         }
     }
 
-    /// The last line, and an error if anything differs or fewer runs were compared than had to be.
-    pub fn finish(&self, least: usize, seed17_draws: usize) -> Result<(), String> {
-        let t = &self.tally;
-        println!("docs/LAYOUT.md: {} calls of its worked run", t.shown);
-        let met = t.refusals.iter().filter(|(refusal, _)| **refusal > 0);
-        let met: Vec<String> = met.map(|(refusal, n)| format!("{refusal}: {n}")).collect();
-        println!("refusals within runs: {}", met.join(", "));
-        println!(
-            "damaged: {} byte runs, of which {} out of the layout; too few bytes lent: {} times",
-            t.damaged, t.out_of_layout, t.too_few
-        );
-        println!(
-            "compare: {} runs, {} calls, {} answer bytes compared, {} differ",
-            t.runs, t.calls, t.answer_bytes, t.differing
-        );
+    /// The counts, and an error if anything differs or less was compared than has to be.
+    pub fn finish(&self, least: &Least, seed17_draws: usize) -> Result<(), String> {
+        self.tally.print();
         if seed17_draws > 0 {
             return Err("the branch seeded with 17 was reached".into());
         }
-        if t.differing > 0 {
+        if self.tally.differing > 0 {
             return Err("the port's answers are not those of the Rust".into());
         }
-        reached(t.runs, least, "runs")
+        self.tally.reaches(least)
     }
 }

@@ -1,13 +1,13 @@
 //! Holds the port against the Rust, byte run by byte run.
 //!
 //!   compare 500 [SEED]        compares 500 runs
-//!   compare 75s [SEED]        compares runs for 75 seconds, at least 10 for each of them
+//!   compare 75s [SEED]        compares runs for 75 seconds, at least so many for each of them as stand below
 //!   compare --only N [SEED]   compares the run N of a seed
 //!   compare --fault           changes answers, buffers and words on purpose; all is well if that
 //!                             is noticed
 //!   compare --replay          reads a run in hexadecimal digits and shows each call's two answers
 //!
-//! SEED is a whole number; the same one gives the same runs. The worked run of docs/LAYOUT.md is
+//! SEED is a whole number; the same one gives the same runs. The worked runs of docs/LAYOUT.md are
 //! compared before them. The last line says how many were compared and how many differ; the exit
 //! status is 0 only if none does and no fewer were compared than asked for.
 #![forbid(unsafe_code)]
@@ -17,18 +17,24 @@ mod fault;
 mod inputs;
 mod judge;
 mod replay;
+mod tally;
 
 use command::number;
 use inputs::Source;
 use judge::{Judge, Plain};
 use std::process::ExitCode;
 use std::time::{Duration, Instant};
+use tally::Least;
 
 const SEED: u64 = 20;
 
-/// A comparison for a time has to get through so many runs for each of its seconds. It does about 250,
-/// so that a machine twenty times slower still passes, and a comparison that is stuck does not.
-const LEAST_A_SECOND: usize = 10;
+/// A comparison for a time has to get through so much for each of its seconds: in 75 seconds 2,025,000 calls
+/// of sampled runs and 202,500 report rows.
+const LEAST_A_SECOND: Least = Least {
+    runs: 10,
+    sampled_calls: 27_000,
+    report_rows: 2_700,
+};
 
 /// When a comparison ends, or the one run it is of.
 enum Until {
@@ -38,12 +44,23 @@ enum Until {
 }
 
 impl Until {
-    /// How many runs have to be compared.
-    fn least(&self) -> usize {
+    /// How much has to be compared.
+    fn least(&self) -> Least {
+        let runs = |runs| Least {
+            runs,
+            ..Least::default()
+        };
         match self {
-            Until::Only(_) => 1,
-            Until::Runs(runs) => *runs,
-            Until::Time(time) => LEAST_A_SECOND * (time.as_secs() as usize).max(1),
+            Until::Only(_) => runs(1),
+            Until::Runs(number) => runs(*number),
+            Until::Time(time) => {
+                let seconds = (time.as_secs() as usize).max(1);
+                Least {
+                    runs: LEAST_A_SECOND.runs * seconds,
+                    sampled_calls: LEAST_A_SECOND.sampled_calls * seconds,
+                    report_rows: LEAST_A_SECOND.report_rows * seconds,
+                }
+            }
         }
     }
 }
@@ -97,7 +114,7 @@ fn compare(until: Until, seed: u64) -> Result<(), String> {
             Until::Time(time) => start.elapsed() >= time,
         };
         if over {
-            return judge.finish(until.least(), oracle::feed::seed17_draws());
+            return judge.finish(&until.least(), oracle::feed::seed17_draws());
         }
     }
 }

@@ -2,13 +2,13 @@
 //! answer.
 use crate::difference::numbers;
 use crate::judge::{Answers, Plain};
-use runs::{decode, digits, outcome, Call, Outcome};
+use runs::{decode, digits, outcome, Outcome, MOST_LENT};
 
 /// Shows every call, and an error if an answer differs.
 pub fn run() -> Result<(), String> {
     let text = std::io::read_to_string(std::io::stdin()).map_err(|e| e.to_string())?;
     let bytes = digits::bytes(&text)?;
-    let expected = outcome(&bytes, usize::MAX);
+    let expected = outcome(&bytes, MOST_LENT);
     let lent = match &expected {
         Outcome::Answered(answers) => answers.len(),
         Outcome::Refused(_) => 0,
@@ -31,18 +31,11 @@ fn show(bytes: &[u8], expected: &Outcome, got: &[u8]) {
     let (Some(run), Outcome::Answered(answers)) = (decode(bytes), expected) else {
         return;
     };
-    let channels = run.making.channels;
-    let size = |call: &Call| 4 * call.answer_numbers(channels);
-    let sizes = run.calls.iter().map(size);
-    let names = run.calls.iter().map(|call| format!("{call:X?}"));
-    let mut place = 0;
-    let making = (format!("{:X?}", run.making), 4);
-    for (name, size) in [making].into_iter().chain(names.zip(sizes)) {
-        let answer = place..place + size;
-        place += size;
-        let (ours, theirs) = (answers.get(answer.clone()), got.get(answer));
+    for span in run.spans() {
+        let answer = || span.answer.clone();
+        let (ours, theirs) = (answers.get(answer()), got.get(answer()));
         let mark = if ours == theirs { "" } else { " DIFFERS" };
-        println!("{name}{mark}");
+        println!("{}{mark}", span.name(&run));
         println!(
             "  expected {}\n  got      {}",
             numbers(ours),

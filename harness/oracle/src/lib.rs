@@ -24,5 +24,5 @@ pub use rcflib::samplerplustree::sampler::Sampler;
 pub use rcflib::types::Result;
 pub use report::{report, Row};
 pub use table::Table;
-pub use trees::{Added, Arrived, BareTree, SampledTree, Tree};
+pub use trees::{draw_of_no_weight, Added, Arrived, BareTree, SampledTree, Tree};
 pub use words::Words;

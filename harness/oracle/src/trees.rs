@@ -101,9 +101,7 @@ impl SampledTree {
             .chain(words.iter().copied())
             .collect();
         feed::set(&fed);
-        feed::set_first(draw_of_no_weight());
-        self.both.oracle_set_clock(-f64::from(weight), 1);
-        let ((leaf, _), (evicted, _)) = self.both.update(index, NO_ATTRIBUTE, table)?;
+        let (leaf, evicted) = self.arrive_fed(table, index, weight, draw_of_no_weight())?;
         if leaf == usize::MAX {
             return Ok(None);
         }
@@ -113,6 +111,23 @@ impl SampledTree {
         };
         let evicted = (evicted != usize::MAX).then_some(evicted);
         Ok(Some(Arrived { added, evicted }))
+    }
+
+    /// The same by words that were fed before, so that many arrivals take from them in turn: the leaf's
+    /// index and the evicted one as the Rust gives them, the largest number where there is none. The draw
+    /// is that of no weight.
+    #[inline]
+    pub fn arrive_fed(
+        &mut self,
+        table: &Table,
+        index: usize,
+        weight: f32,
+        draw_of_no_weight: f64,
+    ) -> Result<(usize, usize)> {
+        feed::set_first(draw_of_no_weight);
+        self.both.oracle_set_clock(-f64::from(weight), 1);
+        let ((leaf, _), (evicted, _)) = self.both.update(index, NO_ATTRIBUTE, table)?;
+        Ok((leaf, evicted))
     }
 
     /// The starting chance at a fill, by the unchanged `initial_accept_probability`.
@@ -131,7 +146,7 @@ impl SampledTree {
 }
 
 /// The draw u with ln(-ln(u)) = 0.
-fn draw_of_no_weight() -> f64 {
+pub fn draw_of_no_weight() -> f64 {
     let u = (-1.0f64).exp();
     assert!((-u.ln()).ln() == 0.0, "ln(-ln(1/e)) is not 0 here");
     u

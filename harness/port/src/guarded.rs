@@ -4,6 +4,8 @@ use std::ops::Range;
 
 /// Guard bytes on each side; the shift of a turn is added before.
 const GUARD: usize = 64;
+/// The pattern begins again after so many bytes, a prime number.
+const REPEATS: usize = 4_093;
 
 pub struct Guarded {
     bytes: Vec<u8>,
@@ -13,28 +15,27 @@ pub struct Guarded {
 }
 
 impl Guarded {
-    /// Lends a copy of these bytes.
+    /// Lends a copy of these bytes, with a pattern around them. The turn also decides how the lent part
+    /// lies to a multiple of 8.
     pub fn holding(content: &[u8], turn: usize) -> Self {
-        let mut guarded = Guarded::empty(content.len(), turn);
-        let lent = guarded.from..guarded.from + guarded.length;
-        guarded.bytes[lent].copy_from_slice(content);
-        guarded.before = guarded.bytes.clone();
-        guarded
-    }
-
-    /// Lends so many bytes, with a pattern in them and around them. The turn also decides how the
-    /// lent part lies to a multiple of 8.
-    pub fn empty(length: usize, turn: usize) -> Self {
         let from = GUARD + turn % 8;
-        let bytes: Vec<u8> = (0..from + length + GUARD)
-            .map(|place| pattern(place, turn))
-            .collect();
+        let bytes = [
+            &pattern(from, turn)[..],
+            content,
+            &pattern(GUARD, turn + 1)[..],
+        ]
+        .concat();
         Guarded {
             before: bytes.clone(),
             bytes,
             from,
-            length,
+            length: content.len(),
         }
+    }
+
+    /// Lends so many bytes with a pattern in them too.
+    pub fn empty(length: usize, turn: usize) -> Self {
+        Guarded::holding(&pattern(length, turn + 2), turn)
     }
 
     pub fn lent(&self) -> &[u8] {
@@ -50,7 +51,12 @@ impl Guarded {
         let may = self.from + may_change.start..self.from + may_change.end;
         let changed = |range: Range<usize>| {
             let start = range.start;
-            let mut both = self.bytes[range.clone()].iter().zip(&self.before[range]);
+            let (now, then) = (&self.bytes[range.clone()], &self.before[range]);
+            // all at once first, which is quicker
+            if now == then {
+                return None;
+            }
+            let mut both = now.iter().zip(then);
             both.position(|(now, then)| now != then)
                 .map(|n| (start + n) as isize - self.from as isize)
         };
@@ -63,9 +69,18 @@ impl Guarded {
     }
 }
 
-/// A pattern without long repeats, so that neither zeros nor answers written by mistake look
-/// like it.
-fn pattern(place: usize, turn: usize) -> u8 {
-    let mixed = (place + 131 * turn).wrapping_mul(0x9E37_79B9);
-    (mixed >> 13) as u8
+/// So many bytes without short repeats, so that neither zeros nor answers written by mistake look like
+/// them.
+fn pattern(length: usize, turn: usize) -> Vec<u8> {
+    let byte = |place: usize| {
+        let mixed = (place + 131 * turn).wrapping_mul(0x9E37_79B9);
+        (mixed >> 13) as u8
+    };
+    let mut bytes = Vec::with_capacity(length);
+    bytes.extend((0..length.min(REPEATS)).map(byte));
+    while bytes.len() < length {
+        let more = (length - bytes.len()).min(REPEATS);
+        bytes.extend_from_within(..more);
+    }
+    bytes
 }

@@ -80,8 +80,9 @@ impl Lending {
     }
 }
 
+/// One call of the port, with nothing around what it is lent.
 #[allow(unsafe_code)]
-fn run_of_port(run: &[u8], answers: &mut [u8]) -> usize {
+pub fn run_of_port(run: &[u8], answers: &mut [u8]) -> usize {
     extern "C" {
         fn sicklephlox_run(
             run: *const u8,

@@ -5,6 +5,7 @@
 //!                          byte
 #![forbid(unsafe_code)]
 
+mod call_table;
 mod cuts;
 mod floats;
 mod intervals;
@@ -12,6 +13,8 @@ mod page;
 mod record;
 mod run_page;
 mod runs;
+mod sampled_page;
+mod sampled_runs;
 mod samples;
 mod text_page;
 mod texts;
@@ -44,6 +47,7 @@ struct Recorded {
     texts: Vec<texts::Entry>,
     floats: Vec<Record>,
     samples: Vec<Record>,
+    sampled_runs: Vec<runs::Entry>,
 }
 
 impl Recorded {
@@ -55,6 +59,7 @@ impl Recorded {
             texts: texts::entries(),
             floats: floats::records(),
             samples: samples::records(),
+            sampled_runs: sampled_runs::entries(),
         }
     }
 
@@ -64,7 +69,13 @@ impl Recorded {
         let runs = self.runs.iter().map(|run| run.record().bytes());
         let texts = self.texts.iter().map(|text| text.record().bytes());
         let after = self.floats.iter().chain(&self.samples).map(Record::bytes);
-        before.chain(runs).chain(texts).chain(after).collect()
+        let last = self.sampled_runs.iter().map(|run| run.record().bytes());
+        before
+            .chain(runs)
+            .chain(texts)
+            .chain(after)
+            .chain(last)
+            .collect()
     }
 }
 

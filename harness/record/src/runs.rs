@@ -1,4 +1,4 @@
-//! Recorded byte runs with what they return and write.
+//! Recorded byte runs of bare trees with what they return and write.
 use crate::record::{Record, ROOM};
 use oracle::{feed, Words};
 use runs::damaged::damage;
@@ -21,7 +21,7 @@ pub struct Entry {
 }
 
 impl Entry {
-    fn whole(written: Written) -> Self {
+    pub fn whole(written: Written) -> Self {
         let run = written.run.encode();
         assert_eq!(decode(&run).as_ref(), Some(&written.run));
         Entry {
@@ -31,7 +31,7 @@ impl Entry {
     }
 
     /// Bytes and what they come to where as much is lent as the program lends.
-    fn lent_all(run: Vec<u8>) -> Self {
+    pub fn lent_all(run: Vec<u8>) -> Self {
         let outcome = outcome(&run, ROOM);
         Entry { run, outcome }
     }
@@ -48,7 +48,7 @@ impl Entry {
 /// All entries: document 01's inputs, generated runs, large ones, and damaged ones.
 pub fn entries() -> Vec<Entry> {
     let mut words = Words::new(SEED);
-    let mut entries: Vec<Entry> = examples::all().into_iter().map(Entry::whole).collect();
+    let mut entries: Vec<Entry> = examples::bare().into_iter().map(Entry::whole).collect();
     entries.extend((0..GENERATED).map(|n| Entry::whole(generate::run(&mut words, room(n)))));
     entries.extend(large());
     entries.extend((0..DAMAGED).map(|_| damaged(&mut words)));
@@ -94,11 +94,7 @@ fn large() -> Vec<Entry> {
 /// 15 puts need all bytes that are lent.
 fn at_the_end_of_the_room() -> Vec<Vec<u8>> {
     let run = |capacity, puts: u32, boxes: u32| {
-        let making = Making {
-            channels: 8,
-            capacity,
-            share: 1.0f64.to_bits(),
-        };
+        let making = Making::bare(8, capacity, 1.0);
         let put = |index| Call::Put {
             index,
             coordinates: vec![(index as f32).to_bits(); 8],

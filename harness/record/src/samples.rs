@@ -1,6 +1,7 @@
 //! Recorded sequences of `Sampler<u16>` by itself, with the starting chance as `update` asks for it.
 use crate::record::{Record, ROOM};
 use oracle::{factor, SampledTree, Sampler, Words};
+use runs::arriving::{initial_share, start_word, Weighing, Weights, NAN};
 
 pub const KIND: u32 = 12;
 const SEED: u64 = 0x5A3D_1E0F_9C2B_7781;
@@ -19,8 +20,8 @@ const ANSWER: usize = 20;
 /// The index that stands for a look at the whole heap, and the one for an eviction by itself.
 const LOOK: u16 = 65535;
 const EVICT: u16 = 65534;
-/// The pattern that stands for every NaN.
-const NAN: u32 = 0x7FC0_0000;
+/// Words for the starting chance are aimed so near to it, in factors.
+const WITHIN: usize = 1;
 
 /// Samples up to this capacity are emptied in some sequences.
 const EMPTIED: usize = 64;
@@ -29,30 +30,6 @@ const EMPTIED: usize = 64;
 const PASSES: u16 = 0;
 const STARTS: u16 = 1;
 const EVICTS: u16 = 2;
-
-/// Which weights a sequence has.
-#[derive(Clone, Copy)]
-enum Weights {
-    Equal,
-    FewValues,
-    EverySize,
-    Denormal,
-    Near,
-    Rising,
-    Falling,
-    AnyPattern,
-}
-
-const WEIGHTS: [Weights; 8] = [
-    Weights::Equal,
-    Weights::FewValues,
-    Weights::EverySize,
-    Weights::Denormal,
-    Weights::Near,
-    Weights::Rising,
-    Weights::Falling,
-    Weights::AnyPattern,
-];
 
 pub fn records() -> Vec<Record> {
     let mut words = Words::new(SEED);
@@ -69,9 +46,9 @@ pub fn records() -> Vec<Record> {
         } else {
             1 + words.below(48)
         };
-        let share = share(capacity, &mut words);
+        let share = initial_share(capacity, &mut words);
         // so that each kind is among the sequences that go on until the sample is full
-        let weights = WEIGHTS[(n + n / 8) % 8];
+        let weights = Weights::ALL[(n + n / 8) % 8];
         let mut sequence = Sequence::start(capacity, share, weights, &mut words);
         for n in 0..arrivals {
             sequence.arrive(&mut words);
@@ -84,36 +61,15 @@ pub fn records() -> Vec<Record> {
     (0..SEQUENCES).map(sequence).collect()
 }
 
-/// An initial share: 0, 1/8, 1/2, 1, and odd ones.
-fn share(capacity: usize, words: &mut Words) -> f64 {
-    let part = words.below(capacity + 1) as f64 / capacity as f64;
-    match words.below(12) {
-        0 => 0.0,
-        1 => 0.125,
-        2 => 0.5,
-        3 => 1.0,
-        4 => part,
-        5 => f64::from_bits(part.to_bits().saturating_sub(1)),
-        6 => f64::from_bits(part.to_bits() + 1).min(1.0),
-        7 => factor(words.word()),
-        8 => f64::from_bits(1f64.to_bits() - 1),
-        9 => f64::from_bits(1 + words.below(3) as u64),
-        10 => -0.0,
-        _ => words.one_of(&[1.0 / 3.0, 0.1, 0.7, 0.99]),
-    }
-}
-
 /// A sampler of the Rust, its starting chance, and the record so far.
 struct Sequence {
     sampler: Sampler<u16>,
     /// Only asked for the chance, which the Rust's `SamplerPlusTree` keeps to itself.
     tree: SampledTree,
-    weights: Weights,
+    weighing: Weighing,
     capacity: usize,
     /// Whether entries are evicted by themselves, between arrivals.
     evicting: bool,
-    /// The pattern that weights of some kinds are made from.
-    base: u32,
     arrivals: usize,
     given: Vec<u8>,
     written: Vec<u8>,
@@ -126,10 +82,9 @@ impl Sequence {
         Sequence {
             sampler: Sampler::new(capacity, false).expect("a sampler"),
             tree: SampledTree::make(1, capacity, 0.0, share).expect("a tree"),
-            weights,
             capacity,
             evicting: words.once_in(3),
-            base: finite(words),
+            weighing: Weighing::new(weights, words),
             arrivals: 0,
             given,
             written: Vec::new(),
@@ -138,9 +93,10 @@ impl Sequence {
 
     fn arrive(&mut self, words: &mut Words) {
         self.arrivals += 1;
-        let weight = self.weight(words);
+        let top = self.sampler.oracle_heap().first().map(|(top, _)| *top);
+        let weight = self.weighing.next(top, words);
         let chance = self.tree.chance(self.sampler.get_fill_fraction());
-        let word = word(chance, words);
+        let word = start_word(chance, WITHIN, words);
         let index = if words.once_in(16) {
             words.below(usize::from(EVICT))
         } else {
@@ -237,73 +193,6 @@ impl Sequence {
             self.look();
         }
     }
-
-    fn weight(&mut self, words: &mut Words) -> f32 {
-        // the largest held, or the float next to it
-        if let Some((top, _)) = self
-            .sampler
-            .oracle_heap()
-            .first()
-            .filter(|_| words.once_in(5))
-        {
-            let bits = top.to_bits().wrapping_add([0, 1, u32::MAX][words.below(3)]);
-            if is_number(bits) {
-                return f32::from_bits(bits);
-            }
-        }
-        let n = self.arrivals as u32;
-        let bits = match self.weights {
-            Weights::Equal => self.base,
-            Weights::FewValues => (words.between(-2, 2) as f32 * 0.5).to_bits(),
-            Weights::EverySize => finite(words),
-            Weights::Denormal => {
-                let sign = (words.below(2) as u32) << 31;
-                sign + ((words.word() as u32 & 0x007F_FFFF) >> (10 * words.below(3)))
-            }
-            Weights::Near => (self.base & 0xFFFF_FFF0) + words.below(8) as u32,
-            // from the least negative pattern down, or from a small positive number up
-            Weights::Rising => 0x3000_0000 + (n << 16) + words.below(1 << 16) as u32,
-            Weights::Falling => 0x8000_0001 + (n << 20) + words.below(1 << 20) as u32,
-            Weights::AnyPattern => match words.below(4) {
-                0 => words.one_of(&[0, 1 << 31, 0x7F80_0000, 0xFF80_0000, NAN, 0xFFC0_0001]),
-                _ => words.word() as u32,
-            },
-        };
-        match self.weights {
-            Weights::AnyPattern => f32::from_bits(bits),
-            _ if is_number(bits) => f32::from_bits(bits),
-            _ => 0.0,
-        }
-    }
-}
-
-/// The word for the starting chance: any, at an end, or with a factor at the chance or next to it.
-fn word(chance: f64, words: &mut Words) -> u64 {
-    match words.below(6) {
-        0 => words.one_of(&[0, u64::MAX, 2047, 1 << 63]),
-        1 | 2 => {
-            let factor = (chance * (1u64 << 53) as f64) as u64;
-            let next = factor + words.below(3) as u64;
-            let next = next.saturating_sub(1).min((1 << 53) - 1);
-            (next << 11) + words.below(1 << 11) as u64
-        }
-        _ => words.word(),
-    }
-}
-
-/// The pattern of a finite weight of any size and sign.
-fn finite(words: &mut Words) -> u32 {
-    loop {
-        let bits = words.word() as u32;
-        if is_number(bits) {
-            return bits;
-        }
-    }
-}
-
-/// Document 01's weights: finite and not minus zero.
-fn is_number(bits: u32) -> bool {
-    f32::from_bits(bits).is_finite() && bits != 1 << 31
 }
 
 fn pattern(weight: f32) -> u32 {

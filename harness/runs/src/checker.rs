@@ -11,17 +11,41 @@ pub enum Checked {
     Needs(usize),
 }
 
-/// Numbers that a call of this kind has before its list, and answers; `None`: out of the layout
-/// anywhere after the making. The channels are the run's own number, in range or not.
-fn sizes(kind: u64, channels: u64) -> Option<(u64, u64)> {
-    Some(match kind {
-        3 => (3, 1),
-        4 => (3, 3),
-        5 | 8 => (2, 2),
-        9 => (2, 6),
-        10 => (2, 1 + 2 * channels),
-        _ => return None,
-    })
+/// The numbers of a call of one kind: so many at least, the count of its list at this place if it
+/// has one, and so many for each item.
+struct Sizes {
+    fixed: u64,
+    list: Option<(u64, u64)>,
+}
+
+/// The kinds of calls after a making, by the making's kind.
+const BARE: [u64; 7] = [3, 4, 5, 7, 8, 9, 10];
+const SAMPLED: [u64; 7] = [3, 6, 7, 8, 9, 10, 11];
+
+fn sizes(kind: u64) -> Sizes {
+    let (fixed, list) = match kind {
+        3 | 7 => (3, Some((2, 1))),
+        4 => (3, Some((2, 2))),
+        6 => (6, Some((5, 2))),
+        11 => (1, None),
+        _ => (2, None),
+    };
+    Sizes { fixed, list }
+}
+
+/// How many numbers a call answers. Channels, capacity and rows lent are the run's own numbers, in
+/// range or not.
+fn answer(kind: u64, channels: u64, capacity: u64, rows: u64) -> u64 {
+    match kind {
+        3 => 1,
+        4 => 3,
+        5 | 8 => 2,
+        6 => 4,
+        7 => 2 + 5 * rows,
+        9 => 6,
+        10 => 1 + 2 * channels,
+        _ => 2 + 2 * capacity,
+    }
 }
 
 /// Whether the bytes are a run, and how many answer bytes it needs.
@@ -33,39 +57,50 @@ pub fn check(bytes: &[u8]) -> Checked {
         .chunks(4)
         .map(|four| (0..4).map(|i| u64::from(four[i]) << (8 * i)).sum())
         .collect();
-    if numbers.len() < 5 || numbers[0] != 1 {
-        return Checked::OutOfLayout;
-    }
-    let Some(after) = answers_of_calls(&numbers) else {
-        return Checked::OutOfLayout;
+    needs(&numbers).map_or(Checked::OutOfLayout, Checked::Needs)
+}
+
+fn needs(numbers: &[u64]) -> Option<usize> {
+    let (made, kinds) = match numbers.first()? {
+        1 => (5, BARE),
+        2 => (7, SAMPLED),
+        _ => return None,
     };
+    if numbers.len() < made {
+        return None;
+    }
+    let after = answers_of_calls(numbers, made as u64, &kinds)?;
+    let share = |place: usize| numbers[place] + (numbers[place + 1] << 32);
     let making = Making {
         channels: numbers[1] as u32,
         capacity: numbers[2] as u32,
-        share: numbers[3] + (numbers[4] << 32),
+        share: share(3),
+        initial: (made == 7).then(|| share(5)),
     };
-    match making_refusal(&making) {
-        Some(_) => Checked::Needs(4),
-        None => Checked::Needs(4 + 4 * after as usize),
-    }
+    Some(match making_refusal(&making) {
+        Some(_) => 4,
+        None => 4 + 4 * after as usize,
+    })
 }
 
-/// How many numbers the calls after the making answer; `None`: out of the layout. With 2^32 - 1
-/// channels a box has less than 2^33 of them, so 64 bits hold the sum for 2^31 calls.
-fn answers_of_calls(numbers: &[u64]) -> Option<u64> {
-    let (channels, end) = (numbers[1], numbers.len() as u64);
-    let (mut place, mut answers) = (5, 0);
+/// How many numbers the calls after the making answer; `None`: out of the layout. A call answers less
+/// than 2^35 numbers, so 64 bits hold the sum for 2^29 calls.
+fn answers_of_calls(numbers: &[u64], made: u64, kinds: &[u64]) -> Option<u64> {
+    let end = numbers.len() as u64;
+    let (mut place, mut answers) = (made, 0);
     while place < end {
-        let kind = numbers[place as usize];
-        let (fixed, answer) = sizes(kind, channels)?;
-        let listed = match (kind, numbers.get(place as usize + 2)) {
-            (3, Some(n)) => *n,
-            (4, Some(n)) => 2 * *n,
-            (3 | 4, None) => return None,
-            _ => 0,
+        let at = |offset: u64| numbers.get((place + offset) as usize).copied();
+        let kind = at(0)?;
+        if !kinds.contains(&kind) {
+            return None;
+        }
+        let rows = if kind == 7 { at(1)? } else { 0 };
+        answers += answer(kind, numbers[1], numbers[2], rows);
+        let Sizes { fixed, list } = sizes(kind);
+        place += match list {
+            Some((count, each)) => fixed + each * at(count)?,
+            None => fixed,
         };
-        place += fixed + listed;
-        answers += answer;
     }
     (place == end).then_some(answers)
 }

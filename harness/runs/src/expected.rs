@@ -2,7 +2,10 @@
 use crate::decode::decode;
 use crate::driver::Driver;
 use crate::layout::{Answer, Run};
-use crate::refusals::{OUT_OF_LAYOUT, TOO_FEW_BYTES};
+use crate::refusals::{making_refusal, OUT_OF_LAYOUT, TOO_FEW_LENT};
+
+/// No more answer bytes than this are lent to damaged runs. A report may ask for 80 gigabytes of rows.
+pub const MOST_LENT: usize = 1 << 22;
 
 /// What a run's bytes come to.
 #[derive(Clone, Debug, PartialEq)]
@@ -34,6 +37,15 @@ pub fn answers(run: &Run) -> Vec<Answer> {
     }
 }
 
+/// How many answer bytes the run needs.
+pub fn needed(run: &Run) -> usize {
+    let answer_bytes = |call| crate::Call::answer_bytes(call, &run.making);
+    match making_refusal(&run.making) {
+        Some(_) => 4,
+        None => 4 + run.calls.iter().map(answer_bytes).sum::<usize>(),
+    }
+}
+
 /// Answers as the bytes that are written.
 pub fn bytes_of(answers: &[Answer]) -> Vec<u8> {
     let numbers = answers.iter().flatten();
@@ -45,9 +57,11 @@ pub fn outcome(bytes: &[u8], lent: usize) -> Outcome {
     let Some(run) = decode(bytes) else {
         return Outcome::Refused(OUT_OF_LAYOUT);
     };
-    let written = bytes_of(&answers(&run));
-    if lent < written.len() {
-        return Outcome::Refused(TOO_FEW_BYTES);
+    let needed = needed(&run);
+    if lent < needed {
+        return Outcome::Refused(TOO_FEW_LENT);
     }
+    let written = bytes_of(&answers(&run));
+    assert_eq!(written.len(), needed);
     Outcome::Answered(written)
 }

@@ -3,21 +3,25 @@
 #![forbid(unsafe_code)]
 
 pub mod aimed;
+pub mod arriving;
 mod checker;
 mod copies;
 pub mod damaged;
 mod decode;
 pub mod digits;
 mod driver;
+mod encode;
 pub mod examples;
 mod expected;
 pub mod generate;
 mod layout;
 pub mod page;
 mod refusals;
+mod spans;
 
 pub use checker::{check, Checked};
 pub use decode::decode;
 pub use driver::Driver;
-pub use expected::{answers, bytes_of, outcome, Outcome};
-pub use layout::{Answer, Call, Making, Run};
+pub use expected::{answers, bytes_of, needed, outcome, Outcome, MOST_LENT};
+pub use layout::{Answer, Call, Making, Run, ROW_NUMBERS};
+pub use spans::Span;

@@ -1,10 +1,11 @@
-//! The worked run of docs/LAYOUT.md, read out of the page itself: its bytes and answers, row by row,
+//! The worked runs of docs/LAYOUT.md, read out of the page itself: their bytes and answers, row by row,
 //! and what the page says is returned.
 use crate::digits;
 use crate::expected::Outcome;
 
 const PAGE: &str = concat!(env!("CARGO_MANIFEST_DIR"), "/../../docs/LAYOUT.md");
-const HEADING: &str = "\n## A run, byte by byte\n";
+/// The heading of a section with a worked run ends so.
+const HEADING: &str = "byte by byte";
 
 /// A call of `sicklephlox_run`, and what the page says comes of it.
 pub struct Shown {
@@ -16,14 +17,33 @@ pub struct Shown {
 /// The calls that the page shows; an error if it has no worked run.
 pub fn shown() -> Result<Vec<Shown>, String> {
     let page = std::fs::read_to_string(PAGE).map_err(|e| format!("{PAGE}: {e}"))?;
-    read(&page).map_err(|why| format!("the worked run of docs/LAYOUT.md: {why}"))
+    read(&page).map_err(|why| format!("docs/LAYOUT.md: {why}"))
 }
 
-/// The same of a page at hand. Each row of the run is a call and each row of the answers its answer,
-/// so the rows up to each one are a run too. The whole one is then lent too little, and cut short.
+/// The same of a page at hand. At least one section must have a worked run, and at least one of these must
+/// tell how it is refused.
 pub fn read(page: &str) -> Result<Vec<Shown>, String> {
-    let section = page.split_once(HEADING).ok_or("there is none")?.1;
-    let section = section.split("\n## ").next().unwrap_or(section);
+    let mut all = Vec::new();
+    let mut refusals = 0;
+    for section in page.split("\n## ").skip(1) {
+        let heading = section.lines().next().unwrap_or_default();
+        if heading.ends_with(HEADING) {
+            let read = worked_run(section).map_err(|why| format!("'{heading}': {why}"))?;
+            let refused = |shown: &&Shown| matches!(shown.outcome, Outcome::Refused(_));
+            refusals += read.iter().filter(refused).count();
+            all.extend(read);
+        }
+    }
+    match (all.is_empty(), refusals) {
+        (true, _) => Err("no worked run".into()),
+        (_, 0) => Err(format!("no worked run says: {TOO_FEW_OR_CUT}")),
+        _ => Ok(all),
+    }
+}
+
+/// The calls that a section shows. Each row of the run is a call and each row of the answers its answer,
+/// so the rows up to each one are a run too.
+fn worked_run(section: &str) -> Result<Vec<Shown>, String> {
     let tables = tables(section);
     let [run, answers] = &tables[..] else {
         return Err(format!("{} tables, not 2", tables.len()));
@@ -37,27 +57,40 @@ pub fn read(page: &str) -> Result<Vec<Shown>, String> {
         lent: answers[..rows].concat().len(),
         outcome: Outcome::Answered(answers[..rows].concat()),
     };
-    let refused = refused(section, &run.concat(), answers.concat().len())?;
+    let words: Vec<&str> = section.split_whitespace().collect();
+    let prose = words.join(" ");
+    let (bytes, answer_bytes) = (run.concat(), answers.concat().len());
+    check_lengths(&prose, bytes.len(), answer_bytes)?;
+    let refused = refused(&prose, &bytes, answer_bytes)?;
     Ok((1..=run.len()).map(answered).chain(refused).collect())
 }
 
-/// The whole run lent too little, and cut short, by the section's last sentence. Its lengths must be
-/// those that the section names.
-fn refused(section: &str, run: &[u8], answer_bytes: usize) -> Result<[Shown; 2], String> {
-    let words: Vec<&str> = section.split_whitespace().collect();
-    let prose = words.join(" ");
-    let [named] = numbers(&prose, "never written. # bytes:")?;
-    let [returned] = numbers(&prose, "It returns #, and writes:")?;
-    if (named, returned) != (run.len(), answer_bytes) {
-        let (has, writes) = (run.len(), answer_bytes);
-        return Err(format!(
-            "{named} bytes and {returned} returned are named, the tables have {has} and {writes}"
-        ));
+/// The lengths that the section names must be those of its tables.
+fn check_lengths(prose: &str, run_bytes: usize, answer_bytes: usize) -> Result<(), String> {
+    let (before, _) = prose
+        .split_once(" bytes: |")
+        .ok_or("no number of bytes before the run")?;
+    let named = before.rsplit(' ').next().and_then(|n| n.parse().ok());
+    let [returned] = numbers(prose, "It returns #, and writes:")?;
+    match (named, returned) == (Some(run_bytes), answer_bytes) {
+        true => Ok(()),
+        false => Err(format!(
+            "{named:?} bytes and {returned} returned are named, the tables have {run_bytes} and \
+             {answer_bytes}"
+        )),
     }
-    let sentence =
-        "With # answer bytes lent it returns #; with the last number of the run left out, #.";
-    let [lent, too_few, cut_short] = numbers(&prose, sentence)?;
-    Ok([
+}
+
+const TOO_FEW_OR_CUT: &str =
+    "With # answer bytes lent it returns #; with the last number of the run left out, #.";
+
+/// The whole run lent too little, and cut short, if the section tells of it.
+fn refused(prose: &str, run: &[u8], answer_bytes: usize) -> Result<Vec<Shown>, String> {
+    if !prose.contains("answer bytes lent it returns") {
+        return Ok(vec![]);
+    }
+    let [lent, too_few, cut_short] = numbers(prose, TOO_FEW_OR_CUT)?;
+    Ok(vec![
         Shown {
             run: run.to_vec(),
             lent,
@@ -95,7 +128,8 @@ fn tables(section: &str) -> Vec<Vec<&str>> {
         .collect()
 }
 
-/// The bytes of each row. Its first column must say at which byte it begins.
+/// The bytes of each row. Its first column must say at which byte it begins. The numbers may stand in
+/// several pieces with `<br>` between them.
 fn rows(table: &[&str]) -> Result<Vec<Vec<u8>>, String> {
     let mut place = 0;
     let mut rows = Vec::new();
@@ -107,7 +141,7 @@ fn rows(table: &[&str]) -> Result<Vec<Vec<u8>>, String> {
         if byte.parse() != Ok(place) {
             return Err(format!("byte {place} is to come: {line}"));
         }
-        let row = digits::bytes(numbers.trim_matches('`'))?;
+        let row = digits::bytes(&numbers.replace("<br>", "").replace('`', ""))?;
         place += row.len();
         rows.push(row);
     }

@@ -1,12 +1,14 @@
 //! Holds the oracle against document 01: its examples, the differences that docs/DIFFERENCES.md
-//! lists, random runs of whole trees, byte runs, the worked run of docs/LAYOUT.md, and texts. Stops at
+//! lists, random runs of whole trees, byte runs, the worked runs of docs/LAYOUT.md, and texts. Stops at
 //! the first thing that does not hold.
 #![forbid(unsafe_code)]
 
 mod bare;
 mod differences;
 mod examples;
+mod kept;
 mod model;
+mod replayed;
 mod runs_read;
 mod sampled;
 mod texts_read;
@@ -23,10 +25,10 @@ fn main() {
     println!(
         "sampled trees: 200 runs, {steps} arrivals, every tree and sample as document 01 says"
     );
-    let calls = runs_read::run(400);
-    println!("byte runs: 400, {calls} calls, read back and answered as document 01 says");
-    let calls = runs_read::worked_run();
-    println!("docs/LAYOUT.md: {calls} calls of its worked run, answered as the page says");
+    let calls = runs_read::run(800);
+    println!("byte runs: 800, {calls} calls, read back and answered as document 01 says");
+    let calls = runs_read::worked_runs();
+    println!("docs/LAYOUT.md: {calls} calls of its worked runs, answered as the page says");
     let in_form = texts_read::run(1_000);
     println!("texts: 1000, {in_form} in form, each read as it was made and every refusal met");
     let reached = oracle::feed::seed17_draws() > draws;

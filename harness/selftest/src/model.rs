@@ -1,6 +1,7 @@
 //! What document 01 says of a tree, worked out from the counts of copies and from the tree before.
 use oracle::{
-    cut_choice, free_intervals, nodes, report, total, walk_nodes, Choice, Node, Table, Tree, Words,
+    cut_choice, free_intervals, nodes, report, total, walk_nodes, Choice, Node, Row, Table, Tree,
+    Words,
 };
 use std::collections::{BTreeMap, BTreeSet};
 use std::slice::Iter;
@@ -345,18 +346,28 @@ fn check_side<'a>(
 
 /// The walk report of a query near the readings, against the definition of document 01.
 pub fn check_report(tree: &Tree, table: &Table, query: &[f32]) {
-    let walked = walk(tree, table, query);
     let rows = report(tree, table, query).expect("written points");
-    assert_eq!(rows.len(), walked.len());
-    for (n, (row, walked)) in rows.iter().zip(&walked).enumerate() {
-        assert_eq!((row.id, row.depth), (walked.id, rows.len() - 1 - n));
-        assert_eq!(row.mass, walked.mass);
-        let probability = match n {
-            0 => f64::from(walked.low != query),
-            _ => probability(walked, query),
-        };
-        assert_eq!(row.probability.to_bits(), probability.to_bits());
+    let defined = defined_report(tree, table, query);
+    assert_eq!(rows.len(), defined.len());
+    for (row, defined) in rows.iter().zip(&defined) {
+        assert_eq!(row, defined);
+        assert_eq!(row.probability.to_bits(), defined.probability.to_bits());
     }
+}
+
+/// The rows that document 01 defines for a query, from the leaf to the root.
+pub fn defined_report(tree: &Tree, table: &Table, query: &[f32]) -> Vec<Row> {
+    let walked = walk(tree, table, query);
+    let row = |(n, walked_here): (usize, &Walked)| Row {
+        id: walked_here.id,
+        depth: walked.len() - 1 - n,
+        mass: walked_here.mass,
+        probability: match n {
+            0 => f64::from(walked_here.low != query),
+            _ => probability(walked_here, query),
+        },
+    };
+    walked.iter().enumerate().map(row).collect()
 }
 
 /// S / (W + S) in whole numbers, which f64 holds exactly, and one division.

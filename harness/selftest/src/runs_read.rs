@@ -1,38 +1,48 @@
 //! Byte runs: what is written is read back, both readings of docs/LAYOUT.md agree, document 01's
-//! list gets document 01's answers and the page's worked run the page's, and the trees hold what the
-//! copy counts say.
-use crate::model::{check_tree, count_down, count_up, value, Counts, Value};
-use oracle::{Table, Words};
-use runs::damaged::damage;
+//! list gets document 01's answers and the page's worked runs the page's, and each run's answers are
+//! what document 01 says (`replayed`).
+use crate::replayed::replay;
+use oracle::Words;
+use runs::damaged::{damage, damage_whole};
 use runs::generate::{self, Room, Written};
 use runs::{answers, bytes_of, check, decode, examples, outcome, page, Answer, Call, Checked};
-use runs::{Driver, Outcome};
+use runs::{Outcome, MOST_LENT};
 
 const SEED: u64 = 0x00C0_FFEE_0000_0003;
 
-/// Looks at this many runs and as many damaged ones, and answers how many calls they have.
+/// Looks at document 01's runs, at this many drawn ones and as many damaged ones, and answers how many
+/// calls they have. Of four drawn ones one is bare, one bare with reports, and two are sampled.
 pub fn run(runs: usize) -> usize {
     list_of_three_adds();
+    let mut all = [examples::bare(), examples::reported(), examples::sampled()].concat();
     let mut words = Words::new(SEED);
-    let mut calls = 0;
     for n in 0..runs {
-        let size = 1_000 << (n % 6);
+        let size = 1_000 << (n / 4 % 6);
         let room = Room {
             run: size,
             answers: size,
         };
-        let written = generate::run(&mut words, room);
-        read_back(&written);
-        replay(&written);
-        calls += written.run.calls.len();
+        let drawn = [
+            generate::run,
+            generate::reported,
+            generate::sampled,
+            generate::sampled,
+        ][n % 4];
+        let written = drawn(&mut words, room);
         both_agree(&damage(&written.run, &mut words));
+        both_agree(&damage_whole(&written.run, &mut words));
+        all.push(written);
     }
-    calls
+    for written in &all {
+        read_back(written);
+        replay(written);
+    }
+    all.iter().map(|written| written.run.calls.len()).sum()
 }
 
-/// The worked run of docs/LAYOUT.md gets the answers that the page shows; answers how many calls of
+/// The worked runs of docs/LAYOUT.md get the answers that the page shows; answers how many calls of
 /// `sicklephlox_run` those are. A page without one is an error.
-pub fn worked_run() -> usize {
+pub fn worked_runs() -> usize {
     assert!(page::read("# The byte run\n").is_err());
     let all = page::shown().unwrap_or_else(|why| panic!("{why}"));
     for shown in &all {
@@ -44,7 +54,7 @@ pub fn worked_run() -> usize {
 
 /// Document 01's list and its printed tree: branches 0 and 1, leaves 4, 6 and 5.
 fn list_of_three_adds() {
-    let Written { run, answers } = examples::all().swap_remove(0);
+    let Written { run, answers } = examples::bare().swap_remove(0);
     let answer = |call: &Call| -> &Answer {
         let place = run.calls.iter().position(|c| c == call);
         &answers[1 + place.expect("a call of the run")]
@@ -79,41 +89,10 @@ fn read_back(written: &Written) {
 
 /// `decode` and `check` agree on bytes that may be a run or not.
 fn both_agree(bytes: &[u8]) {
-    match (check(bytes), outcome(bytes, usize::MAX)) {
+    match (check(bytes), outcome(bytes, MOST_LENT)) {
         (Checked::OutOfLayout, Outcome::Refused(17)) => {}
         (Checked::Needs(needs), Outcome::Answered(written)) => assert_eq!(needs, written.len()),
+        (Checked::Needs(needs), Outcome::Refused(15)) => assert!(needs > MOST_LENT),
         (checked, outcome) => panic!("{checked:?} but {outcome:?}"),
-    }
-}
-
-/// Counts copies from calls and answers alone, and holds the tree after the last call against them.
-fn replay(written: &Written) {
-    let Ok(mut driver) = Driver::make(&written.run.making) else {
-        return assert_eq!(written.answers.len(), 1);
-    };
-    let mut kept: Vec<Option<Value>> = vec![None; Table::SIZE];
-    let mut counts = Counts::new();
-    for (call, answer) in written.run.calls.iter().zip(&written.answers[1..]) {
-        driver.call(call);
-        if answer[0] == 0 {
-            count(call, &mut kept, &mut counts);
-        }
-    }
-    let (tree, table) = (driver.bare().tree(), driver.table());
-    let share = f64::from_bits(written.run.making.share);
-    check_tree(tree, table, &counts, driver.capacity(), share);
-}
-
-/// What an accepted call changes in the counts.
-fn count(call: &Call, kept: &mut [Option<Value>], counts: &mut Counts) {
-    let point = |index: &u32, kept: &[Option<Value>]| kept[*index as usize].clone().expect("put");
-    match call {
-        Call::Put { index, coordinates } => {
-            let point: Vec<f32> = coordinates.iter().map(|x| f32::from_bits(*x)).collect();
-            kept[*index as usize] = Some(value(&point));
-        }
-        Call::Add { index, .. } => count_up(counts, point(index, kept)),
-        Call::Delete { index } => count_down(counts, point(index, kept)),
-        _ => {}
     }
 }

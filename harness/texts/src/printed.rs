@@ -82,6 +82,6 @@ fn carried_out(text: &Text) -> Outcome {
     }
     Outcome::Listed {
         refused,
-        list: oracle::printed(driver.bare().tree()),
+        list: oracle::printed(driver.tree()),
     }
 }

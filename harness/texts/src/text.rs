@@ -30,11 +30,8 @@ pub struct Text {
 impl Making {
     /// The share is exact: a number of nine digits and its sixteenth are f64 numbers.
     pub fn of_tree(&self) -> runs::Making {
-        runs::Making {
-            channels: self.dimensions,
-            capacity: self.capacity,
-            share: (f64::from(self.cache16) / 16.0).to_bits(),
-        }
+        let share = f64::from(self.cache16) / 16.0;
+        runs::Making::bare(self.dimensions, self.capacity, share)
     }
 
     fn line(&self) -> String {

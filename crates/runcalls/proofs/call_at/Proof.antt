@@ -6,10 +6,10 @@ use Rattle.runcalls.proofs.call_at.Statement.{statement}
 use Rattle.runcalls.proofs.call_at.Tie as tie
 
 number-at-requires : tie.Need-number-at-requires
-number-at-requires c κs = omega (arith, any-inside (c .before .args .run .now) _ (c .before .pre .0))
+number-at-requires c κs = omega (arith, any-inside (c .before .args .run .now) _ (c .before .pre .0 .0) (c .before .pre .0 .1))
 
 put-call-requires : tie.Need-put-call-requires
-put-call-requires c κs = put-inside (c .before .before .before .before .before .before .before .args .run .now) _ (c .before .before .before .before .before .before .before .pre .0) _ (c .before .before .before .before .before .number-at .ensures .0) (c .before .before .before .before .if1 .taken)
+put-call-requires c κs = put-inside (c .before .before .before .before .before .before .before .args .run .now) _ (c .before .before .before .before .before .before .before .pre .0 .0) (c .before .before .before .before .before .before .before .pre .0 .1) _ (c .before .before .before .before .before .number-at .ensures .0) (c .before .before .before .before .if1 .taken)
 
 returns : tie.Need-returns
 returns c =
@@ -19,7 +19,7 @@ returns c =
     (put-there (s .args .run .now) _ _ _ _ _ _ _ _ _ _ _ e f (c .put-call .ensures _ refl), words-kept (s .args .run .now) (s .args .p) _ e _ (λ x. omega (arith, f, x)))
 
 add-call-requires : tie.Need-add-call-requires
-add-call-requires c κs = (add-inside (c .before .before .before .before .before .before .before .before .before .before .before .before .before .args .run .now) _ (c .before .before .before .before .before .before .before .before .before .before .before .before .before .pre .0) _ (c .before .before .before .before .before .before .before .before .before .before .before .number-at .ensures .0) (c .before .before .before .before .before .before .before .before .before .before .if1 .left) (c .before .before .before .before .before .before .before .before .before .if2 .taken), c .before .before .before .before .before .before .before .before .before .before .before .before .before .pre .1)
+add-call-requires c κs = (add-inside (c .before .before .before .before .before .before .before .before .before .before .before .before .before .args .run .now) _ (c .before .before .before .before .before .before .before .before .before .before .before .before .before .pre .0 .0) (c .before .before .before .before .before .before .before .before .before .before .before .before .before .pre .0 .1) _ (c .before .before .before .before .before .before .before .before .before .before .before .number-at .ensures .0) (c .before .before .before .before .before .before .before .before .before .if2 .taken), c .before .before .before .before .before .before .before .before .before .before .before .before .before .pre .1)
 
 returns-2 : tie.Need-returns-2
 returns-2 c =
@@ -29,7 +29,7 @@ returns-2 c =
     (add-there (s .args .run .now) _ _ _ _ _ _ _ _ _ _ _ e (c .before .before .before .before .before .before .before .before .before .before .before .if1 .left) g (c .add-call .ensures .0), c .add-call .ensures .1 ∙ words-read (s .args .run .now) (s .args .p) _ e (s .args .words .now) g)
 
 delete-call-requires : tie.Need-delete-call-requires
-delete-call-requires c κs = (any-inside (c .before .before .before .before .before .before .before .before .before .before .before .before .before .args .run .now) _ (c .before .before .before .before .before .before .before .before .before .before .before .before .before .pre .0), c .before .before .before .before .before .before .before .before .before .before .before .before .before .pre .1)
+delete-call-requires c κs = (any-inside (c .before .before .before .before .before .before .before .before .before .before .before .before .before .args .run .now) _ (c .before .before .before .before .before .before .before .before .before .before .before .before .before .pre .0 .0) (c .before .before .before .before .before .before .before .before .before .before .before .before .before .pre .0 .1), c .before .before .before .before .before .before .before .before .before .before .before .before .before .pre .1)
 
 returns-3 : tie.Need-returns-3
 returns-3 c =
@@ -39,10 +39,10 @@ returns-3 c =
     (delete-there (s .args .run .now) _ _ _ _ _ _ _ _ _ _ _ e (c .before .before .before .before .before .before .before .before .before .before .before .if1 .left) g (c .before .before .before .before .before .before .before .before .before .if3 .taken) (c .delete-call .ensures), words-kept (s .args .run .now) (s .args .p) _ e _ g)
 
 add-number-at : tie.Need-add-number-at
-add-number-at c = omega (arith, any-inside (c .before .before .before .before .before .args .run .now) _ (c .before .before .before .before .before .pre .0))
+add-number-at c = omega (arith, any-inside (c .before .before .before .before .before .args .run .now) _ (c .before .before .before .before .before .pre .0 .0) (c .before .before .before .before .before .pre .0 .1))
 
 number-at-requires-2 : tie.Need-number-at-requires-2
-number-at-requires-2 c κs = omega (arith, any-inside (c .before .before .before .before .before .args .run .now) _ (c .before .before .before .before .before .pre .0))
+number-at-requires-2 c κs = omega (arith, any-inside (c .before .before .before .before .before .args .run .now) _ (c .before .before .before .before .before .pre .0 .0) (c .before .before .before .before .before .pre .0 .1))
 
 query-requires : tie.Need-query-requires
 query-requires c κs = readable _ _ _ _ (c .before .before .before .before .before .before .before .before .before .before .before .before .pre .1)

@@ -1,49 +1,39 @@
 -- `runlayout::answer_width` meets its contract. Assumes nothing.
-use mathlib.Core.Path.{_≡_}
-use Prim.Native.Nat.{ℕ, _+_, _*_}
 use native.Mathlib.Omega.{arith}
-use borrow.Author.Tests.{ne-eqb}
-use Rattle.runlayout.specs.Check.{widthOfKind}
+use Rattle.runlayout.proofs.Rest.{making-whole, making-five}
 use borrow.Author.Needs.{needs}
 use Rattle.runlayout.proofs.answer_width.Statement.{statement}
 use Rattle.runlayout.proofs.answer_width.Tie as tie
 
-three : (d k : ℕ) → k ≡ 3 → 1 ≡ widthOfKind d k
-three d k e = rw e
+add-number-or-none : tie.Need-add-number-or-none
+add-number-or-none c = search needs
 
-four : (d k : ℕ) → k ≡ 4 → 3 ≡ widthOfKind d k
-four d k e = rw e
+number-or-none-requires : tie.Need-number-or-none-requires
+number-or-none-requires c κs = making-whole (c .before .args .run .now) (c .before .pre .0)
 
-nine : (d k : ℕ) → k ≡ 9 → 6 ≡ widthOfKind d k
-nine d k e = rw e
+number-at-requires : tie.Need-number-at-requires
+number-at-requires c κs = search needs
 
-ten : (d k : ℕ) → k ≡ 10 → 1 + 2 * d ≡ widthOfKind d k
-ten d k e = rw e
+number-at-requires-2 : tie.Need-number-at-requires-2
+number-at-requires-2 c κs = let s = c .before .before .before in omega (arith, making-five (s .args .run .now) (s .pre .0))
 
-other : (d k : ℕ) → (k ≡ 3 → ⊥) → (k ≡ 4 → ⊥) → (k ≡ 9 → ⊥) → (k ≡ 10 → ⊥) → 2 ≡ widthOfKind d k
-other d k a b e f = rw (ne-eqb k 3 a, ne-eqb k 4 b, ne-eqb k 9 e, ne-eqb k 10 f)
+number-at-requires-3 : tie.Need-number-at-requires-3
+number-at-requires-3 c κs = let s = c .before .before .before .before in omega (arith, making-five (s .args .run .now) (s .pre .0))
+
+width-of-kind-requires : tie.Need-width-of-kind-requires
+width-of-kind-requires c κs = search needs
 
 returns : tie.Need-returns
-returns c = (three (c .before .args .d) (c .before .args .kind) (c .if1 .taken), omega arith)
-
-returns-2 : tie.Need-returns-2
-returns-2 c = (four (c .before .before .args .d) (c .before .before .args .kind) (c .if2 .taken), omega arith)
-
-returns-3 : tie.Need-returns-3
-returns-3 c = (nine (c .before .before .before .args .d) (c .before .before .before .args .kind) (c .if3 .taken), omega arith)
-
-mul-result : tie.Need-mul-result
-mul-result c = search needs
-
-add-result : tie.Need-add-result
-add-result c = search needs
-
-returns-4 : tie.Need-returns-4
-returns-4 c = let s = c .before .before .before .before in (ten (s .args .d) (s .args .kind) (c .if4 .taken), omega (arith, s .pre))
-
-returns-5 : tie.Need-returns-5
-returns-5 c = let s = c .before .before .before .before in (other (s .args .d) (s .args .kind) (c .before .before .before .if1 .left) (c .before .before .if2 .left) (c .before .if3 .left) (c .if4 .left), omega arith)
+returns c = (rw (← c .before .number-at3 .ensures .0, ← c .before .before .number-at2 .ensures .0, ← c .before .before .before .number-at .ensures .0, ← c .before .before .before .before .number-or-none .ensures .0) (c .width-of-kind .ensures .0), c .width-of-kind .ensures .1)
 
 pub answer-width-spec : {M : Type 1} → statement M
 answer-width-spec =
-    tie.close (tie.spec returns returns-2 returns-3 mul-result add-result returns-4 returns-5)
+    tie.close
+    (tie.spec
+    add-number-or-none
+    number-or-none-requires
+    number-at-requires
+    number-at-requires-2
+    number-at-requires-3
+    width-of-kind-requires
+    returns)

@@ -1,4 +1,4 @@
-//! Words for an add: how many, and which.
+//! Words for an add or an arrival: how many, and which.
 use crate::aimed::{self, Aim, Place};
 use crate::Driver;
 use oracle::{node, walk, Node, Words};
@@ -65,8 +65,19 @@ pub fn words_for(driver: &Driver, index: u32, style: Style, words: &mut Words) -
         6 if words.once_in(4) => words.one_of(&[255, 256, 257, 600]),
         _ => takes,
     };
+    so_many(driver, index, style, count, words)
+}
+
+/// So many words for an add of this index.
+pub fn so_many(
+    driver: &Driver,
+    index: u32,
+    style: Style,
+    count: usize,
+    words: &mut Words,
+) -> Vec<u64> {
     let boxes = match style {
-        Style::Aimed | Style::Mixed if takes > 0 => boxes(driver, index),
+        Style::Aimed | Style::Mixed if driver.takes(index) > 0 => boxes(driver, index),
         _ => vec![],
     };
     let point = whole(driver.table().point(index as usize).unwrap_or(&[]));
@@ -84,7 +95,7 @@ pub fn words_for(driver: &Driver, index: u32, style: Style, words: &mut Words) -
 
 /// The boxes of the index's walk, from the leaf to the root.
 fn boxes(driver: &Driver, index: u32) -> Vec<(Vec<i32>, Vec<i32>)> {
-    let (tree, table) = (driver.bare().tree(), driver.table());
+    let (tree, table) = (driver.tree(), driver.table());
     let point = table.point(index as usize).expect("written");
     let around = |id| match node(tree, table, id) {
         Node::Leaf { point, .. } => {

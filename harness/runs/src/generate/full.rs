@@ -87,16 +87,13 @@ const SHAPES: [Shape; 4] = [
 pub fn run(words: &mut Words, room: Room, n: usize) -> Written {
     let shape = SHAPES[n % SHAPES.len()];
     let setting = Setting {
-        making: Making {
-            channels: shape.channels,
-            capacity: CAPACITY,
-            share: shape.share.to_bits(),
-        },
+        making: Making::bare(shape.channels, CAPACITY, shape.share),
         pool: (0..CAPACITY + MORE).collect(),
         spread: Spread::Line,
         style: Style::Mixed,
         in_order: true,
         repeats: usize::MAX,
+        reports: None,
     };
     write_by(setting, words, room, |writer| fill(writer, shape, n))
 }

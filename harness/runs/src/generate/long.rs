@@ -40,11 +40,7 @@ fn limit(values: u32, adds: Vec<Call>) -> Written {
     calls.extend([add(0), add(0), add(0), Call::Delete { index: 3 }]);
     calls.extend(all_queries());
     let run = Run {
-        making: Making {
-            channels: 2,
-            capacity: 3,
-            share: 0.5f64.to_bits(),
-        },
+        making: Making::bare(2, 3, 0.5),
         calls,
     };
     let answers = answers(&run);

@@ -3,12 +3,15 @@ mod fed;
 mod full;
 mod long;
 mod readings;
+mod reports;
+mod sampled;
 mod setting;
 mod steps;
 mod writer;
 
 pub use full::{outward, run as full, Outward};
 pub use long::{lone_leaf_to_the_limit, three_values_to_the_limit};
+pub use sampled::{run as sampled, run_of as sampled_of};
 
 use crate::layout::{Answer, Run};
 use oracle::Words;
@@ -28,8 +31,18 @@ pub struct Room {
     pub answers: usize,
 }
 
-/// A run that the generator makes up, in this room.
+/// A bare run that the generator makes up, in this room.
 pub fn run(words: &mut Words, room: Room) -> Written {
     let setting = Setting::draw(words, room);
+    writer::write(setting, words, room)
+}
+
+/// A bare run with reports.
+pub fn reported(words: &mut Words, room: Room) -> Written {
+    let reports = Some(words.one_of(&[3, 8, 8, 20]));
+    let setting = Setting {
+        reports,
+        ..Setting::draw(words, room)
+    };
     writer::write(setting, words, room)
 }

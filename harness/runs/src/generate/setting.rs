@@ -20,16 +20,20 @@ pub struct Setting {
     pub in_order: bool,
     /// One reading in so many repeats another index's.
     pub repeats: usize,
+    /// One step in so many is followed by a report, if reports are asked for at all.
+    pub reports: Option<usize>,
 }
 
 impl Setting {
     pub fn draw(words: &mut Words, room: Room) -> Self {
         let capacity = capacity(words, room);
-        let making = Making {
-            channels: 1 + words.below(8) as u32,
-            capacity,
-            share: share(capacity, words).to_bits(),
-        };
+        let channels = 1 + words.below(8) as u32;
+        let making = Making::bare(channels, capacity, share(capacity, words));
+        Setting::of(making, words, room)
+    }
+
+    /// The rest, for a making that is in range; now and then another is put in its place that is not.
+    pub fn of(making: Making, words: &mut Words, room: Room) -> Self {
         let chain = words.once_in(8);
         let (spread, style) = match chain {
             true => (Spread::Line, words.one_of(&[Style::Zeros, Style::Ones])),
@@ -45,6 +49,7 @@ impl Setting {
             style,
             in_order: chain || words.once_in(6),
             repeats: words.one_of(&[3, 9, 40, usize::MAX]),
+            reports: None,
         }
     }
 }
@@ -63,7 +68,7 @@ fn capacity(words: &mut Words, room: Room) -> u32 {
 }
 
 /// A share from 0 to 1, also such that its product with the capacity lies next to a whole number.
-fn share(capacity: u32, words: &mut Words) -> f64 {
+pub fn share(capacity: u32, words: &mut Words) -> f64 {
     let any = (words.word() >> 11) as f64 / (1u64 << 53) as f64;
     let part = words.below(capacity as usize + 1) as f64 / f64::from(capacity);
     let below_one = 1.0f64.next_down();
@@ -106,6 +111,12 @@ fn bad_making(making: Making, words: &mut Words) -> Making {
         2.0,
         f64::from_bits(0x7FF0_0000_0000_0001),
     ]);
+    if making.initial.is_some() && !words.once_in(3) {
+        bad.initial = Some(share.to_bits());
+        if words.once_in(2) {
+            return bad;
+        }
+    }
     let which = words.one_of(&[1, 2, 4, 4, 4, 3, 5, 6, 7]);
     if which & 1 > 0 {
         bad.channels = channels;

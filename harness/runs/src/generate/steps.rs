@@ -1,6 +1,7 @@
 //! The single calls of a run: mostly good ones, and for each refusal calls that meet it.
 use super::fed::words_for;
 use super::readings::{bad_coordinate, bad_count};
+use super::setting::Setting;
 use super::writer::Writer;
 use crate::layout::Call;
 use oracle::{Table, Words};
@@ -38,12 +39,12 @@ pub fn step(writer: &mut Writer, mode: Mode) {
     }
 }
 
-fn any_index(writer: &mut Writer) -> u32 {
+pub fn any_index(writer: &mut Writer) -> u32 {
     writer.words.one_of(&writer.setting.pool)
 }
 
 /// An index whose value is held, or is not, if a few draws find one that is written.
-fn index_where(writer: &mut Writer, held: bool) -> u32 {
+pub fn index_where(writer: &mut Writer, held: bool) -> u32 {
     let mut index = any_index(writer);
     for _ in 0..12 {
         let written = writer.driver.table().point(index as usize).is_some();
@@ -106,13 +107,13 @@ pub fn good_put(writer: &mut Writer, index: u32) {
     writer.call(Call::Put { index, coordinates });
 }
 
-fn put(writer: &mut Writer) {
+pub fn put(writer: &mut Writer) {
     let index = any_index(writer);
     good_put(writer, index);
 }
 
 /// An index that no table has, the table's last, or one that no pool need hold.
-fn odd_index(words: &mut Words) -> u32 {
+pub fn odd_index(words: &mut Words) -> u32 {
     let (size, any) = (Table::SIZE as u32, words.below(Table::SIZE) as u32);
     words.one_of(&[
         size,
@@ -149,7 +150,7 @@ fn odd(writer: &mut Writer) {
 }
 
 /// A put with a bad coordinate, a wrong number of coordinates, or both.
-fn odd_put(writer: &mut Writer, index: u32, coordinate: bool, count: bool) {
+pub fn odd_put(writer: &mut Writer, index: u32, coordinate: bool, count: bool) {
     let mut coordinates = reading(writer, index);
     let channels = coordinates.len();
     if coordinate {
@@ -163,7 +164,7 @@ fn odd_put(writer: &mut Writer, index: u32, coordinate: bool, count: bool) {
 }
 
 /// A query of any kind for an id of a branch, of a leaf, next to one, or of none.
-fn query(writer: &mut Writer) {
+pub fn query(writer: &mut Writer) {
     let capacity = writer.driver.capacity() as u32;
     let there: Vec<usize> = writer.driver.ids().iter().copied().collect();
     let index = any_index(writer);
@@ -191,21 +192,46 @@ fn query(writer: &mut Writer) {
 }
 
 /// Calls after a making that is refused.
-pub fn unanswered(words: &mut Words) -> Vec<Call> {
-    let calls = [
-        Call::Put {
-            index: 0,
-            coordinates: vec![0],
-        },
-        Call::Add {
-            index: 0,
-            words: vec![1, 2],
-        },
-        Call::Delete { index: 0 },
+pub fn unanswered(setting: &Setting, words: &mut Words) -> Vec<Call> {
+    let put = Call::Put {
+        index: 0,
+        coordinates: vec![0],
+    };
+    let words_of_two = vec![1, 2];
+    let own = match setting.making.initial {
+        None => [
+            Call::Add {
+                index: 0,
+                words: words_of_two,
+            },
+            Call::Delete { index: 0 },
+        ],
+        Some(_) => [
+            Call::Arrival {
+                index: 0,
+                weight: 0,
+                start: 0,
+                words: words_of_two,
+            },
+            Call::Sample,
+        ],
+    };
+    let queries = [
         Call::Copies { id: 2 },
         Call::Branch { id: 0 },
         Call::Box { id: 0 },
     ];
+    let report = Call::Report {
+        rows: 3,
+        coordinates: vec![0],
+    };
+    let reported = setting.making.initial.is_some() || setting.reports.is_some();
+    let calls: Vec<Call> = [put]
+        .into_iter()
+        .chain(own)
+        .chain(queries)
+        .chain(reported.then_some(report))
+        .collect();
     let count = words.below(2 * calls.len());
     calls.iter().cycle().take(count).cloned().collect()
 }

@@ -2,7 +2,7 @@
 //! it, with sweeps between that ask for everything a tree has.
 use super::setting::Setting;
 use super::steps::{self, Mode};
-use super::{Room, Written};
+use super::{reports, Room, Written};
 use crate::layout::{Call, Run};
 use crate::Driver;
 use oracle::Words;
@@ -44,7 +44,7 @@ pub fn write_by(
     };
     match Driver::make(&setting.making) {
         Err(refusal) => {
-            written.run.calls = steps::unanswered(words);
+            written.run.calls = steps::unanswered(&setting, words);
             written.answers = vec![vec![refusal]];
             written
         }
@@ -82,11 +82,12 @@ impl Writer<'_> {
     }
 
     fn answer_bytes(&self, call: &Call) -> usize {
-        4 * call.answer_numbers(self.setting.making.channels)
+        call.answer_bytes(&self.setting.making)
     }
 
     fn stretches(&mut self) {
         let kept = self.kept_for_sweep();
+        self.report_now_and_then();
         self.first_puts();
         let capacity = self.driver.capacity();
         let stretches = 2 + self.words.below(4);
@@ -105,6 +106,7 @@ impl Writer<'_> {
                     break;
                 }
                 steps::step(self, mode);
+                self.report_now_and_then();
             }
             if self.left.answers > 3 * kept.answers && self.left.run > 3 * kept.run {
                 self.sweep();
@@ -113,8 +115,17 @@ impl Writer<'_> {
         self.sweep();
     }
 
+    /// A report after one step in so many, where the run has reports.
+    pub fn report_now_and_then(&mut self) {
+        if let Some(steps) = self.setting.reports {
+            if self.words.once_in(steps) {
+                reports::report(self);
+            }
+        }
+    }
+
     /// What the last sweep needs, but no more than half of all room.
-    fn kept_for_sweep(&self) -> Room {
+    pub fn kept_for_sweep(&self) -> Room {
         let capacity = self.driver.capacity();
         let id = 0;
         let asked = [Call::Branch { id }, Call::Box { id }, Call::Copies { id }];
@@ -127,7 +138,7 @@ impl Writer<'_> {
     }
 
     /// Writes the pool; some runs leave a few indices unwritten.
-    fn first_puts(&mut self) {
+    pub fn first_puts(&mut self) {
         let skip = self.words.one_of(&[9, 30, usize::MAX]);
         for n in 0..self.setting.pool.len() {
             let index = self.setting.pool[n];
@@ -139,7 +150,7 @@ impl Writer<'_> {
 
     /// A branch and a box query for every id below the capacity, and a copies query for every leaf.
     /// What the tree has comes first, so that a short room ends among ids that it hasn't.
-    fn sweep(&mut self) {
+    pub fn sweep(&mut self) {
         let capacity = self.driver.capacity();
         let ids = self.driver.ids().clone();
         let (branches, others): (Vec<usize>, Vec<usize>) =

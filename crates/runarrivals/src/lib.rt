@@ -1,0 +1,76 @@
+// The arrival of a byte run (docs/LAYOUT.md): read from its place in the run and carried out on the lent state, with its answer as numbers.
+use answers::Reply;
+use calls::Words;
+use limits::Boxes;
+use limits::CAPACITY;
+use limits::Copies;
+use limits::Cuts;
+use limits::Free;
+use limits::Held;
+use limits::Marks;
+use limits::Nodes;
+use limits::Points;
+use limits::Weights;
+use samplerplustree::SamplerPlusTree;
+ghost use mathlib.Core.Path.{_≡_};
+ghost use mathlib.Core.Bool.{true};
+ghost use Prim.Native.Nat.{_+_};
+ghost use lib.ListN.{take};
+ghost use lib.Seq.{sets};
+ghost use lib.Ieee.{binary32, ofBits};
+ghost use Rattle.limits.specs.Limits.{capacityLimit};
+ghost use Rattle.treestore.specs.Arrays.{lent};
+ghost use Rattle.samplerplustree.specs.State.{SomeSampled};
+ghost use Rattle.arrivals.specs.Arrived.{Arrives};
+ghost use Rattle.runlayout.specs.Layout.{number, double, standsAt, arrivalWordsAt};
+
+// The arrival at a place of the run: its answer's numbers in the reply, with 0 after them, and the header after it. It reads its words into the lent
+// ones, 256 at most; those beyond them stay.
+// Rules out the word for the starting chance read from another place, and the last word of a walk unread.
+pub fn arrival_at(
+    tree: SamplerPlusTree,
+    nodes: &mut Nodes,
+    cuts: &mut Cuts,
+    copies: &mut Copies,
+    free: &mut Free,
+    boxes: &mut Boxes,
+    points: &Points,
+    written: &Marks,
+    weights: &mut Weights,
+    held: &mut Held,
+    run: &[u8],
+    p: usize,
+    words: &mut Words,
+    reply: &mut Reply,
+) -> SamplerPlusTree
+    requires there { ⌜ (number (now run) p ≡ 6) × (standsAt (now run) p ≡ true) ⌝ }
+    requires state { ⌜ SomeSampled tree (lent (now nodes) (now cuts) (now copies) (now free) (now boxes)) (now points) (now written) (now weights) (now held) ⌝ }
+    ensures done { λ r. ⌜ Arrives (number (now (run .entry)) (p + 1)) (ofBits binary32 (number (now (run .entry)) (p + 2))) (double (now (run .entry)) (p + 3)) (arrivalWordsAt (now (run .entry)) p)
+        tree (lent (now (nodes .entry)) (now (cuts .entry)) (now (copies .entry)) (now (free .entry)) (now (boxes .entry))) (now (points .entry)) (now (written .entry)) (now (weights .entry)) (now (held .entry))
+        r (lent (now (nodes .exit)) (now (cuts .exit)) (now (copies .exit)) (now (free .exit)) (now (boxes .exit))) (now (weights .exit)) (now (held .exit)) (now (reply .exit)) ⌝ }
+    ensures words { λ _. ⌜ now (words .exit) ≡ sets (now (words .entry)) 0 (take capacityLimit (arrivalWordsAt (now (run .entry)) p)) ⌝ }
+{
+    let index = runlayout::number_at(run, p + 1);
+    let weight = little::float_of(runlayout::bits_at(run, p + 2));
+    let chance = runlayout::double_at(run, p + 3);
+    let n = casts::at_most(runlayout::number_at(run, p + 5), CAPACITY);
+    rungiven::read_words(run, p + 6, n, words);
+    arrivals::arrive(
+        tree,
+        nodes,
+        cuts,
+        copies,
+        free,
+        boxes,
+        points,
+        written,
+        weights,
+        held,
+        index,
+        weight,
+        chance,
+        words,
+        n,
+        reply,
+    )
+}

@@ -1,0 +1,78 @@
+-- `runreports::report_at` meets its contract. Assumes nothing.
+use native.Mathlib.Omega.{arith}
+use lib.ListN.{take}
+use Rattle.runreports.proofs.Reports.{rows-limit, report-there}
+use borrow.Author.Needs.{needs}
+use Rattle.runreports.proofs.report_at.Statement.{statement}
+use Rattle.runreports.proofs.report_at.Tie as tie
+
+add-number-at : tie.Need-add-number-at
+add-number-at c = search needs
+
+number-at-requires : tie.Need-number-at-requires
+number-at-requires c κs = search needs
+
+add-number-at-2 : tie.Need-add-number-at-2
+add-number-at-2 c = search needs
+
+number-at-requires-2 : tie.Need-number-at-requires-2
+number-at-requires-2 c κs = search needs
+
+add-at-most : tie.Need-add-at-most
+add-at-most c = search needs
+
+at-most-requires : tie.Need-at-most-requires
+at-most-requires c κs = search needs
+
+add-coordinates-at : tie.Need-add-coordinates-at
+add-coordinates-at c = search needs
+
+coordinates-at-requires : tie.Need-coordinates-at-requires
+coordinates-at-requires c κs = search needs
+
+slice-aggregate-report-first : tie.Need-slice-aggregate-report-first
+slice-aggregate-report-first c = search needs
+
+at-most-requires-2 : tie.Need-at-most-requires-2
+at-most-requires-2 c κs = search needs
+
+report-first-requires : tie.Need-report-first-requires
+report-first-requires c κs = search needs
+
+write-report-requires : tie.Need-write-report-requires
+write-report-requires c κs =
+    let first = c .before .before in
+    let read = first .before .before .before .before in
+    let number = read .before .before .before in
+    let s = number .before .before .before in
+    (rows-limit _ _ _ _ _ _ (take (read .before .at-most .result) (read .coordinates-at .result)) _ _ (first .before .at-most2 .ensures) _ _ _ (first .report-first .ensures) (s .pre .1 .1), omega (arith, s .pre .1 .0, number .number-at .ensures .0))
+
+same-length : tie.Need-same-length
+same-length c = search needs
+
+returns : tie.Need-returns
+returns c =
+    let written = c .before .before in
+    let first = written .before .before .before in
+    let read = first .before .before .before .before in
+    let s = read .before .before .before .before .before .before .args in
+    report-there _ _ _ _ _ _ _ _ _ (first .before .at-most2 .ensures) _ _ _ (first .report-first .ensures) (s .run .now) (s .p) (s .out) _ _ (s .answers .now) _ (read .before .before .before .number-at .ensures .0) (read .before .before .number-at2 .ensures .0) (read .before .at-most .ensures) (read .coordinates-at .ensures) (written .write-report .ensures)
+
+pub report-at-spec : {M : Type 1} → statement M
+report-at-spec =
+    tie.close
+    (tie.spec
+    add-number-at
+    number-at-requires
+    add-number-at-2
+    number-at-requires-2
+    add-at-most
+    at-most-requires
+    add-coordinates-at
+    coordinates-at-requires
+    slice-aggregate-report-first
+    at-most-requires-2
+    report-first-requires
+    write-report-requires
+    same-length
+    returns)

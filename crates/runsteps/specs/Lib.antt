@@ -1,0 +1,3 @@
+pub mod Told
+pub mod Standing
+pub mod Steps

@@ -1,0 +1,67 @@
+-- A call of the run as a step: what it leaves of the tree, and of the room that it is lent for its work and its answer. Definitions.
+use mathlib.Core.Path.{_≡_}
+use mathlib.Core.List.{List}
+use Prim.Native.Nat.{ℕ, _*_}
+use lib.ListN.{take}
+use lib.Ieee.{Float}
+use lib.Seq.{sets}
+use Rattle.limits.specs.Limits.{capacityLimit}
+use Rattle.little.specs.Little.{bytesOf}
+use Rattle.cuttree.specs.Run.{Call, put, add, delete, query}
+use Rattle.wholetree.specs.Whole.{whole}
+use Rattle.sampledtree.specs.Sampled.{Sampled}
+use Rattle.samplerplustree.specs.declared.SamplerPlusTree.{SamplerPlusTree}
+use Rattle.answers.specs.Said.{filled, replyWidth}
+use Rattle.nodeview.specs.Report.{reportOf}
+use Rattle.nodeview.specs.Told.{rowsAfter}
+use Rattle.runlayout.specs.Layout.{RunCall, plain, arrives, reports, sample, channels, share, callAt}
+use Rattle.runsteps.specs.Told.{told, left}
+use Rattle.runsteps.specs.Standing.{Kept, Standing}
+
+-- the room that is lent: for words, for the numbers of an answer, for the rows of a report, and for all answers' bytes
+pub record Room : Type 0 where
+  pub words : List ℕ
+  pub reply : List ℕ
+  pub rows : List (List ℕ)
+  pub answers : List ℕ
+
+abbrev pub room : List ℕ → List ℕ → List (List ℕ) → List ℕ → Room
+room words reply rows answers = record { words = words; reply = reply; rows = rows; answers = answers }
+
+module _ (d : ℕ) (s : Float) where
+  -- an add and an arrival read their words from the front, as many as there is room for; any other call leaves all
+  abbrev pub wordsLeft : RunCall d → List ℕ → List ℕ
+  wordsLeft (plain (put i xs)) words = words
+  wordsLeft (plain (add i ws)) words = sets words 0 (take capacityLimit ws)
+  wordsLeft (plain (delete i)) words = words
+  wordsLeft (plain (query q)) words = words
+  wordsLeft (arrives i w x ws) words = sets words 0 (take capacityLimit ws)
+  wordsLeft (reports n xs) words = words
+  wordsLeft sample words = words
+
+  -- the answer's numbers, with 0 after them; those of a report and of the sample go to the answers at once
+  abbrev pub replyLeft : Sampled (whole d) → RunCall d → List ℕ → List ℕ
+  replyLeft X (plain e) reply = filled replyWidth (told d s X (plain e))
+  replyLeft X (arrives i w x ws) reply = filled replyWidth (told d s X (arrives i w x ws))
+  replyLeft X (reports n xs) reply = reply
+  replyLeft X sample reply = reply
+
+  abbrev pub rowsLeft : Sampled (whole d) → RunCall d → List (List ℕ) → List (List ℕ)
+  rowsLeft X (plain e) rows = rows
+  rowsLeft X (arrives i w x ws) rows = rows
+  rowsLeft X (reports n xs) rows = rowsAfter (reportOf d (X .capacity) (X .world) n xs) rows
+  rowsLeft X sample rows = rows
+
+  -- all of the room after a call whose answer begins at the answer number `out`
+  abbrev pub roomLeft : ℕ → Sampled (whole d) → RunCall d → Room → Room
+  roomLeft out X e r = room (wordsLeft e (r .words)) (replyLeft X e (r .reply)) (rowsLeft X e (r .rows)) (sets (r .answers) (4 * out) (bytesOf (told d s X e)))
+
+module _ (run : List ℕ) (p out : ℕ) where
+  -- the call at the place p, answered from the answer number `out` on
+  pub record Stepped (X : Sampled (whole (channels run))) (r : Room) (h : SamplerPlusTree) (k : Kept) (r′ : Room) : Type 0 where
+    pub standing : Standing run (left (channels run) (share run) X (callAt run (channels run) p)) h k
+    pub room-is : r′ ≡ roomLeft (channels run) (share run) out X (callAt run (channels run) p) r
+
+  -- the same whichever tree the lent state is
+  abbrev pub Steps : SamplerPlusTree → Kept → Room → SamplerPlusTree → Kept → Room → Type 0
+  Steps h k r h′ k′ r′ = (X : Sampled (whole (channels run))) → Standing run X h k → Stepped X r h′ k′ r′
