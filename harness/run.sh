@@ -1,7 +1,8 @@
 #!/bin/bash
 # Holds the oracle against document 01, the recorded answers against the Rust, the generated runs against
 # faults in the Rust, and the port, its leaves and the program treelist against the Rust.
-#   harness/run.sh [--digests]
+#   harness/run.sh [--rust | --port] [--digests]
+# --rust does what needs the Rust alone, --port the rest; without either both are done.
 # KRCF_SRC names the folder that holds crates/rcflib/src, seen from the project's root; the default
 # is ../shared/docs/src. COMPARE says for how long the port is compared, 75s if unset, LEAVES on how many
 # values each leaf is, 1000000 if unset, TEXTS on how many texts treelist is, 2000 if unset. Where the
@@ -13,6 +14,8 @@ set -euo pipefail
 root=$(cd "$(dirname "$0")/.." && pwd)
 source=${KRCF_SRC:-../shared/docs/src}
 cd "$root"
+part=
+case ${1:-} in --rust | --port) part=$1; shift ;; esac
 
 if [ ! -d "$source/crates/rcflib/src" ]; then
   echo "harness: the Rust is not at hand (no crates/rcflib/src under $source), skipped"
@@ -25,15 +28,17 @@ for tool in cargo rt; do
   fi
 done
 
-harness/copy_given.sh "$source" "$@"
-
 built() {
   cargo "$1" --quiet --offline --locked --manifest-path harness/Cargo.toml "${@:2}"
 }
-built build
-built run --package selftest
-built run --package record -- check crates
-KRCF_SRC=$source harness/faults.sh
+if [ "$part" != --port ]; then
+  harness/copy_given.sh "$source" "$@"
+  built build
+  built run --package selftest
+  built run --package record -- check crates
+  KRCF_SRC=$source harness/faults.sh
+fi
+[ "$part" != --rust ] || exit 0
 
 rt staticlib run
 rt staticlib leaves
