@@ -1,14 +1,16 @@
 #!/bin/bash
-# Holds the oracle against document 01, the recorded answers against the Rust, the generated runs against
-# faults in the Rust, and the port, its leaves and the program treelist against the Rust.
+# Holds the rules of docs/ARCHIVE.md against the recorded answers, the oracle against document 01, the recorded
+# answers against the Rust, the generated runs against faults in the Rust, and the port, its leaves and the
+# program treelist against the Rust.
 #   harness/run.sh [--rust | --port] [--digests]
-# --rust does what needs the Rust alone, --port the rest; without either both are done.
+# --rust does what needs no port, --port the rest; without either both are done.
 # KRCF_SRC names the folder that holds crates/rcflib/src, seen from the project's root; the default
 # is ../shared/docs/src. COMPARE says for how long the port is compared, 75s if unset, LEAVES on how many
 # values each leaf is, 1000000 if unset, TEXTS on how many texts treelist is, 2000 if unset. Where the
 # Rust is not at hand, one line says so and all is well. Where it is but cargo or rt is not, one line says
 # which and the run fails, so that nothing that could be compared is left out unseen. Where crates.txt has
-# no treelist, no texts are compared. --digests prints the digest of each given file. Needs no network.
+# no treelist, no texts are compared. Where python3 is not at hand, a line says so and the rules of the page are
+# not compared. --digests prints the digest of each given file. Needs no network.
 set -euo pipefail
 
 root=$(cd "$(dirname "$0")/.." && pwd)
@@ -16,6 +18,14 @@ source=${KRCF_SRC:-../shared/docs/src}
 cd "$root"
 part=
 case ${1:-} in --rust | --port) part=$1; shift ;; esac
+
+if [ "$part" = --port ]; then
+  :
+elif command -v python3 >/dev/null; then
+  python3 harness/reader/reader.py crates/replay/stdin
+else
+  echo "harness: python3 is not at hand, the reader is left out"
+fi
 
 if [ ! -d "$source/crates/rcflib/src" ]; then
   echo "harness: the Rust is not at hand (no crates/rcflib/src under $source), skipped"
