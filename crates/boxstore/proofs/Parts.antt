@@ -1,11 +1,13 @@
 -- A node whose box stands in arrays, by its kind: a leaf, a cached branch, or a branch with its two sides. Assumes nothing.
 use mathlib.Core.Path.{_≡_, refl, sym, ap, _∙_}
-use mathlib.Core.Bool.{Bool}
+use mathlib.Core.Bool.{Bool, true, _&&_}
 use mathlib.Core.List.{List, [], _∷_}
 use Prim.Native.Nat.{ℕ, _+_, _-_, _≤_, _<_}
 use native.Mathlib.Omega.{arith}
+use lib.Dec.{leb, leb→le}
 use lib.ListN.{getD}
 use lib.Ieee.{Float}
+use lib.Ieee.Fits.{and-l, and-r}
 use Rattle.limits.specs.Limits.{width, capacityLimit, pointLimit}
 use Rattle.boundingbox.specs.declared.BoundingBox.{BoundingBox}
 use Rattle.boundingbox.specs.Ends.{joined, least as leastFloat, greatest as greatestFloat}
@@ -13,8 +15,9 @@ use Rattle.cuttree.specs.Setting.{Cut}
 use Rattle.cuttree.specs.Tree.{Tree, leaf, branch, id, least, most, lo, hi}
 use Rattle.cuttree.proofs.Orders.{end-assoc}
 use Rattle.readings.specs.Number.{Number}
+use Rattle.readings.proofs.Tests.{yes}
 use Rattle.wholetree.specs.Whole.{whole}
-use Rattle.layout.specs.Slots.{boxEnds}
+use Rattle.layout.specs.Slots.{lowOf, highOf, boxEnds}
 use Rattle.layout.specs.Stands.{Once}
 use Rattle.boxstore.specs.Boxed.{sideIn, Boxed, SomeBoxed}
 use Rattle.boxstore.specs.Grown.{lowWith, highWith, EndsGrownBy, Numbers, GrownBy, SidesBox, BoxOf}
@@ -140,3 +143,29 @@ module _ (c k node : ℕ) (nodes : List (List ℕ)) (points : List (List Float))
   sides-box h r F d (leaf i q n) e B = absurd (omega arith)
   sides-box h r F d (branch a x y u v) e B =
       F d u v (rw (← e) (sym (B .links .0))) (rw (← e) (sym (B .links .1))) (left-boxed d c k nodes points boxes B) (right-boxed d c k nodes points boxes B)
+
+-- two ids of leaves
+pub both-leaves : (c x y : ℕ) → (leb c x && leb c y) ≡ true → (c ≤ x) × (c ≤ y)
+both-leaves c x y t = (leb→le c x (and-l (leb c x) (leb c y) (yes t)), leb→le c y (and-r (leb c x) (leb c y) (yes t)))
+
+-- a branch over two leaves: its box is that of their points
+module _ (c k node : ℕ) (nodes : List (List ℕ)) (points : List (List Float)) (boxes : List (List (List Float))) where
+  abbrev first : List Float
+  first = getD points (sideIn nodes node 0 - c) []
+
+  abbrev second : List Float
+  second = getD points (sideIn nodes node 1 - c) []
+
+  pub at-pair : node < c → c ≤ sideIn nodes node 0 → c ≤ sideIn nodes node 1 → HasBox c k node nodes points boxes (joined leastFloat first second ∷ joined greatestFloat first second ∷ [])
+  at-pair h l r = has-box c k node nodes points boxes _ go
+    where
+      go : (d : ℕ) (t : Tree (whole d)) → id (whole d) c t ≡ node → Boxed d c k nodes points boxes t → joined leastFloat first second ∷ joined greatestFloat first second ∷ [] ≡ boxEnds d c t
+      go d (leaf i q n) e B = absurd (omega arith)
+      go d (branch b x g u v) e B =
+          let p = leaf-is c k (sideIn nodes node 0) nodes points boxes l d u (rw (← e) (sym (B .links .0))) (left-boxed d c k nodes points boxes B) in
+          let q = leaf-is c k (sideIn nodes node 1) nodes points boxes r d v (rw (← e) (sym (B .links .1))) (right-boxed d c k nodes points boxes B) in
+          let low-p : first ≡ lowOf d c u = ap (λ (X : List (List Float)). getD X 0 []) p in
+          let low-q : second ≡ lowOf d c v = ap (λ (X : List (List Float)). getD X 0 []) q in
+          let high-p : first ≡ highOf d c u = ap (λ (X : List (List Float)). getD X 1 []) p in
+          let high-q : second ≡ highOf d c v = ap (λ (X : List (List Float)). getD X 1 []) q in
+          both (ap (λ (y : List Float). joined leastFloat y second) low-p ∙ ap (joined leastFloat (lowOf d c u)) low-q ∙ least-ends d (lo (whole d) u) (lo (whole d) v)) (ap (λ (y : List Float). joined greatestFloat y second) high-p ∙ ap (joined greatestFloat (highOf d c u)) high-q ∙ most-ends d (hi (whole d) u) (hi (whole d) v))

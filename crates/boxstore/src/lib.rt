@@ -77,10 +77,21 @@ fn widen(low: &mut Row, high: &mut Row, lower: &Row, upper: &Row)
     *high = max_values;
 }
 
+// Ends moved out to two points, in place. The points meet first, so that the ends wait for one of them less.
+fn widen_by_two(low: &mut Row, high: &mut Row, first: &Row, second: &Row)
+    ensures lower { λ _. ⌜ now (low .exit) ≡ joined least (now (low .entry)) (joined least (now (first .entry)) (now (second .entry))) ⌝ }
+    ensures upper { λ _. ⌜ now (high .exit) ≡ joined greatest (now (high .entry)) (joined greatest (now (first .entry)) (now (second .entry))) ⌝ }
+{
+    let mut lower = *first;
+    let mut upper = *first;
+    widen(&mut lower, &mut upper, second, second);
+    widen(low, high, &lower, &upper);
+}
+
 // Ends moved out to hold the box of a node, in place: a box handed from call to call would be copied in each. A branch that is not cached
-// moves them by its left side, then its right.
+// moves them by its left side, then its right; by both at once where these are leaves, which saves two calls.
 // Rules out one side moved by twice, and a branch that is not cached left out.
-fn grow_ends(
+pub fn grow_ends(
     low: &mut Row,
     high: &mut Row,
     node: usize,
@@ -105,6 +116,12 @@ fn grow_ends(
     }
     let left = side_of(nodes, node, 0);
     let right = side_of(nodes, node, 1);
+    if (capacity <= left) & (capacity <= right) {
+        let first = left - capacity;
+        let second = right - capacity;
+        widen_by_two(low, high, &points[first], &points[second]);
+        return;
+    }
     grow_ends(low, high, left, nodes, points, boxes, capacity, cached);
     grow_ends(low, high, right, nodes, points, boxes, capacity, cached);
 }

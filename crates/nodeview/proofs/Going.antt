@@ -5,25 +5,32 @@ use mathlib.Core.List.{List, [], _∷_, _++_}
 use Prim.Native.Nat.{ℕ, suc, _+_, _-_, _≤_, _<_}
 use native.Mathlib.Numerals.{add-one}
 use native.Mathlib.Omega.{arith}
+use lib.Dec.{ltb, ltb→lt, nltb→le}
 use lib.ListN.{length, getD, set, drop, length-set}
 use lib.Seq.{drop-set-lt}
 use lib.Ieee.{Float, binary64, toBits}
+use borrow.Table.Steps.{cases as by-test}
 use Rattle.limits.specs.Limits.{width}
 use Rattle.readings.specs.Number.{nought}
+use Rattle.readings.proofs.Tests.{yes, no}
+use Rattle.cut.specs.Laws.{Readings}
 use Rattle.cut.specs.Sums.{one}
 use Rattle.boundingbox.specs.declared.BoundingBox.{BoundingBox}
 use Rattle.probability.specs.Probability.{probability}
 use Rattle.cuttree.specs.Tree.{Tree, id, walk, ending}
-use Rattle.cuttree.specs.Walk.{sibling}
+use Rattle.cuttree.specs.Walk.{sub, sibling}
 use Rattle.wholetree.specs.Reading.{Reading, sameRow}
 use Rattle.wholetree.specs.Whole.{whole, tab}
+use Rattle.wholetree.proofs.Boxes.{tree-box}
+use Rattle.wholetree.proofs.Draws.{are-readings}
 use Rattle.layout.specs.Slots.{field}
 use Rattle.layout.proofs.Rows.{apart-once}
 use Rattle.walk.specs.Walks.{Walked}
 use Rattle.nodestore.specs.Rows.{massAt}
 use Rattle.boxstore.specs.Boxed.{SomeBoxed}
-use Rattle.boxstore.specs.Grown.{Numbers, GrownBy, BoxOf}
-use Rattle.boxstore.proofs.Siblings.{sibling-is, At, at-numbers, some-sibling, grow-up}
+use Rattle.boxstore.specs.Grown.{GrownBy}
+use Rattle.boxstore.specs.Written.{lowIn, highIn}
+use Rattle.boxstore.proofs.Siblings.{sibling-is, At, some-sibling, grow-up}
 use Rattle.nodeview.specs.Report.{rowAt}
 use Rattle.nodeview.specs.Told.{numbersOf}
 use Rattle.nodeview.specs.Writing.{Writing, Writes}
@@ -50,10 +57,9 @@ module _ (c k : ℕ) (nodes : List (List ℕ)) (copies : List ℕ) (points : Lis
     pub box : Boxes (m - 1) b
     pub written : (d : ℕ) (t : Tree (whole d)) (p : Reading) → In d t p → rows ≡ front (numbers d t p) m lent
 
-  -- the node of height m, in row i of the path
-  module _ (i m : ℕ) (e : i + m + 1 ≡ len) (o : ℕ) (f : o ≡ field path i 0) where
-    pub read-box : (b : BoundingBox) → BoxOf c k o nodes points boxes b → Boxes m b
-    read-box b g d t p w = Nodes.box-at w i m e o f b g
+  -- the box of the node of height m, in row i of the path, where it is cached
+  read-box : (i m : ℕ) → i + m + 1 ≡ len → (o : ℕ) → o ≡ field path i 0 → 0 < m → o < k → (b : BoundingBox) → b .«min_values» ≡ lowIn boxes o → b .«max_values» ≡ highIn boxes o → Boxes m b
+  read-box i m e o f z l b x y d t p w = Nodes.cached-at w i m e o f z l b x y
 
   -- the box of the node of height m, from that of the node below it on the walk and its sibling
   module _ (m : ℕ) (z : 0 < m) (h : m < len) (node : ℕ) (f : node ≡ getD (getD path (len - 1 - (m - 1)) []) 1 0) where
@@ -63,13 +69,20 @@ module _ (c k : ℕ) (nodes : List (List ℕ)) (copies : List ℕ) (points : Lis
     pub some-side : {d : ℕ} {t : Tree (whole d)} {p : Reading} → In d t p → SomeBoxed c k node nodes points boxes
     some-side {d} {t} {p} w = some-sibling d c p k nodes points boxes (m - 1) t (omega (arith, w .walked .count)) (w .boxed) node (side w) (apart-once d c t (w .stored .apart))
 
-    pub grown-box : (b b′ : BoundingBox) → Boxes (m - 1) b → GrownBy c k node nodes points boxes b b′ → Boxes m b′
+    grown-box : (b b′ : BoundingBox) → Boxes (m - 1) b → GrownBy c k node nodes points boxes b b′ → Boxes m b′
     grown-box b b′ B g d t p w =
         let e : suc (m - 1) ≡ m = omega arith in
         subst (λ n. At d c p t n b′) e (grow-up d c p k nodes points boxes (m - 1) t (omega (arith, w .walked .count)) (w .boxed) node (side w) b b′ (B d t p w) g)
 
-  pub box-numbers : (m : ℕ) (b : BoundingBox) → Boxes m b → {d : ℕ} {t : Tree (whole d)} {p : Reading} → In d t p → Numbers b
-  box-numbers m b B {d} {t} {p} w = at-numbers d c p t m b (B d t p w)
+  -- the same box, as `ends_above` gives it from that of the node below
+  pub box-above : (i m : ℕ) → i + m + 1 ≡ len → (o : ℕ) → o ≡ field path i 0 → 0 < m → m < len → (node : ℕ) → node ≡ getD (getD path (len - 1 - (m - 1)) []) 1 0 → (b b′ : BoundingBox) → Boxes (m - 1) b
+      → (o < k → (b′ .«min_values» ≡ lowIn boxes o) × (b′ .«max_values» ≡ highIn boxes o)) → (k ≤ o → GrownBy c k node nodes points boxes b b′) → Boxes m b′
+  box-above i m e o f z h node g b b′ B r q =
+      by-test (ltb o k) (λ t. let x = r (ltb→lt o k (yes t)) in read-box i m e o f z (ltb→lt o k (yes t)) b′ (x .0) (x .1)) (λ t. grown-box m z h node g b b′ B (q (nltb→le o k (no t))))
+
+  -- box and query are coordinates
+  pub box-readings : (m : ℕ) (b : BoundingBox) → Boxes m b → {d : ℕ} {t : Tree (whole d)} {p : Reading} → In d t p → Readings (b .«min_values») (b .«max_values») point width
+  box-readings m b B {d} {t} {p} w = let a = B d t p w in rw (a .low, a .high, w .row) (are-readings (tree-box d (sub (whole d) t m p)) p)
 
   -- THE LOOP: its start, when the row of the leaf is written, whose point index is j and whose id is o
   module _ (lent : List (List ℕ)) (room : len ≤ length lent) (some : 0 < len) (x : List ℕ) where

@@ -21,21 +21,27 @@ use Rattle.wholetree.specs.Whole.{whole}
 use Rattle.layout.specs.Slots.{lowOf, highOf, field}
 use Rattle.layout.proofs.Ranges.{range-ending}
 use Rattle.layout.proofs.Replaced.{in-sub}
-use Rattle.layout.proofs.Rows.{apart-once}
 use Rattle.layout.proofs.Trails.{path-node}
 use Rattle.walk.proofs.Ends.{walk-is}
 use Rattle.nodestore.specs.Rows.{massAt}
 use Rattle.nodestore.proofs.Grafts.{mass-at, id-low}
-use Rattle.boxstore.specs.Boxed.{SomeBoxed}
+use Rattle.boxstore.specs.Boxed.{Boxed}
 use Rattle.boxstore.specs.Grown.{BoxOf}
+use Rattle.boxstore.specs.Written.{lowIn, highIn}
+use Rattle.boxstore.proofs.Ends.{row-ends}
+use Rattle.boxstore.proofs.Parts.{at-cached}
 use Rattle.boxstore.proofs.Siblings.{At}
-use Rattle.boxstore.proofs.Standing.{once-in}
 use Rattle.randomcuttree.proofs.Told.{boxed-in}
 use Rattle.nodeview.specs.Report.{chance, rowAt}
 use Rattle.nodeview.specs.Told.{numbersOf}
 use Rattle.nodeview.specs.Writing.{Writing}
 
--- a node with others below it is a branch
+-- a node with others below it is a branch, and its id is below the capacity
+branch-below : (d c k : ℕ) (nodes : List (List ℕ)) (points : List (List Float)) (boxes : List (List (List Float))) (u : Tree (whole d)) (p : Reading) → 0 < height (whole d) u p → Boxed d c k nodes points boxes u → id (whole d) c u < c
+branch-below d c k nodes points boxes (leaf i q n) p h B = absurd (omega arith)
+branch-below d c k nodes points boxes (branch b x g l r) p h B = omega (arith, B .in-range .0)
+
+-- and its chance is that of its box
 pub branch-chance : (d c : ℕ) (u : Tree (whole d)) (p : Reading) → 0 < height (whole d) u p → probability (lowOf d c u) (highOf d c u) (p .row) width ≡ chance d c u p
 branch-chance d c (leaf i q n) p h = absurd (omega arith)
 branch-chance d c (branch b k g l r) p h = refl
@@ -46,10 +52,17 @@ module _ {d c k : ℕ} {nodes : List (List ℕ)} {copies : List ℕ} {points : L
     pub leaf-low : i < pointLimit
     leaf-low = rw e (range-ending d c p t (w .boxed .in-range))
 
+    leaf-row : getD points i [] ≡ ending (whole d) t p .value .row
+    leaf-row = ap (λ j. getD points j []) e ∙ all-ending (whole d) (λ j q n. getD points j [] ≡ q .row) p t (w .boxed .leaves)
+
     pub leaf-chance : cond (sameRow (getD points i []) point) nought one ≡ chance d c (sub (whole d) t 0 p) p
-    leaf-chance =
-        let q : getD points i [] ≡ ending (whole d) t p .value .row = ap (λ j. getD points j []) e ∙ all-ending (whole d) (λ j q n. getD points j [] ≡ q .row) p t (w .boxed .leaves) in
-        rw (q, w .row, sub-leaf (whole d) p t) refl
+    leaf-chance = rw (leaf-row, w .row, sub-leaf (whole d) p t) refl
+
+    -- its point is its box
+    pub leaf-box : (b : BoundingBox) → b .«min_values» ≡ getD points i [] → b .«max_values» ≡ getD points i [] → At d c p t 0 b
+    leaf-box b x y =
+        let q = leaf-row ∙ row-ends (ending (whole d) t p .value) in
+        record { low = rw (sub-leaf (whole d) p t) (x ∙ q); high = rw (sub-leaf (whole d) p t) (y ∙ q) }
 
   -- the node of height m, in row i of the path
   module _ (i m : ℕ) (e : i + m + 1 ≡ len) where
@@ -69,11 +82,19 @@ module _ {d c k : ℕ} {nodes : List (List ℕ)} {copies : List ℕ} {points : L
       pub mass-asks : (o < c → o < branchLimit) × ((o - c < pointLimit) × (c ≤ o → 1 ≤ getD copies (o - c) 0))
       mass-asks = rw is-node (id-low d c t p nodes (w .cuts) copies (w .stored) u inside)
 
-      pub some-node : SomeBoxed c k o nodes points boxes
-      some-node = record { channels = d; tree = u; at-node = sym is-node; once = once-in d c inside (apart-once d c t (w .stored .apart)); boxed = boxed-in d c k nodes points boxes inside (w .boxed) }
+      -- above the leaf: its number, and its box if it is cached
+      module _ (z : 0 < m) where
+        below : o < c
+        below = rw is-node (branch-below d c k nodes points boxes u p (omega (arith, height-sub (whole d) m p t within)) (boxed-in d c k nodes points boxes inside (w .boxed)))
 
-      pub box-at : (b : BoundingBox) → BoxOf c k o nodes points boxes b → At d c p t m b
-      box-at b g = let x = g d u (sym is-node) (boxed-in d c k nodes points boxes inside (w .boxed)) in record { low = x .0; high = x .1 }
+        pub node-low : o < branchLimit
+        node-low = mass-asks .0 below
+
+        pub cached-at : o < k → (b : BoundingBox) → b .«min_values» ≡ lowIn boxes o → b .«max_values» ≡ highIn boxes o → At d c p t m b
+        cached-at l b x y =
+            let r : BoxOf c k o nodes points boxes b = at-cached c k o nodes points boxes below l .whole-box b x y in
+            let v = r d u (sym is-node) (boxed-in d c k nodes points boxes inside (w .boxed)) in
+            record { low = v .0; high = v .1 }
 
       pub row-is : (x : ℕ) (y : Float) → x ≡ massAt c nodes copies o → y ≡ chance d c u p → o ∷ i ∷ x ∷ toBits binary64 y ∷ [] ≡ numbersOf (rowAt d c t p m)
       row-is x y g h =

@@ -1,6 +1,5 @@
 // The walk report: `traverse` of randomcuttree.rs with `SmallNodeView` of nodeview.rs, for a visitor that never converges and wants no shadow box. It is
 // read from a tree's arrays and written to lent rows, a row for each node of the query's walk from the leaf to the root.
-use boundingbox::BoundingBox;
 use casts::wide16;
 use limits::Boxes;
 use limits::CAPACITY;
@@ -12,14 +11,19 @@ use limits::Points;
 use limits::Row;
 use randomcuttree::RCFTree;
 ghost use mathlib.Core.Path.{_≡_};
+ghost use Prim.Native.Nat.{_≤_, _<_};
 ghost use mathlib.Core.Bool.{cond};
 ghost use mathlib.Core.List.{[], _∷_};
 ghost use lib.Ieee.{binary64, toBits};
-ghost use Rattle.limits.specs.Limits.{width};
+ghost use Rattle.limits.specs.Limits.{width, capacityLimit, branchLimit};
 ghost use Rattle.readings.specs.Number.{nought};
+ghost use Rattle.cut.specs.Laws.{Readings};
 ghost use Rattle.cut.specs.Sums.{one};
 ghost use Rattle.probability.specs.Probability.{probability};
 ghost use Rattle.wholetree.specs.Reading.{sameRow};
+ghost use Rattle.boxstore.specs.Boxed.{SomeBoxed};
+ghost use Rattle.boxstore.specs.Grown.{EndsGrownBy};
+ghost use Rattle.boxstore.specs.Written.{lowIn, highIn};
 ghost use Rattle.nodeview.specs.Told.{ReportTold, SomeReportRead};
 ghost use Rattle.nodeview.specs.Writing.{SomeWriting, Writes};
 
@@ -47,11 +51,38 @@ fn leaf_row(id: u16, depth: usize, mass: u16, leaf: &Row, point: &Row) -> [u64; 
     numbers_of(id, depth, mass, 1.0)
 }
 
-// A branch's row: of its box and the query.
-fn branch_row(id: u16, depth: usize, mass: u16, b: BoundingBox, point: &Row) -> [u64; 4]
-    ensures { λ r. ⌜ r ≡ id ∷ depth ∷ mass ∷ toBits binary64 (probability (b .«min_values») (b .«max_values») (now (point .entry)) width) ∷ [] ⌝ }
+// A branch's row: of the ends of its box and the query.
+fn branch_row(id: u16, depth: usize, mass: u16, low: &Row, high: &Row, point: &Row) -> [u64; 4]
+    requires { ⌜ Readings (now low) (now high) (now point) width ⌝ }
+    ensures { λ r. ⌜ r ≡ id ∷ depth ∷ mass ∷ toBits binary64 (probability (now (low .entry)) (now (high .entry)) (now (point .entry)) width) ∷ [] ⌝ }
 {
-    numbers_of(id, depth, mass, probability::probability_of_cut(b, point))
+    let chance = probability::whole_probability_of_cut(low, high, point);
+    numbers_of(id, depth, mass, chance)
+}
+
+// The ends of a node's box become those of the branch above it: read if that is cached, else moved out to hold the box of the node's sibling.
+fn ends_above(
+    low: &mut Row,
+    high: &mut Row,
+    branch: usize,
+    sibling: usize,
+    nodes: &Nodes,
+    points: &Points,
+    boxes: &Boxes,
+    capacity: usize,
+    cached: usize,
+)
+    requires few { ⌜ (capacity ≤ capacityLimit) × (branch < branchLimit) ⌝ }
+    requires stands { ⌜ SomeBoxed capacity cached sibling (now nodes) (now points) (now boxes) ⌝ }
+    ensures read { λ _. ⌜ (branch < cached → (now (low .exit) ≡ lowIn (now (boxes .entry)) branch) × (now (high .exit) ≡ highIn (now (boxes .entry)) branch)) ⌝ }
+    ensures grown { λ _. ⌜ (cached ≤ branch → EndsGrownBy capacity cached sibling (now (nodes .entry)) (now (points .entry)) (now (boxes .entry)) (now (low .entry)) (now (high .entry)) (now (low .exit)) (now (high .exit))) ⌝ }
+{
+    if branch < cached {
+        *low = boxes[branch][0];
+        *high = boxes[branch][1];
+        return;
+    }
+    boxstore::grow_ends(low, high, sibling, nodes, points, boxes, capacity, cached);
 }
 
 // The rows of a walk. The box of a branch that is cached is read; that of any other is the box of the node below it on the walk, grown by that node's sibling.
@@ -76,19 +107,25 @@ fn write_rows(
     let leaf_id = walk::node_at(path, len - 1);
     let leaf_mass = nodestore::mass_of(nodes, copies, leaf_id, capacity);
     rows[0] = leaf_row(leaf_id, len - 1, leaf_mass, &points[leaf], point);
-    let mut current = boxstore::bounding_box(wide16(leaf_id), nodes, points, boxes, c, cached);
+    let mut low = points[leaf];
+    let mut high = points[leaf];
     let mut m: usize = 1;
     while m < len {
         let depth = len - 1 - m;
         let node = walk::node_at(path, depth);
-        if wide16(node) < cached {
-            current = boxstore::bounding_box(wide16(node), nodes, points, boxes, c, cached);
-        } else {
-            let sibling = boxstore::sibling_at(path, len, m - 1);
-            current = boxstore::grow_node_box(current, sibling, nodes, points, boxes, c, cached);
-        }
+        ends_above(
+            &mut low,
+            &mut high,
+            wide16(node),
+            boxstore::sibling_at(path, len, m - 1),
+            nodes,
+            points,
+            boxes,
+            c,
+            cached,
+        );
         let mass = nodestore::mass_of(nodes, copies, node, capacity);
-        rows[m] = branch_row(node, depth, mass, current, point);
+        rows[m] = branch_row(node, depth, mass, &low, &high, point);
         m += 1;
     }
 }

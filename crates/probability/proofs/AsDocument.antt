@@ -34,7 +34,7 @@ use Rattle.probability.specs.Laws.{distance, S, W, AsDocument, InRange, 
 use Rattle.probability.proofs.Exact.{outside-exact, S-le, all-le, sums-exact}
 
 -- how far a query lies outside, as the cut tells it
-distance-is : (a b x : ℕ) → a ≤ b → distance a b x ≡ beyond a b x
+pub distance-is : (a b x : ℕ) → a ≤ b → distance a b x ≡ beyond a b x
 distance-is a b x h = by-test (ltb x a) (λ t. rw t (below (ltb→lt x a (yes t)))) (λ t. rw t (above-it (nltb→le x a (no t))))
   where
     below : x < a → x - b + (a - x) ≡ a - x
@@ -88,7 +88,7 @@ module _ (n : ℕ) (lo hi p : List Float) (N : n ≤ width) (R : Readings lo hi 
   w = W lo hi n
 
   -- the box holds the query exactly where nothing of it lies outside
-  held : eqb (S lo hi p n) 0 ≡ contains lo hi p p n
+  pub held : eqb (S lo hi p n) 0 ≡ contains lo hi p p n
   held =
       ap (λ (k : ℕ). eqb k 0) (sum-same _ _ n (λ i h. distance-is (rank (channel lo i)) (rank (channel hi i)) (rank (channel p i)) (R .box .ordered i h)))
       ∙ holds-is lo hi p n R
@@ -96,7 +96,7 @@ module _ (n : ℕ) (lo hi p : List Float) (N : n ≤ width) (R : Readings lo hi 
   out-is : eq (outside lo hi p n) nought ≡ contains lo hi p p n
   out-is = rw (outside-exact n lo hi p N R, nought-is) (whole-eq s 0 (le-trans (S-le n lo hi p N R) (pow-mono (leb→le 24 53 tt))) zero-le) ∙ held
 
-  some-out : contains lo hi p p n ≡ false → 0 < S lo hi p n
+  pub some-out : contains lo hi p p n ≡ false → 0 < S lo hi p n
   some-out t = go s (held ∙ t)
     where
       go : (k : ℕ) → eqb k 0 ≡ false → 0 < k

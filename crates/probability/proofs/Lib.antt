@@ -2,3 +2,4 @@ pub mod Signs
 pub mod Exact
 pub mod AsDocument
 pub mod Padding
+pub mod Integers

@@ -3,7 +3,16 @@ use boundingbox::BoundingBox;
 use limits::CHANNELS;
 use limits::Row;
 ghost use mathlib.Core.Path.{_≡_};
+ghost use mathlib.Core.Bool.{false};
+ghost use Prim.Native.Nat.{_-_, _≤_, max};
+ghost use lib.Dec.{T};
+ghost use lib.Ieee.{binary64, round};
 ghost use Rattle.limits.specs.Limits.{width};
+ghost use Rattle.readings.specs.Coordinate.{isCoordinate, rank};
+ghost use Rattle.boundingbox.specs.Ends.{channel};
+ghost use Rattle.boundingbox.specs.Wholes.{Box, side, sumTo};
+ghost use Rattle.cut.specs.Draw.{lowEnd, highEnd};
+ghost use Rattle.cut.specs.Laws.{Readings};
 ghost use Rattle.probability.specs.Probability.{pastBy, pastSum, probability};
 
 // The chance that a cut of the box with the point in it parts the two: what lies outside over the sides and it, 0 where nothing does.
@@ -45,4 +54,69 @@ fn past_by(x: f32, y: f32) -> f32
     ensures { λ r. ⌜ r ≡ pastBy x y ⌝ }
 {
     if x - y > 0.0 { x - y } else { 0.0 }
+}
+
+// The same chance, of a box and a point of coordinates, from its ends where they lie. All sides are whole numbers: what lies outside is what the sides grow by as
+// the point is taken in, and integers are added up side by side, where the sums above wait for one addition after another. Where the box holds the point nothing
+// lies outside, and 0 over any whole number from 1 on is 0: no branch has to be guessed.
+// Rules out what lies outside over the sides without it, and a division by zero at a box that is the point.
+pub fn whole_probability_of_cut(low: &Row, high: &Row, point: &Row) -> f64
+    requires { ⌜ Readings (now low) (now high) (now point) width ⌝ }
+    ensures { λ r. ⌜ r ≡ probability (now (low .entry)) (now (high .entry)) (now (point .entry)) width ⌝ }
+{
+    let all = stretched_sum(low, high, point);
+    let sides = side_sum(low, high);
+    part_of(all - sides, all)
+}
+
+// The sum of the sides.
+fn side_sum(low: &Row, high: &Row) -> u32
+    requires { ⌜ Box (channel (now low)) (channel (now high)) width ⌝ }
+    ensures { λ r. ⌜ r ≡ sumTo (side (channel (now (low .entry))) (channel (now (high .entry)))) width ⌝ }
+{
+    let mut sum: u32 = 0;
+    let mut i: usize = 0;
+    while i < CHANNELS {
+        sum = sum + whole_side(low[i], high[i]);
+        i += 1;
+    }
+    sum
+}
+
+// The sum of the sides of the box with the point in it.
+fn stretched_sum(low: &Row, high: &Row, point: &Row) -> u32
+    requires { ⌜ Readings (now low) (now high) (now point) width ⌝ }
+    ensures { λ r. ⌜ r ≡ sumTo (side (lowEnd (now (low .entry)) (now (point .entry))) (highEnd (now (high .entry)) (now (point .entry)))) width ⌝ }
+{
+    let mut sum: u32 = 0;
+    let mut i: usize = 0;
+    while i < CHANNELS {
+        let lower = boundingbox::least_of(low[i], point[i]);
+        let upper = boundingbox::greatest_of(high[i], point[i]);
+        sum = sum + whole_side(lower, upper);
+        i += 1;
+    }
+    sum
+}
+
+// The side from a to b as an integer. The cast to i32 is one instruction for four floats, that to u32 is not.
+fn whole_side(a: f32, b: f32) -> u32
+    requires { ⌜ (T (isCoordinate a)) × (T (isCoordinate b)) × (rank a ≤ rank b) ⌝ }
+    ensures { λ r. ⌜ r ≡ rank b - rank a ⌝ }
+{
+    ((b - a) as i32) as u32
+}
+
+// A part over all, in one rounded division; over 1 where there is nothing.
+fn part_of(part: u32, all: u32) -> f64
+    requires { ⌜ (part ≤ all) × (all ≤ 67108864) ⌝ }
+    ensures { λ r. ⌜ r ≡ round binary64 false part (max all 1) ⌝ }
+{
+    (part as f64) / (at_least_one(all) as f64)
+}
+
+fn at_least_one(x: u32) -> u32
+    ensures { λ r. ⌜ r ≡ max x 1 ⌝ }
+{
+    if x < 1 { 1 } else { x }
 }

@@ -1,6 +1,7 @@
 //! Times the Rust and the port on the same calls, in the same process, and prints tables.
 //!
 //!   bench [OPERATIONS [REPETITIONS]]        a table for each kind of call
+//!   bench --only WORD [OPERATIONS ..]       the tables alone with that word in their name
 //!   bench --growth [MOST [REPETITIONS]]     how the cost grows with capacity and calls
 //!
 //! The answers of both are compared before anything is timed. The Rust's time is that of the timed calls
@@ -40,27 +41,28 @@ pub struct Shape {
 fn main() -> ExitCode {
     let arguments: Vec<String> = std::env::args().skip(1).collect();
     let arguments: Vec<&str> = arguments.iter().map(String::as_str).collect();
-    let (growth, rest) = match &arguments[..] {
-        ["--growth", rest @ ..] => (true, rest),
-        rest => (false, rest),
+    let (growth, only, rest) = match &arguments[..] {
+        ["--growth", rest @ ..] => (true, "", rest),
+        ["--only", word, rest @ ..] => (false, *word, rest),
+        rest => (false, "", rest),
     };
     let numbers: Result<Vec<usize>, _> = rest.iter().map(|n| n.parse()).collect();
     let Ok(numbers) = numbers else {
-        eprintln!("usage: bench [--growth] [OPERATIONS [REPETITIONS]]");
+        eprintln!("usage: bench [--growth | --only WORD] [OPERATIONS [REPETITIONS]]");
         return ExitCode::FAILURE;
     };
     let repetitions = numbers.get(1).copied().unwrap_or(REPETITIONS);
     let first = numbers.first().copied();
     match growth {
         true => growth::print(first, repetitions),
-        false => kinds(first.unwrap_or(OPERATIONS), repetitions),
+        false => kinds(only, first.unwrap_or(OPERATIONS), repetitions),
     }
     println!("The port's time includes reading the run's bytes and writing the answers' bytes.");
     ExitCode::SUCCESS
 }
 
-/// A table for each kind of call.
-fn kinds(operations: usize, repetitions: usize) {
+/// A table for each kind of call whose name has the word.
+fn kinds(only: &str, operations: usize, repetitions: usize) {
     let filling = |shape: &Shape, calls| arrivals::arrivals(Arrivals::Filling, shape, calls);
     let evicting = |shape: &Shape, calls| arrivals::arrivals(Arrivals::Evicting, shape, calls);
     let passing = |shape: &Shape, calls| arrivals::arrivals(Arrivals::NotAccepted, shape, calls);
@@ -71,7 +73,7 @@ fn kinds(operations: usize, repetitions: usize) {
         ("Arrivals that are not accepted", "Words", &passing),
         ("Reports", "Rows", &reports::reports),
     ];
-    for (name, to_a_call, workload) in tables {
+    for (name, to_a_call, workload) in tables.into_iter().filter(|table| table.0.contains(only)) {
         println!("{name}:\n");
         println!("| Share | Channels | {to_a_call} | Rust, ns | Port, ns | Port / Rust |");
         println!("|---|---|---|---|---|---|");

@@ -1,20 +1,19 @@
--- `write_rows` meets its contract: m rows are written, and the box is that of the last row's node (`Going`). Assumes nothing.
-use mathlib.Core.Path.{_∙_}
-use mathlib.Core.Logic.{⊎-elim}
+-- `write_rows` meets its contract: m rows are written, and the ends are those of the box of the last row's node (`Going`). Assumes nothing.
+use mathlib.Core.Path.{_∙_, refl}
 use Prim.Native.Nat.{_-_}
 use native.Mathlib.Omega.{arith}
 use lib.ListN.{length-set}
-use Rattle.nodeview.proofs.Nodes.{leaf-low, mass-asks, some-node}
-use Rattle.nodeview.proofs.Going.{Going, read-box, some-side, grown-box, box-numbers, going-starts, going-on, going-ends}
+use Rattle.nodeview.proofs.Nodes.{leaf-low, leaf-box, mass-asks, node-low}
+use Rattle.nodeview.proofs.Going.{Going, some-side, box-above, box-readings, going-starts, going-on, going-ends}
 use borrow.Author.Needs.{needs}
 use Rattle.nodeview.proofs.write_rows.Statement.{statement}
 use Rattle.nodeview.proofs.write_rows.Tie as tie
 
 abbrev Inv-loop : tie.InvT-loop
-Inv-loop nodes copies points boxes path len point capacity cached rows₀ c leaf leaf-id leaf-mass current₀ m₀ rows current m = Going capacity cached nodes copies points boxes path len point m current rows₀ rows
+Inv-loop nodes copies points boxes path len point capacity cached rows₀ c leaf leaf-id leaf-mass low₀ high₀ m₀ rows low high m = Going capacity cached nodes copies points boxes path len point m (record { «min_values» = low; «max_values» = high }) rows₀ rows
 
 abbrev μ-loop : tie.MeasureT-loop
-μ-loop nodes copies points boxes path len point capacity cached rows₀ c leaf leaf-id leaf-mass current₀ m₀ rows current m = len - m
+μ-loop nodes copies points boxes path len point capacity cached rows₀ c leaf leaf-id leaf-mass low₀ high₀ m₀ rows low high m = len - m
 
 wide16-requires : tie.Need-wide16-requires Inv-loop μ-loop
 wide16-requires c κs = search needs
@@ -46,23 +45,26 @@ leaf-row-requires c κs = search needs
 slice-set-from-rows : tie.Need-slice-set-from-rows Inv-loop μ-loop
 slice-set-from-rows c = let p = c .before .before .before .before .before .before .pre in omega (arith, p .room, p .writing .walked .count)
 
-wide16-requires-2 : tie.Need-wide16-requires-2 Inv-loop μ-loop
-wide16-requires-2 c κs = search needs
+mul-low : tie.Need-mul-low Inv-loop μ-loop
+mul-low c = let w = c .before .before .before .before .before .before .pre .writing in omega (arith, leaf-low w _ (c .before .before .before .before .leaf-at .ensures _ _ _ (w .walked)))
 
-bounding-box-requires : tie.Need-bounding-box-requires Inv-loop μ-loop
-bounding-box-requires c κs =
-    let w = c .before .before .before .before .before .before .before .pre .writing in
-    rw (c .wide162 .ensures .0, c .before .before .before .before .before .before .wide16 .ensures .0)
-    (w .stored .small, some-node w _ 0 (omega (arith, w .walked .count)) _ (c .before .before .before .before .node-at .ensures))
+element-copy-out-low : tie.Need-element-copy-out-low Inv-loop μ-loop
+element-copy-out-low c = let w = c .before .before .before .before .before .before .pre .writing in leaf-low w _ (c .before .before .before .before .leaf-at .ensures _ _ _ (w .walked))
+
+mul-high : tie.Need-mul-high Inv-loop μ-loop
+mul-high c = let w = c .before .before .before .before .before .before .before .pre .writing in omega (arith, leaf-low w _ (c .before .before .before .before .before .leaf-at .ensures _ _ _ (w .walked)))
+
+element-copy-out-high : tie.Need-element-copy-out-high Inv-loop μ-loop
+element-copy-out-high c = let w = c .before .before .before .before .before .before .before .pre .writing in leaf-low w _ (c .before .before .before .before .before .leaf-at .ensures _ _ _ (w .walked))
 
 loop-holds : tie.Need-loop-holds Inv-loop μ-loop
 loop-holds c =
     let p = c .before .before .before .before .before .before .before .before .pre in
     let w = p .writing .walked in
-    let n = c .before .before .before .before .before .node-at .ensures in
+    let leaf = c .before .before .before .before .before .before .leaf-at .ensures in
     going-starts _ _ _ _ _ _ _ _ _ (c .before .before .before .before .before .before .before .before .args .rows .now) (p .room) (omega (arith, w .count)) _
-    _ (omega (arith, w .count)) _ n _ (c .before .before .before .before .before .before .leaf-at .ensures) _ (c .before .before .before .before .mass-of .ensures) (c .before .before .leaf-row .ensures)
-    _ (read-box _ _ _ _ _ _ _ _ _ _ 0 (omega (arith, w .count)) _ n _ (rw (c .before .wide162 .ensures .0, c .before .before .before .before .before .before .before .wide16 .ensures .0) at (c .bounding-box .ensures)))
+    _ (omega (arith, w .count)) _ (c .before .before .before .before .before .node-at .ensures) _ leaf _ (c .before .before .before .before .mass-of .ensures) (c .before .before .leaf-row .ensures)
+    _ (λ d t q v. leaf-box v _ (leaf d t q (v .walked)) _ refl refl)
 
 sub-depth : tie.Need-sub-depth Inv-loop μ-loop
 sub-depth c = omega (arith, c .loop-test .taken)
@@ -73,61 +75,56 @@ sub-depth-2 c = omega (arith, c .loop-test .taken)
 node-at-requires-2 : tie.Need-node-at-requires-2 Inv-loop μ-loop
 node-at-requires-2 c κs = omega (arith, c .before .before .before .before .before .before .before .before .before .before .pre .writing .walked .most)
 
-wide16-requires-3 : tie.Need-wide16-requires-3 Inv-loop μ-loop
-wide16-requires-3 c κs = search needs
-
-wide16-requires-4 : tie.Need-wide16-requires-4 Inv-loop μ-loop
-wide16-requires-4 c κs = search needs
-
-bounding-box-requires-2 : tie.Need-bounding-box-requires-2 Inv-loop μ-loop
-bounding-box-requires-2 c κs =
-    let w = c .before .before .before .before .before .before .before .before .before .before .before .before .before .before .pre .writing in
-    rw (c .wide164 .ensures .0, c .before .before .before .before .before .before .before .before .before .before .before .before .before .wide16 .ensures .0)
-    (w .stored .small, some-node w _ (c .before .before .before .before .before .loop .m) (omega (arith, c .before .before .before .before .loop-test .taken)) _ (c .before .before .before .node-at2 .ensures))
+wide16-requires-2 : tie.Need-wide16-requires-2 Inv-loop μ-loop
+wide16-requires-2 c κs = search needs
 
 sub-sibling-at : tie.Need-sub-sibling-at Inv-loop μ-loop
-sub-sibling-at c = c .before .before .before .before .loop .inv .some
+sub-sibling-at c = c .before .before .before .before .before .loop .inv .some
 
 sibling-at-requires : tie.Need-sibling-at-requires Inv-loop μ-loop
-sibling-at-requires c κs = (omega (arith, c .before .before .before .loop-test .taken), c .before .before .before .before .before .before .before .before .before .before .before .before .before .pre .writing .walked .most)
+sibling-at-requires c κs = (omega (arith, c .before .before .before .before .loop-test .taken), c .before .before .before .before .before .before .before .before .before .before .before .before .before .before .pre .writing .walked .most)
 
-grow-node-box-requires : tie.Need-grow-node-box-requires Inv-loop μ-loop
-grow-node-box-requires c κs =
-    let w = c .before .before .before .before .before .before .before .before .before .before .before .before .before .before .pre .writing in
-    rw (c .before .before .before .before .before .before .before .before .before .before .before .before .before .wide16 .ensures .0)
-    (w .stored .small, (some-side _ _ _ _ _ _ _ _ _ _ (c .before .before .before .before .before .loop .inv .some) (c .before .before .before .before .loop-test .taken) _ (c .sibling-at .ensures) w, box-numbers _ _ _ _ _ _ _ _ _ _ _ (c .before .before .before .before .before .loop .inv .box) w))
+ends-above-requires : tie.Need-ends-above-requires Inv-loop μ-loop
+ends-above-requires c κs =
+    let w = c .before .before .before .before .before .before .before .before .before .before .before .before .before .before .before .pre .writing in
+    let g = c .before .before .before .before .before .before .loop .inv in
+    let h = c .before .before .before .before .before .loop-test .taken in
+    rw (c .before .wide162 .ensures .0, c .before .before .before .before .before .before .before .before .before .before .before .before .before .before .wide16 .ensures .0)
+    ((w .stored .small, node-low w _ (c .before .before .before .before .before .before .loop .m) (omega (arith, h)) _ (c .before .before .before .before .node-at2 .ensures) (g .some)), some-side _ _ _ _ _ _ _ _ _ _ (g .some) h _ (c .sibling-at .ensures) w)
 
 mass-of-requires-2 : tie.Need-mass-of-requires-2 Inv-loop μ-loop
-mass-of-requires-2 c κs =
-    mass-asks (c .before .before .before .before .before .before .before .before .before .before .before .before .before .pre .writing) _ (c .before .before .before .before .loop .m) (omega (arith, c .before .before .before .loop-test .taken)) _ (c .before .before .node-at2 .ensures)
+mass-of-requires-2 c κs = mass-asks (c .before .before .before .before .before .before .before .before .before .before .before .before .before .before .before .before .pre .writing) _ (c .before .before .before .before .before .before .before .loop .m) (omega (arith, c .before .before .before .before .before .before .loop-test .taken)) _ (c .before .before .before .before .before .node-at2 .ensures)
 
 branch-row-requires : tie.Need-branch-row-requires Inv-loop μ-loop
-branch-row-requires c κs = search needs
+branch-row-requires c κs =
+    let h = c .before .before .before .before .before .before .before .before .before .loop-test .taken in
+    let g = c .before .before .before .before .before .before .before .before .before .before .loop .inv in
+    let m = c .before .before .before .before .before .before .before .before .before .before .loop .m in
+    let n = c .before .before .before .before .before .before .before .before .node-at2 .ensures in
+    let e = rw (c .before .before .before .before .before .wide162 .ensures .0, c .before .before .before .before .before .before .before .before .before .before .before .before .before .before .before .before .before .before .wide16 .ensures .0) at (c .before .before .before .ends-above .ensures) in
+    box-readings _ _ _ _ _ _ _ _ _ m _ (box-above _ _ _ _ _ _ _ _ _ _ m (omega (arith, h)) _ n (g .some) h _ (c .before .before .before .before .sibling-at .ensures) _ _ (g .box) (e .0) (e .1)) (c .before .before .before .before .before .before .before .before .before .before .before .before .before .before .before .before .before .before .before .pre .writing)
 
-mul-t29 : tie.Need-mul-t29 Inv-loop μ-loop
-mul-t29 c = omega (arith, c .before .before .before .before .before .loop-test .taken, c .before .before .before .before .before .before .before .before .before .before .before .before .before .before .before .pre .writing .walked .most)
+mul-t34 : tie.Need-mul-t34 Inv-loop μ-loop
+mul-t34 c = omega (arith, c .before .before .before .before .before .before .before .before .before .before .loop-test .taken, c .before .before .before .before .before .before .before .before .before .before .before .before .before .before .before .before .before .before .before .before .pre .writing .walked .most)
 
 slice-set-from-rows-2 : tie.Need-slice-set-from-rows-2 Inv-loop μ-loop
-slice-set-from-rows-2 c = let g = c .before .before .before .before .before .before .loop .inv in omega (arith, g .room, g .long, c .before .before .before .before .before .loop-test .taken)
+slice-set-from-rows-2 c = let g = c .before .before .before .before .before .before .before .before .before .before .before .loop .inv in omega (arith, g .room, g .long, c .before .before .before .before .before .before .before .before .before .before .loop-test .taken)
 
 add-m : tie.Need-add-m Inv-loop μ-loop
-add-m c = omega (arith, c .before .before .before .before .before .loop-test .taken, c .before .before .before .before .before .before .before .before .before .before .before .before .before .before .before .pre .writing .walked .most)
+add-m c = omega (arith, c .before .before .before .before .before .before .before .before .before .before .loop-test .taken, c .before .before .before .before .before .before .before .before .before .before .before .before .before .before .before .before .before .before .before .before .pre .writing .walked .most)
 
 loop-less : tie.Need-loop-less Inv-loop μ-loop
-loop-less c = omega (arith, c .before .before .before .before .before .loop-test .taken)
+loop-less c = omega (arith, c .before .before .before .before .before .before .before .before .before .before .loop-test .taken)
 
 loop-again : tie.Need-loop-again Inv-loop μ-loop
 loop-again c =
-    let h = c .before .before .before .before .before .loop-test .taken in
-    let g = c .before .before .before .before .before .before .loop .inv in
-    let m = c .before .before .before .before .before .before .loop .m in
-    let n = c .before .before .before .before .node-at2 .ensures in
-    let same = c .before .before .before .before .before .before .before .before .before .before .before .before .before .before .wide16 .ensures .0 in
-    going-on _ _ _ _ _ _ _ _ _ m _ _ _ g h _ (omega (arith, h)) _ n _
-    (⊎-elim (λ w. rw (w .3) (read-box _ _ _ _ _ _ _ _ _ _ m (omega (arith, h)) _ n _ (rw (w .1 .ensures .0, same) at (w .2 .ensures))))
-    (λ w. rw (w .3) (grown-box _ _ _ _ _ _ _ _ _ m (g .some) h _ (w .1 .ensures) _ _ (g .box) (rw same at (w .2 .ensures))))
-    (c .before .before .if1 .came))
-    _ (c .before .mass-of2 .ensures) _ (c .branch-row .ensures)
+    let h = c .before .before .before .before .before .before .before .before .before .before .loop-test .taken in
+    let g = c .before .before .before .before .before .before .before .before .before .before .before .loop .inv in
+    let m = c .before .before .before .before .before .before .before .before .before .before .before .loop .m in
+    let n = c .before .before .before .before .before .before .before .before .before .node-at2 .ensures in
+    let e = rw (c .before .before .before .before .before .before .wide162 .ensures .0, c .before .before .before .before .before .before .before .before .before .before .before .before .before .before .before .before .before .before .before .wide16 .ensures .0) at (c .before .before .before .before .ends-above .ensures) in
+    going-on _ _ _ _ _ _ _ _ _ m _ _ _ g h _ (omega (arith, h)) _ n _ (box-above _ _ _ _ _ _ _ _ _ _ m (omega (arith, h)) _ n (g .some) h _ (c .before .before .before .before .before .sibling-at .ensures) _ _ (g .box) (e .0) (e .1))
+    _ (c .before .before .before .mass-of2 .ensures) _ (c .branch-row .ensures)
 
 same-length : tie.Need-same-length Inv-loop μ-loop
 same-length c = c .before .loop .inv .long ∙ simp length-set
@@ -153,21 +150,21 @@ write-rows-spec =
     index-1-leaf-row
     leaf-row-requires
     slice-set-from-rows
-    wide16-requires-2
-    bounding-box-requires
+    mul-low
+    element-copy-out-low
+    mul-high
+    element-copy-out-high
     loop-holds
     sub-depth
     sub-depth-2
     node-at-requires-2
-    wide16-requires-3
-    wide16-requires-4
-    bounding-box-requires-2
+    wide16-requires-2
     sub-sibling-at
     sibling-at-requires
-    grow-node-box-requires
+    ends-above-requires
     mass-of-requires-2
     branch-row-requires
-    mul-t29
+    mul-t34
     slice-set-from-rows-2
     add-m
     loop-less
