@@ -4,12 +4,13 @@ use mathlib.Core.List.{List, [], _∷_, _++_, map}
 use Prim.Native.Nat.{ℕ, zero, suc, _+_, _-_, _*_, _≤_}
 use native.Mathlib.Omega.{arith}
 use lib.ListN.{length, getD, drop, replicate}
-use lib.Seq.{sets, length-sets, getD-drop}
+use lib.Seq.{sets, length-sets}
 use lib.Ieee.{Float, nan, binary32, toBits}
 use Rattle.limits.specs.Limits.{capacityLimit}
 use Rattle.readings.specs.Number.{nought}
 use Rattle.little.specs.Little.{bytesOf}
 use Rattle.sampler.specs.Sample.{Entry, entriesIn}
+use Rattle.sampler.proofs.Places.{entries-next}
 use Rattle.wholetree.specs.Whole.{whole}
 use Rattle.sampledtree.specs.Sampled.{Sampled}
 use Rattle.treestore.specs.Arrays.{Lent}
@@ -20,14 +21,7 @@ use Rattle.answers.proofs.Told.{filled-length}
 use Rattle.answers.proofs.Written.{then-more}
 use Rattle.arrivals.specs.Sample.{entryNumbers, sampleNumbers, SampleWidth, sampleRead, SampleWritten}
 
--- ---- the slots: one more, and how many numbers they are
-entries-next : (n : ℕ) (weights : List Float) (held : List ℕ) → entriesIn (suc n) weights held ≡ entriesIn n weights held ++ (record { weight = getD weights n nan; index = getD held n 0 } ∷ [])
-unfolding entriesIn
-entries-next zero weights held = refl
-entries-next (suc n) weights held =
-    let next : 1 + n ≡ suc n = omega arith in
-    ap {B = List Entry} (λ l. record { weight = getD weights 0 nan; index = getD held 0 0 } ∷ l) (entries-next n (drop 1 weights) (drop 1 held) ∙ rw (getD-drop 1 weights n nan, getD-drop 1 held n 0, next))
-
+-- ---- the slots: their numbers, and how many these are
 numbers-append : (ks ls : List Entry) → entryNumbers (ks ++ ls) ≡ entryNumbers ks ++ entryNumbers ls
 numbers-append [] ls = refl
 numbers-append (k ∷ ks) ls = ap {B = List ℕ} (λ l. toBits binary32 (k .weight) ∷ k .index ∷ l) (numbers-append ks ls)

@@ -3,14 +3,17 @@ use answers::REPLY;
 use answers::Reply;
 use calls::Words;
 use limits::Boxes;
+use limits::CAPACITY;
 use limits::Copies;
 use limits::Cuts;
 use limits::Free;
 use limits::Held;
 use limits::Marks;
 use limits::Nodes;
+use limits::POINTS;
 use limits::Points;
 use limits::Weights;
+use samplerplustree::Offer;
 use samplerplustree::SamplerPlusTree;
 use samplerplustree::UpdateAnswer;
 ghost use mathlib.Core.Path.{_≡_};
@@ -23,9 +26,11 @@ ghost use Rattle.little.specs.Little.{bytesOf};
 ghost use Rattle.sampler.specs.Sample.{entriesIn};
 ghost use Rattle.treestore.specs.Arrays.{lent};
 ghost use Rattle.samplerplustree.specs.State.{SomeSampled};
-ghost use Rattle.samplerplustree.specs.Updates.{UpdateDone, headUpdated};
+ghost use Rattle.samplerplustree.specs.Updates.{headUpdated};
+ghost use Rattle.samplerplustree.specs.Offers.{OfferTold, SomeOffered, TakeDone};
 ghost use Rattle.answers.specs.Said.{filled, replyWidth};
-ghost use Rattle.arrivals.specs.Arrived.{arrivalNumbers, Arrives};
+ghost use Rattle.arrivals.specs.Arrived.{arrivalNumbers, Arrives, ArrivesBy};
+ghost use Rattle.arrivals.specs.Reach.{SomeReach, ReachIs};
 ghost use Rattle.arrivals.specs.Sample.{entryNumbers, SampleWritten};
 
 // The numbers of an arrival's answer, with 0 after them.
@@ -63,9 +68,70 @@ fn head_updated(tree: SamplerPlusTree, answer: UpdateAnswer) -> SamplerPlusTree
     }
 }
 
-// The arrival with the first n words.
-fn arrive_first(
+// What an arrival with the first n words is told. How many they are is all that matters of them here, so that they need not be read yet.
+// Rules out a test of all the words lent, and an arrival told what one with another word for the starting chance is.
+pub fn test_arrival(
     tree: SamplerPlusTree,
+    written: &Marks,
+    weights: &Weights,
+    index: usize,
+    weight: f32,
+    chance: u64,
+    words: &Words,
+    n: usize,
+) -> Offer
+    requires { ⌜ n ≤ capacityLimit ⌝ }
+    ensures { λ r. ⌜ OfferTold tree (now (written .entry)) (now (weights .entry)) index weight chance n r ⌝ }
+{
+    let all: &[u64] = words;
+    tree.test_arrival(written, weights, index, weight, chance, &all[..n])
+}
+
+// How many of an arrival's words may be looked at: the walk of its reading before anything moves tells it, but where the walk ends in the leaf that
+// goes first.
+// Rules out the walk's length told where the leaf at its end is the one that goes.
+pub fn reach(
+    tree: SamplerPlusTree,
+    nodes: &Nodes,
+    cuts: &Cuts,
+    points: &Points,
+    written: &Marks,
+    held: &Held,
+    index: usize,
+) -> usize
+    requires { ⌜ SomeReach tree (now nodes) (now cuts) (now points) (now written) (now held) ⌝ }
+    ensures { λ r. ⌜ ReachIs tree (now (nodes .entry)) (now (cuts .entry)) (now (points .entry)) (now (written .entry)) (now (held .entry)) index r ⌝ }
+{
+    if POINTS <= index {
+        return 0;
+    }
+    if written[index] == 0 {
+        return 0;
+    }
+    let bare = tree.tree;
+    if bare.total == 0 {
+        return 0;
+    }
+    let mut path = [[0u16; 2]; CAPACITY];
+    let found = treestore::find(
+        bare.root,
+        bare.capacity,
+        nodes,
+        cuts,
+        points,
+        index,
+        &mut path,
+    );
+    if found.leaf == casts::wide16(held[0]) {
+        return CAPACITY;
+    }
+    found.walk
+}
+
+// What the test told carried out with the first n words.
+fn take_first(
+    tree: SamplerPlusTree,
+    offer: Offer,
     nodes: &mut Nodes,
     cuts: &mut Cuts,
     copies: &mut Copies,
@@ -77,16 +143,17 @@ fn arrive_first(
     held: &mut Held,
     index: usize,
     weight: f32,
-    chance: u64,
     words: &Words,
     n: usize,
 ) -> UpdateAnswer
-    requires { ⌜ (n ≤ capacityLimit) × SomeSampled tree (lent (now nodes) (now cuts) (now copies) (now free) (now boxes)) (now points) (now written) (now weights) (now held) ⌝ }
-    ensures { λ r. ⌜ UpdateDone tree (lent (now (nodes .entry)) (now (cuts .entry)) (now (copies .entry)) (now (free .entry)) (now (boxes .entry))) (now (points .entry)) (now (written .entry)) (now (weights .entry)) (now (held .entry)) index weight chance (take n (now (words .entry))) r
+    requires { ⌜ (n ≤ capacityLimit) × SomeOffered tree offer (lent (now nodes) (now cuts) (now copies) (now free) (now boxes)) (now points) (now written) (now weights) (now held) index weight n ⌝ }
+    ensures long { λ r. ⌜ length (take n (now (words .entry))) ≡ n ⌝ }
+    ensures done { λ r. ⌜ TakeDone tree offer (lent (now (nodes .entry)) (now (cuts .entry)) (now (copies .entry)) (now (free .entry)) (now (boxes .entry))) (now (points .entry)) (now (written .entry)) (now (weights .entry)) (now (held .entry)) index weight (take n (now (words .entry))) r
         (lent (now (nodes .exit)) (now (cuts .exit)) (now (copies .exit)) (now (free .exit)) (now (boxes .exit))) (now (weights .exit)) (now (held .exit)) ⌝ }
 {
     let all: &[u64] = words;
-    tree.update(
+    tree.take_arrival(
+        offer,
         nodes,
         cuts,
         copies,
@@ -98,14 +165,61 @@ fn arrive_first(
         held,
         index,
         weight,
-        chance,
         &all[..n],
     )
 }
 
-// The arrival with a list by as many of its words as a tree has leaves at most, and the header after it. A list is short if it has fewer than the
-// capacity, and no walk takes more.
+// What the test told carried out, by as many of the arrival's words as a tree has leaves at most, and the header after it. A list is short if it has
+// fewer than the capacity, and no walk takes more. Of the lent words only those that may be looked at have to be the arrival's.
 // Rules out an arrival that is short of words where the list has enough, and the old header given back for one that is accepted.
+pub fn take_arrival(
+    tree: SamplerPlusTree,
+    offer: Offer,
+    nodes: &mut Nodes,
+    cuts: &mut Cuts,
+    copies: &mut Copies,
+    free: &mut Free,
+    boxes: &mut Boxes,
+    points: &Points,
+    written: &Marks,
+    weights: &mut Weights,
+    held: &mut Held,
+    index: usize,
+    weight: f32,
+    words: &Words,
+    n: usize,
+    reply: &mut Reply,
+) -> SamplerPlusTree
+    requires { ⌜ (n ≤ capacityLimit) × SomeOffered tree offer (lent (now nodes) (now cuts) (now copies) (now free) (now boxes)) (now points) (now written) (now weights) (now held) index weight n ⌝ }
+    ensures long { λ r. ⌜ length (take n (now (words .entry))) ≡ n ⌝ }
+    ensures done { λ r. ⌜ ((x : ℕ) (ws : List ℕ) → length (take capacityLimit ws) ≡ n
+        → ArrivesBy offer n index weight x (take n (now (words .entry))) ws tree (lent (now (nodes .entry)) (now (cuts .entry)) (now (copies .entry)) (now (free .entry)) (now (boxes .entry))) (now (points .entry)) (now (written .entry)) (now (weights .entry)) (now (held .entry))
+        r (lent (now (nodes .exit)) (now (cuts .exit)) (now (copies .exit)) (now (free .exit)) (now (boxes .exit))) (now (weights .exit)) (now (held .exit)) (now (reply .exit))) ⌝ }
+{
+    let answer = take_first(
+        tree,
+        offer,
+        nodes,
+        cuts,
+        copies,
+        free,
+        boxes,
+        points,
+        written,
+        weights,
+        held,
+        index,
+        weight,
+        words,
+        n,
+    );
+    let next = head_updated(tree, answer);
+    tell_update(answer, reply);
+    next
+}
+
+// An arrival with a list by as many of its words as a tree has leaves at most, and the header after it: the test, and what it told carried out.
+// Rules out an arrival told by one list of words and carried out with another, and one that is not accepted that moves the tree.
 pub fn arrive(
     tree: SamplerPlusTree,
     nodes: &mut Nodes,
@@ -129,8 +243,10 @@ pub fn arrive(
         → Arrives index weight chance ws tree (lent (now (nodes .entry)) (now (cuts .entry)) (now (copies .entry)) (now (free .entry)) (now (boxes .entry))) (now (points .entry)) (now (written .entry)) (now (weights .entry)) (now (held .entry))
         r (lent (now (nodes .exit)) (now (cuts .exit)) (now (copies .exit)) (now (free .exit)) (now (boxes .exit))) (now (weights .exit)) (now (held .exit)) (now (reply .exit))) ⌝ }
 {
-    let answer = arrive_first(
+    let offer = test_arrival(tree, written, weights, index, weight, chance, words, n);
+    take_arrival(
         tree,
+        offer,
         nodes,
         cuts,
         copies,
@@ -142,13 +258,10 @@ pub fn arrive(
         held,
         index,
         weight,
-        chance,
         words,
         n,
-    );
-    let next = head_updated(tree, answer);
-    tell_update(answer, reply);
-    next
+        reply,
+    )
 }
 
 // Writes two numbers, from the answer number `out` on.

@@ -1,17 +1,17 @@
 -- The sample that is kept beside a world: what puts and arrivals leave of it, and what it says of the counts. Assumes nothing.
-use mathlib.Core.Path.{_≡_, refl, sym, ap, _∙_, subst, fun-ext}
+use mathlib.Core.Path.{_≡_, refl, sym, ap, ap₂, _∙_, subst, fun-ext}
 use mathlib.Core.Option.{Option, none, some}
-use mathlib.Core.List.{List, [], _∷_, _++_, map}
+use mathlib.Core.List.{List}
 use Prim.Native.Nat.{ℕ}
 use native.Mathlib.Omega.{arith}
 use lib.ListN.{length}
 use lib.Ieee.{Float}
 use Rattle.sampler.specs.declared.Sampler.{Sampler}
-use Rattle.sampler.specs.Sample.{Entry, entriesIn}
+use Rattle.sampler.specs.Sample.{Entry}
+use Rattle.sampler.proofs.Places.{entries-read}
 use Rattle.cuttree.specs.Run.{World, put, call}
 use Rattle.cuttree.specs.Counts.{Counts}
 use Rattle.cuttree.proofs.Keeps.{Inv}
-use Rattle.wholetree.specs.Reading.{Reading}
 use Rattle.wholetree.specs.Whole.{whole}
 use Rattle.pointstore.specs.declared.PutAnswer.{PutAnswer}
 use Rattle.pointstore.specs.Puts.{PutDone}
@@ -22,12 +22,6 @@ use Rattle.samplerplustree.specs.State.{samplerOf, SampledState}
 use Rattle.samplerplustree.proofs.Standing.{puts-keep-sampled}
 use Rattle.demand3.specs.Steps.{Sample, Kept, headIn, SameTree}
 use Rattle.demand3.specs.Claim.{OfSample}
-
--- the entries that slots are read as are those that they keep
-entries-read : (ks : List Entry) (ws : List Float) (ps : List ℕ) → entriesIn (length ks) (map (λ k. k .weight) ks ++ ws) (map (λ k. k .index) ks ++ ps) ≡ ks
-unfolding entriesIn
-entries-read [] ws ps = refl
-entries-read (k ∷ ks) ws ps = ap (λ (l : List Entry). k ∷ l) (entries-read ks ws ps)
 
 -- d channels, capacity c, cached share s
 module _ (d c : ℕ) (s : Float) where

@@ -11,21 +11,57 @@ use limits::Marks;
 use limits::Nodes;
 use limits::Points;
 use limits::Weights;
+use samplerplustree::Offer;
 use samplerplustree::SamplerPlusTree;
 ghost use mathlib.Core.Path.{_≡_};
 ghost use mathlib.Core.Bool.{true};
-ghost use Prim.Native.Nat.{_+_};
-ghost use lib.ListN.{take};
-ghost use lib.Seq.{sets};
+ghost use Prim.Native.Nat.{_+_, _≤_};
 ghost use lib.Ieee.{binary32, ofBits};
-ghost use Rattle.limits.specs.Limits.{capacityLimit};
 ghost use Rattle.treestore.specs.Arrays.{lent};
 ghost use Rattle.samplerplustree.specs.State.{SomeSampled};
-ghost use Rattle.arrivals.specs.Arrived.{Arrives};
+ghost use Rattle.arrivals.specs.Reach.{takes, SomeReach, UsedIs};
+ghost use Rattle.arrivals.specs.Arrived.{Arrives, ReadsWords};
 ghost use Rattle.runlayout.specs.Layout.{number, double, standsAt, arrivalWordsAt};
 
-// The arrival at a place of the run: its answer's numbers in the reply, with 0 after them, and the header after it. It reads its words into the lent
-// ones, 256 at most; those beyond them stay.
+// Whether an offer takes the arrival.
+fn is_taken(offer: Offer) -> bool
+    ensures { λ r. ⌜ r ≡ takes offer ⌝ }
+{
+    match offer {
+        Offer::Refused(_) => false,
+        Offer::Passes => false,
+        Offer::Begins => true,
+        Offer::Evicts => true,
+    }
+}
+
+// How many words of an arrival of n have to be read: those that may be looked at. Of a long run most of the time of an arrival would go to the others.
+fn words_used(
+    tree: SamplerPlusTree,
+    offer: Offer,
+    nodes: &Nodes,
+    cuts: &Cuts,
+    points: &Points,
+    written: &Marks,
+    held: &Held,
+    index: usize,
+    n: usize,
+) -> usize
+    requires { ⌜ SomeReach tree (now nodes) (now cuts) (now points) (now written) (now held) ⌝ }
+    ensures few { λ r. ⌜ r ≤ n ⌝ }
+    ensures is { λ r. ⌜ UsedIs tree offer (now (nodes .entry)) (now (cuts .entry)) (now (points .entry)) (now (written .entry)) (now (held .entry)) index n r ⌝ }
+{
+    if is_taken(offer) {
+        return casts::at_most(
+            n,
+            arrivals::reach(tree, nodes, cuts, points, written, held, index),
+        );
+    }
+    0
+}
+
+// The arrival at a place of the run: its answer's numbers in the reply, with 0 after them, and the header after it. It reads those
+// of its words that may be looked at into the lent ones, and those beyond them stay.
 // Rules out the word for the starting chance read from another place, and the last word of a walk unread.
 pub fn arrival_at(
     tree: SamplerPlusTree,
@@ -48,15 +84,20 @@ pub fn arrival_at(
     ensures done { λ r. ⌜ Arrives (number (now (run .entry)) (p + 1)) (ofBits binary32 (number (now (run .entry)) (p + 2))) (double (now (run .entry)) (p + 3)) (arrivalWordsAt (now (run .entry)) p)
         tree (lent (now (nodes .entry)) (now (cuts .entry)) (now (copies .entry)) (now (free .entry)) (now (boxes .entry))) (now (points .entry)) (now (written .entry)) (now (weights .entry)) (now (held .entry))
         r (lent (now (nodes .exit)) (now (cuts .exit)) (now (copies .exit)) (now (free .exit)) (now (boxes .exit))) (now (weights .exit)) (now (held .exit)) (now (reply .exit)) ⌝ }
-    ensures words { λ _. ⌜ now (words .exit) ≡ sets (now (words .entry)) 0 (take capacityLimit (arrivalWordsAt (now (run .entry)) p)) ⌝ }
+    ensures words { λ _. ⌜ ReadsWords (number (now (run .entry)) (p + 1)) (ofBits binary32 (number (now (run .entry)) (p + 2))) (double (now (run .entry)) (p + 3)) (arrivalWordsAt (now (run .entry)) p)
+        tree (lent (now (nodes .entry)) (now (cuts .entry)) (now (copies .entry)) (now (free .entry)) (now (boxes .entry))) (now (points .entry)) (now (written .entry)) (now (weights .entry)) (now (held .entry))
+        (now (words .entry)) (now (words .exit)) ⌝ }
 {
     let index = runlayout::number_at(run, p + 1);
     let weight = little::float_of(runlayout::bits_at(run, p + 2));
     let chance = runlayout::double_at(run, p + 3);
     let n = casts::at_most(runlayout::number_at(run, p + 5), CAPACITY);
-    rungiven::read_words(run, p + 6, n, words);
-    arrivals::arrive(
+    let offer = arrivals::test_arrival(tree, written, weights, index, weight, chance, words, n);
+    let used = words_used(tree, offer, nodes, cuts, points, written, held, index, n);
+    rungiven::read_words(run, p + 6, used, words);
+    arrivals::take_arrival(
         tree,
+        offer,
         nodes,
         cuts,
         copies,
@@ -68,7 +109,6 @@ pub fn arrival_at(
         held,
         index,
         weight,
-        chance,
         words,
         n,
         reply,

@@ -7,7 +7,6 @@ use native.Mathlib.Omega.{arith}
 use lib.ListN.{length, take}
 use lib.Ieee.{Float, binary32, ofBits}
 use lib.Seq.{sets}
-use Rattle.limits.specs.Limits.{capacityLimit}
 use Rattle.little.specs.Little.{bytesOf}
 use Rattle.cuttree.proofs.Tests.{clash}
 use Rattle.wholetree.specs.Whole.{whole}
@@ -18,13 +17,13 @@ use Rattle.randomcuttree.specs.State.{State}
 use Rattle.samplerplustree.specs.declared.SamplerPlusTree.{SamplerPlusTree}
 use Rattle.samplerplustree.specs.State.{SampledState}
 use Rattle.answers.specs.Said.{replyWidth}
-use Rattle.arrivals.specs.Arrived.{Arrived, Arrives}
+use Rattle.arrivals.specs.Arrived.{Arrived, Arrives, ReadsWords}
 use Rattle.runlayout.specs.Layout.{RunCall, arrives, isCall, number, double, isSampled, channels, capacity, share, arrivalWordsAt, callAt, standsAt}
 use Rattle.runlayout.specs.Check.{widthOfKind}
 use Rattle.runlayout.proofs.Rest.{is-call}
 use Rattle.runsteps.specs.Told.{told, left}
 use Rattle.runsteps.specs.Standing.{Kept, kept, Standing}
-use Rattle.runsteps.specs.Steps.{Room, room, roomLeft, Stepped}
+use Rattle.runsteps.specs.Steps.{Room, room, wordsLeft, roomLeft, Stepped}
 use Rattle.runsteps.proofs.Widths.{length-told}
 use Rattle.runsteps.proofs.Capacity.{arrival-keeps}
 use Rattle.runsteps.proofs.Replies.{reply-long, first-numbers}
@@ -59,12 +58,15 @@ module _ (run : List ℕ) (p : ℕ) (six : number run p ≡ 6) where
 
     module _ (out : ℕ) (h : SamplerPlusTree) (k : Kept) (r : Room) (h′ : SamplerPlusTree) (a : Lent) (weights : List Float) (held words reply answers : List ℕ)
         (does : Arrives (number run (p + 1)) (ofBits binary32 (number run (p + 2))) (double run (p + 3)) (arrivalWordsAt run p) h (k .arrays) (k .points) (k .marks) (k .weights) (k .held) h′ a weights held reply)
-        (words-are : words ≡ sets (r .words) 0 (take capacityLimit (arrivalWordsAt run p))) (X : Sampled (whole (channels run))) (S : Standing run X h k) where
+        (reads : ReadsWords (number run (p + 1)) (ofBits binary32 (number run (p + 2))) (double run (p + 3)) (arrivalWordsAt run p) h (k .arrays) (k .points) (k .marks) (k .weights) (k .held) (r .words) words) (X : Sampled (whole (channels run))) (S : Standing run X h k) where
       abbrev y : SampledAnswer (whole (channels run)) × Sampled (whole (channels run))
       y = call (whole (channels run)) X (arrive (number run (p + 1)) (ofBits binary32 (number run (p + 2))) (double run (p + 3)) (arrivalWordsAt run p))
 
       done : Arrived (channels run) (share run) y h′ a (k .points) (k .marks) weights held reply
       done = does (channels run) (share run) X (S .sample-is sampled)
+
+      words-are : words ≡ wordsLeft (channels run) (share run) X at (r .words)
+      words-are = reads (channels run) (share run) X (S .sample-is sampled)
 
       pub few : 4 ≤ length reply
       few = omega (arith, reply-long reply (told (channels run) (share run) X at) (done .reply-is))

@@ -85,9 +85,9 @@ module _ (run : List ℕ) (p : ℕ) where
         (isSampled run) (number run p) (is-call run p stands)
         (subst (λ (b : Bool). isCall b (number run p) ≡ true) z (is-call run p stands)) o
 
-    words-there : (words : List ℕ) → wordsAfter run p words ≡ wordsLeft (channels run) (share run) (plain (plainAt run (channels run) p)) words
-    words-there words =
-        by-kind (λ (k : ℕ). cond (eqb k 4) (sets words 0 (take capacityLimit (wordsAt run p))) words ≡ wordsLeft (channels run) (share run) (plain (of-kind k)) words)
+    words-there : (X : Sampled (whole (channels run))) (words : List ℕ) → wordsAfter run p words ≡ wordsLeft (channels run) (share run) X (plain (plainAt run (channels run) p)) words
+    words-there X words =
+        by-kind (λ (k : ℕ). cond (eqb k 4) (sets words 0 (take capacityLimit (wordsAt run p))) words ≡ wordsLeft (channels run) (share run) X (plain (of-kind k)) words)
         refl refl refl refl refl refl refl refl refl (isSampled run) (number run p) (is-call run p stands)
 
     module _ (out w : ℕ) (h : SamplerPlusTree) (k : Kept) (r : Room) (tree : RCFTree) (a : Lent) (points : List (List Float)) (marks words reply answers : List ℕ)
@@ -117,5 +117,5 @@ module _ (run : List ℕ) (p : ℕ) where
           tree-is = done .state;
           sample-is = λ z. moved (channels run) (share run) X h (k .arrays) (k .points) (k .marks) (k .weights) (k .held) (S .sample-is z) _ tree a points marks (done .state) (agrees-on X z (S .sample-is z .agrees));
         });
-        room-is = subst (λ (x : RunCall (channels run)). room words reply (r .rows) answers ≡ roomLeft (channels run) (share run) out X x r) (sym there) (rw (words-are, words-there (r .words), f, first, done .reply-is) refl);
+        room-is = subst (λ (x : RunCall (channels run)). room words reply (r .rows) answers ≡ roomLeft (channels run) (share run) out X x r) (sym there) (rw (words-are, words-there X (r .words), f, first, done .reply-is) refl);
       }

@@ -2,7 +2,7 @@
 use mathlib.Core.Path.{_≡_}
 use mathlib.Core.List.{List}
 use Prim.Native.Nat.{ℕ, _*_}
-use lib.ListN.{take}
+use lib.ListN.{length, take}
 use lib.Ieee.{Float}
 use lib.Seq.{sets}
 use Rattle.limits.specs.Limits.{capacityLimit}
@@ -11,9 +11,11 @@ use Rattle.cuttree.specs.Run.{Call, put, add, delete, query}
 use Rattle.wholetree.specs.Whole.{whole}
 use Rattle.sampledtree.specs.Sampled.{Sampled}
 use Rattle.samplerplustree.specs.declared.SamplerPlusTree.{SamplerPlusTree}
+use Rattle.samplerplustree.specs.Offers.{offered}
 use Rattle.answers.specs.Said.{filled, replyWidth}
 use Rattle.nodeview.specs.Report.{reportOf}
 use Rattle.nodeview.specs.Told.{rowsAfter}
+use Rattle.arrivals.specs.Arrived.{wordsRead}
 use Rattle.runlayout.specs.Layout.{RunCall, plain, arrives, reports, sample, channels, share, callAt}
 use Rattle.runsteps.specs.Told.{told, left}
 use Rattle.runsteps.specs.Standing.{Kept, Standing}
@@ -29,15 +31,15 @@ abbrev pub room : List ℕ → List ℕ → List (List ℕ) → List ℕ → Roo
 room words reply rows answers = record { words = words; reply = reply; rows = rows; answers = answers }
 
 module _ (d : ℕ) (s : Float) where
-  -- an add and an arrival read their words from the front, as many as there is room for; any other call leaves all
-  abbrev pub wordsLeft : RunCall d → List ℕ → List ℕ
-  wordsLeft (plain (put i xs)) words = words
-  wordsLeft (plain (add i ws)) words = sets words 0 (take capacityLimit ws)
-  wordsLeft (plain (delete i)) words = words
-  wordsLeft (plain (query q)) words = words
-  wordsLeft (arrives i w x ws) words = sets words 0 (take capacityLimit ws)
-  wordsLeft (reports n xs) words = words
-  wordsLeft sample words = words
+  -- an add reads its words from the front, as many as there is room for, and an arrival those that may be looked at; any other call leaves all
+  abbrev pub wordsLeft : Sampled (whole d) → RunCall d → List ℕ → List ℕ
+  wordsLeft X (plain (put i xs)) words = words
+  wordsLeft X (plain (add i ws)) words = sets words 0 (take capacityLimit ws)
+  wordsLeft X (plain (delete i)) words = words
+  wordsLeft X (plain (query q)) words = words
+  wordsLeft X (arrives i w x ws) words = wordsRead d X i (offered d X i w x (length ws)) ws words
+  wordsLeft X (reports n xs) words = words
+  wordsLeft X sample words = words
 
   -- the answer's numbers, with 0 after them; those of a report and of the sample go to the answers at once
   abbrev pub replyLeft : Sampled (whole d) → RunCall d → List ℕ → List ℕ
@@ -54,7 +56,7 @@ module _ (d : ℕ) (s : Float) where
 
   -- all of the room after a call whose answer begins at the answer number `out`
   abbrev pub roomLeft : ℕ → Sampled (whole d) → RunCall d → Room → Room
-  roomLeft out X e r = room (wordsLeft e (r .words)) (replyLeft X e (r .reply)) (rowsLeft X e (r .rows)) (sets (r .answers) (4 * out) (bytesOf (told d s X e)))
+  roomLeft out X e r = room (wordsLeft X e (r .words)) (replyLeft X e (r .reply)) (rowsLeft X e (r .rows)) (sets (r .answers) (4 * out) (bytesOf (told d s X e)))
 
 module _ (run : List ℕ) (p out : ℕ) where
   -- the call at the place p, answered from the answer number `out` on

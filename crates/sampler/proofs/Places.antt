@@ -3,8 +3,8 @@ use mathlib.Core.Path.{_≡_, refl, ap, _∙_}
 use mathlib.Core.List.{List, [], _∷_, _++_, map}
 use Prim.Native.Nat.{ℕ, zero, suc, _+_, _<_}
 use native.Mathlib.Omega.{arith}
-use lib.ListN.{length, getD, set, take, length-append, length-set, length-take, length-map, List·getD-append, List·getD-map}
-use lib.Seq.{lt-length-set}
+use lib.ListN.{length, getD, set, take, drop, length-append, length-set, length-take, length-map, List·getD-append, List·getD-map}
+use lib.Seq.{lt-length-set, getD-drop}
 use lib.Ieee.{Float, nan, lt}
 use Rattle.readings.specs.Number.{nought}
 use Rattle.sampler.specs.Heap.{swapped, refilled}
@@ -94,3 +94,16 @@ some-slots (suc n) (w ∷ weights) [] h l = absurd (omega arith)
 some-slots (suc n) (w ∷ weights) (p ∷ points) h l =
     let rest = some-slots n weights points (omega arith) (omega arith) in
     record { size = ap suc (rest .size); weights-are = ap (λ ws. w ∷ ws) (rest .weights-are); points-are = ap (λ ps. p ∷ ps) (rest .points-are) }
+
+-- ---- slots read as entries: one more, and those that they keep
+pub entries-next : (n : ℕ) (weights : List Float) (points : List ℕ) → entriesIn (suc n) weights points ≡ entriesIn n weights points ++ (record { weight = getD weights n nan; index = getD points n 0 } ∷ [])
+unfolding entriesIn
+entries-next zero weights points = refl
+entries-next (suc n) weights points =
+    let next : 1 + n ≡ suc n = omega arith in
+    ap {B = List Entry} (λ l. record { weight = getD weights 0 nan; index = getD points 0 0 } ∷ l) (entries-next n (drop 1 weights) (drop 1 points) ∙ rw (getD-drop 1 weights n nan, getD-drop 1 points n 0, next))
+
+pub entries-read : (ks : List Entry) (ws : List Float) (ps : List ℕ) → entriesIn (length ks) (map (λ k. k .weight) ks ++ ws) (map (λ k. k .index) ks ++ ps) ≡ ks
+unfolding entriesIn
+entries-read [] ws ps = refl
+entries-read (k ∷ ks) ws ps = ap (λ (l : List Entry). k ∷ l) (entries-read ks ws ps)

@@ -1,6 +1,7 @@
 -- `runarrivals::arrival_at` meets its contract. Assumes nothing.
 use native.Mathlib.Omega.{arith}
-use Rattle.runarrivals.proofs.Given.{arrival-inside, arrival-given}
+use Rattle.treestore.specs.Arrays.{lent}
+use Rattle.runarrivals.proofs.Given.{arrival-inside, arrival-offered, arrival-given}
 use borrow.Author.Needs.{needs}
 use Rattle.runarrivals.proofs.arrival_at.Statement.{statement}
 use Rattle.runarrivals.proofs.arrival_at.Tie as tie
@@ -35,20 +36,35 @@ number-at-requires-2 c κs = let s = c .before .before .before .before .before i
 at-most-requires : tie.Need-at-most-requires
 at-most-requires c κs = search needs
 
+test-arrival-requires : tie.Need-test-arrival-requires
+test-arrival-requires c κs = omega (arith, c .before .before .at-most .ensures)
+
+words-used-requires : tie.Need-words-used-requires
+words-used-requires c κs = let q = c .before .before .before .before .before .before .before .before .before .before .before .before .before .pre .1 in record { copies = _; free = _; boxes = _; weights = _; channels = q .channels; share = q .share; world = q .world; state = q .state }
+
 add-read-words : tie.Need-add-read-words
-add-read-words c = let s = c .before .before .before .before .before .before .before in omega (arith, arrival-inside (s .args .run .now) _ (s .pre .0), s .good .1 .1 .1 .1 .1 .1 .1 .1 .1 .1 .0)
+add-read-words c = let s = c .before .before .before .before .before .before .before .before .before .before .before .before .before .before in omega (arith, arrival-inside (s .args .run .now) _ (s .pre .0), s .good .1 .1 .1 .1 .1 .1 .1 .1 .1 .1 .0)
 
 read-words-requires : tie.Need-read-words-requires
-read-words-requires c κs = let s = c .before .before .before .before .before .before .before .before in (omega (arith, c .before .at-most .ensures), omega (arith, arrival-inside (s .args .run .now) _ (s .pre .0), c .before .before .number-at2 .ensures .0, c .before .at-most .ensures))
+read-words-requires c κs =
+    let s = c .before .before .before .before .before .before .before .before .before .before .before .before .before .before .before in
+    let few = c .before .words-used .ensures .0 in
+    let n = c .before .before .before .before .before .before .before .before .at-most .ensures in
+    (omega (arith, few, n), omega (arith, few, n, arrival-inside (s .args .run .now) _ (s .pre .0), c .before .before .before .before .before .before .before .before .before .number-at2 .ensures .0))
 
-arrive-requires : tie.Need-arrive-requires
-arrive-requires c κs = (omega (arith, c .before .before .before .before .before .before .before .before .before .before .before .at-most .ensures), c .before .before .before .before .before .before .before .before .before .before .before .before .before .before .before .before .before .before .pre .1)
+take-arrival-requires : tie.Need-take-arrival-requires
+take-arrival-requires c κs =
+    let t = c .before .before .before .before .before .before .before .before .before .before .before .before .before .before .before in
+    let r = t .before .before .before in
+    let s = r .before .before .before .before .before .before .before in
+    (omega (arith, r .at-most .ensures), arrival-offered (s .args .run .now) _ _ _ _ _ _ _ _ _ _ _ _ _ _ (r .before .before .before .before .before .number-at .ensures .0) (r .before .before .before .before .bits-at .ensures) (r .before .before .before .float-of .ensures) (r .before .before .double-at .ensures) (r .before .number-at2 .ensures .0) (r .at-most .ensures) (t .test-arrival .ensures) (s .pre .1))
 
 returns : tie.Need-returns
 returns c =
-    let r = c .before .before .before .before .before .before .before .before .before .before in
-    let s = r .before .before .before .before .before .before .before .before .before .args in
-    arrival-given (s .run .now) _ _ _ _ _ _ _ _ _ _ _ _ _ _ _ _ _ _ (s .words .now) _ (r .before .before .before .before .before .before .before .number-at .ensures .0) (r .before .before .before .before .before .before .bits-at .ensures) (r .before .before .before .before .before .float-of .ensures) (r .before .before .before .before .double-at .ensures) (r .before .before .before .number-at2 .ensures .0) (r .before .before .at-most .ensures) (r .read-words .ensures) (c .arrive .ensures)
+    let t = c .before .before .before .before .before .before .before .before .before .before .before .before .before .before .before .before in
+    let r = t .before .before .before in
+    let s = r .before .before .before .before .before .before .before in
+    arrival-given (s .args .run .now) _ _ (lent (s .args .nodes .now) (s .args .cuts .now) (s .args .copies .now) (s .args .free .now) (s .args .boxes .now)) _ _ _ _ _ _ _ _ _ _ _ (r .before .before .before .before .before .number-at .ensures .0) (r .before .before .before .before .bits-at .ensures) (r .before .before .before .float-of .ensures) (r .before .before .double-at .ensures) (r .before .number-at2 .ensures .0) (r .at-most .ensures) (t .test-arrival .ensures) _ (c .before .before .before .before .before .before .before .before .before .before .before .before .words-used .ensures .1) (s .args .words .now) _ (c .before .before .before .before .before .before .before .before .before .before .read-words .ensures) _ _ _ _ _ (c .take-arrival .ensures .1)
 
 pub arrival-at-spec : {M : Type 1} → statement M
 arrival-at-spec =
@@ -64,7 +80,9 @@ arrival-at-spec =
     add-number-at-2
     number-at-requires-2
     at-most-requires
+    test-arrival-requires
+    words-used-requires
     add-read-words
     read-words-requires
-    arrive-requires
+    take-arrival-requires
     returns)
