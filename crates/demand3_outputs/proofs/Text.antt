@@ -19,10 +19,11 @@ use Rattle.wholetree.specs.Whole.{whole}
 use Rattle.wholetree.proofs.Laws.{whole-laws}
 use Rattle.randomcuttree.specs.declared.Made.{Made}
 use Rattle.form.specs.Rows.{Op}
+use Rattle.form.specs.Making.{sixteenthsOf}
 use Rattle.lines.specs.Lines.{namesLine}
 use Rattle.printed.specs.Printed.{linesOf, printedTree}
 use Rattle.rowcalls.specs.Ops.{callOf}
-use Rattle.treelist_text.specs.Output.{toldRow, sixteenthsOf, outputFrom, outputBy, outputOf}
+use Rattle.treelist_text.specs.Output.{toldRow, outputFrom, outputBy, outputOf}
 use Rattle.demand3.proofs.Answered as Demand3
 use Rattle.demand3_outputs.specs.Text.{LinesFrom, leaf-line, branch-line, Listing, toldRows, TextsAnswer}
 use Rattle.demand3_outputs.proofs.Made.{taken}

@@ -13,11 +13,11 @@ use Rattle.randomcuttree.specs.declared.RCFTree.{RCFTree}
 use Rattle.randomcuttree.specs.declared.Made.the-variants.{Tree}
 use Rattle.randomcuttree.specs.Making.{madeBy}
 use Rattle.form.specs.Rows.{Op}
-use Rattle.form.specs.Making.{Making}
+use Rattle.form.specs.Making.{Making, sixteenthsOf}
 use Rattle.form.specs.Form.{read, parsed}
 use Rattle.lines.specs.Lines.{branchLine, leafLine, namesLine}
 use Rattle.rowcalls.specs.Ops.{callOf}
-use Rattle.treelist_text.specs.Output.{toldRow, sixteenthsOf, output}
+use Rattle.treelist_text.specs.Output.{toldRow, output}
 use Rattle.demand3.specs.Answered.{Answered}
 
 -- a tree of d channels

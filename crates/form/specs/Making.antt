@@ -3,6 +3,8 @@ use Prim.Native.Nat.{ℕ}
 use mathlib.Core.List.{List, [], _∷_}
 use mathlib.Core.Option.{Option, none, some}
 use mathlib.Core.Bool.{Bool, true, false}
+use lib.Ieee.{Float, binary64, ofBits, ofInt, div}
+use lib.IntN.{pos}
 use Rattle.text.specs.declared.Number.{Number}
 use Rattle.text.specs.declared.Number.the-variants.{Is, NoNumber}
 use Rattle.text.specs.Numbers.{decimalOf}
@@ -39,3 +41,7 @@ makingSays NoMaking = none
 abbrev pub isMakingRow : MakingRow → Bool
 isMakingRow (Make x y z) = true
 isMakingRow NoMaking = false
+
+-- '`cache16` is the share in sixteenths'
+unfoldable pub sixteenthsOf : ℕ → Float
+sixteenthsOf n = div binary64 (ofInt binary64 (pos n)) (ofBits binary64 0x4030_0000_0000_0000)

@@ -11,7 +11,7 @@ ghost use Rattle.text.specs.Numbers.{decimalOf, wordOf};
 ghost use Rattle.text.specs.Coordinates.{coordinateOf};
 ghost use Rattle.text.specs.Fields.{numberInForm, numberOrZero, coordinateInForm};
 ghost use Rattle.form.specs.Rows.{areCoordinates, areWords, rowBy, rowOf, answerAt, readRow, isOp, isSome};
-ghost use Rattle.form.specs.Making.{makingBy, makingOf, makingSays, isMakingRow};
+ghost use Rattle.form.specs.Making.{makingBy, makingOf, makingSays, isMakingRow, sixteenthsOf};
 ghost use Rattle.form.specs.Form.{rowsFrom, sameBytes, blocks, formFrom, formOf};
 ghost use Rattle.form.specs.Lines.{rowsForm, FirstLines};
 
@@ -35,7 +35,9 @@ pub enum Form {
     Bad(usize),
 }
 
-fn number_at(row: &[u8], start: usize, end: usize) -> Number
+// The number in the field between two places.
+// Rules out the byte at the end taken into the field, and a number read from the row's start.
+pub fn number_at(row: &[u8], start: usize, end: usize) -> Number
     requires { ⌜ (start ≤ end) × (end ≤ length (now row)) ⌝ }
     ensures { λ r. ⌜ r ≡ decimalOf (take (end - start) (drop start (now (row .entry)))) ⌝ }
 {
@@ -60,7 +62,8 @@ fn is_coordinate_at(row: &[u8], start: usize, end: usize) -> bool
 }
 
 // Whether each field of the row from a place on is a word.
-fn all_words(row: &[u8], start: usize) -> bool
+// Rules out the last field untested, and a row refused for having no field there.
+pub fn all_words(row: &[u8], start: usize) -> bool
     requires { ⌜ start ≤ length (now row) + 1 ⌝ }
     ensures { λ r. ⌜ r ≡ areWords (piecesFrom 32 (now (row .entry)) start) ⌝ }
 {
@@ -76,7 +79,8 @@ fn all_words(row: &[u8], start: usize) -> bool
 }
 
 // Whether each is a coordinate.
-fn all_coordinates(row: &[u8], start: usize) -> bool
+// Rules out the last field untested, and a row refused for a coordinate beyond 2^20.
+pub fn all_coordinates(row: &[u8], start: usize) -> bool
     requires { ⌜ start ≤ length (now row) + 1 ⌝ }
     ensures { λ r. ⌜ r ≡ areCoordinates (piecesFrom 32 (now (row .entry)) start) ⌝ }
 {
@@ -188,7 +192,9 @@ fn check_rows(bytes: &[u8], start: usize) -> Form
     }
 }
 
-fn same_bytes(a: &[u8], b: &[u8]) -> bool
+// Whether two lists of bytes are equal.
+// Rules out a list taken for a longer one that starts with it, and a last byte that is not compared.
+pub fn same_bytes(a: &[u8], b: &[u8]) -> bool
     ensures { λ r. ⌜ r ≡ sameBytes (now (a .entry)) (now (b .entry)) ⌝ }
 {
     let mut i = 0;
@@ -253,6 +259,15 @@ pub fn read_making(row: &[u8]) -> MakingRow
     let capacity = number_at(row, second, b);
     let sixteenths = number_at(row, third, c);
     making_by(channels, capacity, sixteenths)
+}
+
+// The share of a number of sixteenths, which has at most nine digits: an f64 has each such number.
+// Rules out the number itself for its share, and a share rounded to a whole number.
+pub fn share_of(sixteenths: u64) -> f64
+    requires { ⌜ sixteenths < 1000000000 ⌝ }
+    ensures { λ r. ⌜ r ≡ sixteenthsOf sixteenths ⌝ }
+{
+    (sixteenths as f64) / 16.0
 }
 
 fn is_making(row: MakingRow) -> bool

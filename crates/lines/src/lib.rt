@@ -75,7 +75,8 @@ pub fn put_bytes(out: &mut [u8], at: usize, bytes: &[u8]) -> usize
 }
 
 // A number that others follow, with the space after it.
-fn put_field(out: &mut [u8], at: usize, n: usize) -> usize
+// Rules out the space before it, and a line feed after it.
+pub fn put_field(out: &mut [u8], at: usize, n: usize) -> usize
     requires { ⌜ at < 1000000000000 ⌝ }
     ensures wrote { λ r. ⌜ Wrote (now (out .entry)) at (numberField n) r (now (out .exit)) ⌝ }
     ensures few { λ r. ⌜ r ≤ at + 21 ⌝ }
@@ -85,7 +86,8 @@ fn put_field(out: &mut [u8], at: usize, n: usize) -> usize
 }
 
 // The last number of a line, with the line feed after it.
-fn put_last(out: &mut [u8], at: usize, n: usize) -> usize
+// Rules out a space before the line feed, and no line feed.
+pub fn put_last(out: &mut [u8], at: usize, n: usize) -> usize
     requires { ⌜ at < 1000000000000 ⌝ }
     ensures wrote { λ r. ⌜ Wrote (now (out .entry)) at (lastNumberField n) r (now (out .exit)) ⌝ }
     ensures few { λ r. ⌜ r ≤ at + 21 ⌝ }

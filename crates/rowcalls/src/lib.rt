@@ -23,7 +23,8 @@ ghost use Rattle.calls.specs.Done.{Does};
 ghost use Rattle.rowcalls.specs.Ops.{callOf, SomeOp};
 
 // The put of a row whose coordinates start at a place: those that a put looks at.
-fn put_row(
+// Rules out a put of the coordinates in form alone, and an answer that tells of the eight first of nine.
+pub fn put_row(
     tree: RCFTree,
     copies: &Copies,
     points: &mut Points,

@@ -9,7 +9,7 @@ use borrow.Author.Tests.{lt-ltb, le-ltb, le-leb, lt-leb, eq-eqb, ne-eqb}
 use lib.ListN.{length, getD, drop}
 use lib.Dec.{lit<, lit≤}
 use Rattle.text.specs.declared.Number.the-variants.{Is, NoNumber}
-use Rattle.text.specs.Numbers.{digitValue, digitsFrom, decimalOf, wordOf}
+use Rattle.text.specs.Numbers.{digitValue, digitsFrom, decimalOf, wordOf, bitsOf}
 use Rattle.text.proofs.Lists.{here, past}
 
 -- ---- the value of a digit
@@ -107,9 +107,20 @@ module _ (s : List ℕ) where
   unfolding wordOf
   word-is e = rw (eq-eqb _ _ e)
 
+  pub bits-not : (length s ≡ 8 → ⊥) → NoNumber ≡ bitsOf s
+  unfolding bitsOf
+  bits-not n = rw (ne-eqb _ _ n)
+
+  pub bits-are : length s ≡ 8 → bitsOf s ≡ digitsFrom 16 0 s
+  unfolding bitsOf
+  bits-are e = rw (eq-eqb _ _ e)
+
 -- ---- so few digits that the number has 64 bits
 pub ten-fits : (n : ℕ) → n ≤ 9 → 10 ^ n ≤ 2 ^ 64
 ten-fits n h = let g : 10 ^ n ≤ 10 ^ 9 = pow-le-pow-right (lit< tt) h in omega arith
 
 pub sixteen-fits : (n : ℕ) → n ≡ 16 → 16 ^ n ≤ 2 ^ 64
 sixteen-fits n e = rw e (lit≤ tt)
+
+pub eight-fit : (n : ℕ) → n ≡ 8 → 16 ^ n ≤ 2 ^ 64
+eight-fit n e = rw e (lit≤ tt)

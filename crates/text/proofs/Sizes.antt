@@ -1,14 +1,15 @@
--- How large a number can be: below 10^9. Assumes nothing.
-use mathlib.Core.Path.{_≡_, ap, subst}
+-- How large a number can be: below 10^9; and the bits of an f32: below 2^32. Assumes nothing.
+use mathlib.Core.Path.{_≡_, refl, ap, subst}
 use mathlib.Core.List.{List, [], _∷_}
 use mathlib.Core.Bool.{Bool, true, false, _&&_, _||_, not, cond, false≢true}
 use Prim.Native.Nat.{ℕ, suc, _+_, _*_, _^_, _≤_, _<_}
 use native.Mathlib.Nat.{add-zero, zero-add, pow-zero, pow-le-pow-right}
 use native.Mathlib.Omega.{arith}
 use lib.ListN.{length, getD}
-use lib.Dec.{T, eqb, leb, ltb, lit<, ltb→lt, leb→le}
+use lib.Dec.{T, eqb, leb, ltb, lit<, ltb→lt, leb→le, eqb→eq}
+use Rattle.text.specs.declared.Number.{Number}
 use Rattle.text.specs.declared.Number.the-variants.{Is, NoNumber}
-use Rattle.text.specs.Numbers.{digitValue, digitsFrom, decimalOf}
+use Rattle.text.specs.Numbers.{digitValue, digitsFrom, decimalOf, bitsOf}
 use Rattle.text.specs.Fields.{numberInForm, numberOrZero}
 use Rattle.text.proofs.Numbers.{more}
 
@@ -44,3 +45,12 @@ number-small s v e = go (leb 1 (length s)) (leb (length s) 9) (eqb (length s) 1 
     go true true false l f = none-is f
     go true false z l f = none-is f
     go false y z l f = none-is f
+
+pub bits-small : (s : List ℕ) → numberOrZero (bitsOf s) < 4294967296
+unfolding bitsOf
+bits-small s = go (eqb (length s) 8) (eqb→eq (length s) 8) (digitsFrom 16 0 s) refl
+  where
+    go : (t : Bool) → (T t → length s ≡ 8) → (r : Number) → digitsFrom 16 0 s ≡ r → numberOrZero (cond t r NoNumber) < 4294967296
+    go true e (Is v) f = let l : 16 ^ length s ≡ 4294967296 = rw (e tt) in omega (arith, l, small 16 s v f)
+    go true e NoNumber f = omega arith
+    go false e r f = omega arith

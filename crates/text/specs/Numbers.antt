@@ -24,3 +24,7 @@ decimalOf s = cond (leb 1 (length s) && leb (length s) 9 && (eqb (length s) 1 ||
 -- Document 01, 'Printed tree': 'words 16 .. upper-case hexadecimal digits'
 unfoldable pub wordOf : List ℕ → Number
 wordOf s = cond (eqb (length s) 16) (digitsFrom 16 0 s) NoNumber
+
+-- Document 01, 'Printed tree': 'cut bits 8 upper-case hexadecimal digits'. The bits of any f32 are written so.
+unfoldable pub bitsOf : List ℕ → Number
+bitsOf s = cond (eqb (length s) 8) (digitsFrom 16 0 s) NoNumber

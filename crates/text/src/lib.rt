@@ -4,7 +4,7 @@ ghost use Prim.Native.Nat.{_+_, _-_, _*_, _≤_, _<_, _^_, min};
 ghost use lib.ListN.{length, take, drop, set};
 ghost use lib.Seq.{sets};
 ghost use Rattle.text.specs.Pieces.{bytesBefore, piecesFrom, PieceEnds};
-ghost use Rattle.text.specs.Numbers.{digitValue, digitsFrom, decimalOf, wordOf};
+ghost use Rattle.text.specs.Numbers.{digitValue, digitsFrom, decimalOf, wordOf, bitsOf};
 ghost use Rattle.text.specs.Coordinates.{capped, withoutMinus, afterMinus, coordinateOf};
 ghost use Rattle.text.specs.Fields.{numberInForm, numberOrZero, coordinateInForm, coordinateOrZero, wordsFrom, coordinatesFrom};
 
@@ -116,6 +116,17 @@ pub fn read_word(field: &[u8]) -> Number
     read_digits(field, 16)
 }
 
+// The bits of an f32 that a field is: eight hexadecimal digits.
+// Rules out sixteen digits taken, and seven taken as smaller bits.
+pub fn read_bits(field: &[u8]) -> Number
+    ensures { λ r. ⌜ r ≡ bitsOf (now (field .entry)) ⌝ }
+{
+    if field.len() != 8 {
+        return Number::NoNumber;
+    }
+    read_digits(field, 16)
+}
+
 fn smaller(a: u64, b: u64) -> u64
     ensures { λ r. ⌜ r ≡ min a b ⌝ }
 {
@@ -213,7 +224,9 @@ pub fn coordinate_or_zero(coordinate: Coordinate) -> f32
     }
 }
 
-fn word_at(text: &[u8], start: usize, end: usize) -> u64
+// The word in the field between two places, 0 where it is none.
+// Rules out the byte at the end taken into the field, and a word read from the text's start.
+pub fn word_at(text: &[u8], start: usize, end: usize) -> u64
     requires { ⌜ (start ≤ end) × (end ≤ length (now text)) ⌝ }
     ensures { λ r. ⌜ r ≡ numberOrZero (wordOf (take (end - start) (drop start (now (text .entry))))) ⌝ }
 {

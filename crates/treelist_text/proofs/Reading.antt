@@ -16,7 +16,7 @@ use Rattle.text.specs.Pieces.{pieces, piecesFrom, PieceEnds}
 use Rattle.text.proofs.Sizes.{number-small}
 use Rattle.randomcuttree.specs.Making.{madeBy}
 use Rattle.form.specs.Rows.{isSome}
-use Rattle.form.specs.Making.{Making, makingOf, makingBy, makingSays}
+use Rattle.form.specs.Making.{Making, makingOf, makingBy, makingSays, sixteenthsOf}
 use Rattle.form.specs.declared.MakingRow.{MakingRow}
 use Rattle.form.specs.declared.MakingRow.the-variants.{Make, NoMaking}
 use Rattle.form.specs.Form.{opRows, rowsFrom, bad, parsed, formOf}
@@ -27,7 +27,7 @@ use Rattle.form.proofs.Blocks.{form-long, form-one, form-two, form-three}
 use Rattle.form.proofs.Tells.{form-tells}
 use Rattle.form.proofs.Read.{read-not-bad, read-blocks, read-lines}
 use Rattle.lines.specs.Lines.{refusedLine, Wrote}
-use Rattle.treelist_text.specs.Output.{sixteenthsOf, outputBy, output}
+use Rattle.treelist_text.specs.Output.{outputBy, output}
 use Rattle.treelist_text.specs.Running.{InForm}
 
 -- ---- by the form that is answered

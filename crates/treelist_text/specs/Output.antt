@@ -2,14 +2,13 @@
 use mathlib.Core.List.{List, [], _∷_, _++_}
 use Prim.Native.Nat.{ℕ, _+_, _*_, _≤_}
 use lib.ListN.{length}
-use lib.Ieee.{Float, binary64, ofBits, ofInt, div}
-use lib.IntN.{pos}
 use Rattle.cuttree.specs.Run.{World, Answer, refused, written, added, deleted, copiesAre, branchIs, boxIs, numberOf, call, fresh}
 use Rattle.wholetree.specs.Whole.{whole}
 use Rattle.randomcuttree.specs.declared.Made.{Made}
 use Rattle.randomcuttree.specs.declared.Made.the-variants.{Tree, NotMade}
 use Rattle.randomcuttree.specs.Making.{madeBy}
 use Rattle.form.specs.Rows.{Op}
+use Rattle.form.specs.Making.{sixteenthsOf}
 use Rattle.form.specs.Form.{Parsed, bad, read, parsed}
 use Rattle.lines.specs.Lines.{refusedLine}
 use Rattle.printed.specs.Printed.{printedTree}
@@ -24,10 +23,6 @@ toldRow d (deleted j) n = []
 toldRow d (copiesAre m) n = []
 toldRow d (branchIs r) n = []
 toldRow d (boxIs b) n = []
-
--- '`cache16` is the share in sixteenths'
-unfoldable pub sixteenthsOf : ℕ → Float
-sixteenthsOf n = div binary64 (ofInt binary64 (pos n)) (ofBits binary64 0x4030_0000_0000_0000)
 
 -- the rows after n of them, each told if it is refused, 'and work goes on'; then the tree
 module _ (d c : ℕ) where

@@ -30,19 +30,11 @@ ghost use Rattle.randomcuttree.specs.Making.{madeBy};
 ghost use Rattle.form.specs.Rows.{Op};
 ghost use Rattle.form.specs.Form.{opRows, rowsFrom};
 ghost use Rattle.lines.specs.Lines.{refusedLine, Wrote};
-ghost use Rattle.treelist_text.specs.Output.{sixteenthsOf, outputFrom, outputBy, output, printedLimit};
+ghost use Rattle.treelist_text.specs.Output.{outputFrom, outputBy, output, printedLimit};
 ghost use Rattle.treelist_text.specs.Running.{InForm, HasRows, Standing, SomeStanding};
 
 // A buffer of so many bytes has room for what any text prints: `printedLimit`.
 pub const PRINTED: usize = 8180 * 16 + 12802;
-
-// The cached share of a number of sixteenths, which has at most nine digits: an f64 has each such number.
-fn share_of(sixteenths: u64) -> f64
-    requires { ⌜ sixteenths < 1000000000 ⌝ }
-    ensures { λ r. ⌜ r ≡ sixteenthsOf sixteenths ⌝ }
-{
-    (sixteenths as f64) / 16.0
-}
 
 // Writes the line of a row that is refused, and nothing for one that is not: its refusal is 0.
 fn tell_row(out: &mut [u8], at: usize, refusal: usize, row: usize) -> usize
@@ -165,7 +157,7 @@ fn print_made(text: &[u8], out: &mut [u8]) -> usize
         MakingRow::Make(channels, capacity, sixteenths) => print_by(
             casts::wide64(channels),
             casts::wide64(capacity),
-            share_of(sixteenths),
+            form::share_of(sixteenths),
             text,
             c + 1,
             out,

@@ -1,0 +1,48 @@
+-- `archivelines::put_evicted` meets its contract. Assumes nothing.
+use Rattle.archivelines.specs.Answers.{evictedLine}
+use Rattle.lines.proofs.Writes.{then}
+use borrow.Author.Needs.{needs}
+use Rattle.archivelines.proofs.put_evicted.Statement.{statement}
+use Rattle.archivelines.proofs.put_evicted.Tie as tie
+
+slice-aggregate-put-bytes : tie.Need-slice-aggregate-put-bytes
+slice-aggregate-put-bytes c = search needs
+
+put-bytes-requires : tie.Need-put-bytes-requires
+put-bytes-requires c κs = search needs
+
+put-field-requires : tie.Need-put-field-requires
+put-field-requires c κs = search needs
+
+slice-aggregate-put-bytes-2 : tie.Need-slice-aggregate-put-bytes-2
+slice-aggregate-put-bytes-2 c = search needs
+
+put-bytes-requires-2 : tie.Need-put-bytes-requires-2
+put-bytes-requires-2 c κs = search needs
+
+put-field-requires-2 : tie.Need-put-field-requires-2
+put-field-requires-2 c κs = search needs
+
+put-last-requires : tie.Need-put-last-requires
+put-last-requires c κs = search needs
+
+same-length : tie.Need-same-length
+same-length c = search needs
+
+returns : tie.Need-returns
+unfolding evictedLine
+returns c = then (then (then (then (c .before .before .before .before .before .before .before .before .before .before .before .before .before .before .before .before .before .before .before .put-bytes .ensures) (c .before .before .before .before .before .before .before .before .before .before .before .before .before .before .before .put-field .ensures .0)) (c .before .before .before .before .before .before .before .before .before .before .put-bytes2 .ensures)) (c .before .before .before .before .before .before .put-field2 .ensures .0)) (c .before .before .put-last .ensures .0)
+
+pub put-evicted-spec : {M : Type 1} → statement M
+put-evicted-spec =
+    tie.close
+    (tie.spec
+    slice-aggregate-put-bytes
+    put-bytes-requires
+    put-field-requires
+    slice-aggregate-put-bytes-2
+    put-bytes-requires-2
+    put-field-requires-2
+    put-last-requires
+    same-length
+    returns)

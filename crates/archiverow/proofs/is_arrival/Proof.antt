@@ -1,0 +1,48 @@
+-- `archiverow::is_arrival` meets its contract. Assumes nothing.
+use borrow.Author.Tests.{not-true, not-false}
+use mathlib.Core.Path.{_∙_}
+use Rattle.archiverow.proofs.Rows.{arrival-none, arrival-one, arrival-bad, arrival-words}
+use borrow.Author.Needs.{needs}
+use Rattle.archiverow.proofs.is_arrival.Statement.{statement}
+use Rattle.archiverow.proofs.is_arrival.Tie as tie
+
+returns : tie.Need-returns
+returns c = arrival-none _ _ (c .if1 .taken)
+
+piece-end-requires : tie.Need-piece-end-requires
+piece-end-requires c κs = search needs
+
+returns-2 : tie.Need-returns-2
+returns-2 c = arrival-one _ _ (c .before .before .if1 .left) (c .before .piece-end .ensures) (c .if2 .taken)
+
+bits-at-requires : tie.Need-bits-at-requires
+bits-at-requires c κs = search needs
+
+number-in-form-requires : tie.Need-number-in-form-requires
+number-in-form-requires c κs = search needs
+
+returns-3 : tie.Need-returns-3
+returns-3 c = arrival-bad _ _ (c .before .before .before .before .before .if1 .left) (c .before .before .before .before .piece-end .ensures) (c .before .before .before .if2 .left) (c .before .before .bits-at .ensures) (c .before .number-in-form .ensures) (not-true _ (c .if3 .taken))
+
+add-all-words : tie.Need-add-all-words
+add-all-words c = search needs
+
+all-words-requires : tie.Need-all-words-requires
+all-words-requires c κs = search needs
+
+returns-4 : tie.Need-returns-4
+returns-4 c = c .all-words .ensures ∙ arrival-words _ _ (c .before .before .before .before .before .before .if1 .left) (c .before .before .before .before .before .piece-end .ensures) (c .before .before .before .before .if2 .left) (c .before .before .before .bits-at .ensures) (c .before .before .number-in-form .ensures) (not-false _ (c .before .if3 .left))
+
+pub is-arrival-spec : {M : Type 1} → statement M
+is-arrival-spec =
+    tie.close
+    (tie.spec
+    returns
+    piece-end-requires
+    returns-2
+    bits-at-requires
+    number-in-form-requires
+    returns-3
+    add-all-words
+    all-words-requires
+    returns-4)
