@@ -1,16 +1,17 @@
 #!/bin/bash
 # Holds the rules of docs/ARCHIVE.md against the recorded answers, the oracle against document 01, the recorded
 # answers against the Rust, the generated runs against faults in the Rust, and the port, its leaves and the
-# program treelist against the Rust.
+# programs treelist and regrow against the Rust.
 #   harness/run.sh [--rust | --port] [--digests]
 # --rust does what needs no port, --port the rest; without either both are done.
 # KRCF_SRC names the folder that holds crates/rcflib/src, seen from the project's root; the default
 # is ../shared/docs/src. COMPARE says for how long the port is compared, 75s if unset, LEAVES on how many
-# values each leaf is, 1000000 if unset, TEXTS on how many texts treelist is, 2000 if unset. Where the
-# Rust is not at hand, one line says so and all is well. Where it is but cargo or rt is not, one line says
-# which and the run fails, so that nothing that could be compared is left out unseen. Where crates.txt has
-# no treelist, no texts are compared. Where python3 is not at hand, a line says so and the rules of the page are
-# not compared. --digests prints the digest of each given file. Needs no network.
+# values each leaf is, 1000000 if unset, TEXTS on how many texts treelist is, 2000 if unset, ARCHIVES on how
+# many archives regrow is, 1000 if unset. Where the Rust is not at hand, one line says so and all is well.
+# Where it is but cargo or rt is not, one line says which and the run fails, so that nothing that could be
+# compared is left out unseen. Where crates.txt has no treelist, no texts are compared, where it has no regrow,
+# no archives. Where python3 is not at hand, a line says so and the rules of the page are not compared. --digests
+# prints the digest of each given file. Needs no network.
 set -euo pipefail
 
 root=$(cd "$(dirname "$0")/.." && pwd)
@@ -59,8 +60,15 @@ if grep -q '^treelist:' crates.txt; then
 else
   echo "harness: crates.txt has no treelist, no texts are compared"
 fi
+regrown=
+if grep -q '^regrow:' crates.txt; then
+  regrown=yes
+  rt check regrow
+else
+  echo "harness: crates.txt has no regrow, no archives are compared"
+fi
 built run --package compare -- --fault
-# The comparison of byte runs has one core for its time; leaves and texts are compared on the other meanwhile.
+# The comparison of byte runs has one core for its time; leaves, texts and archives are compared on the other meanwhile.
 compared=$(mktemp)
 built run --package compare -- "${COMPARE:-75s}" >"$compared" 2>&1 &
 comparing=$!
@@ -70,6 +78,10 @@ built run --package compare_leaves -- "${LEAVES:-1000000}"
 if [ -n "$listed" ]; then
   built run --package compare_texts -- --fault
   built run --package compare_texts -- "${TEXTS:-2000}"
+fi
+if [ -n "$regrown" ]; then
+  built run --package compare_archives -- --fault
+  built run --package compare_archives -- "${ARCHIVES:-1000}"
 fi
 status=0
 wait "$comparing" || status=$?

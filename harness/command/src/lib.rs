@@ -1,6 +1,12 @@
-//! What the comparing programs share: how they are asked, how much they have to compare, and what they
-//! say of faults made on purpose.
+//! What the comparing programs share: how they are asked, how much they have to compare, what they
+//! say of faults made on purpose, and a compared program run on a text.
 #![forbid(unsafe_code)]
+
+mod difference;
+mod program;
+
+pub use difference::difference;
+pub use program::{Pieces, Printed, Program};
 
 use std::fmt::Debug;
 use std::process::ExitCode;

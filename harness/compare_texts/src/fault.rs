@@ -1,6 +1,6 @@
 //! Faults made on purpose, to show that the comparison notices them.
-use crate::program::{Printed, Program};
-use command::{Faults, Shows, Tries};
+use crate::find;
+use command::{Faults, Pieces, Printed, Program, Shows, Tries};
 use oracle::Words;
 use texts::generate::{nth, FIRST_DRAWN};
 use texts::printed;
@@ -39,7 +39,7 @@ const FAULTS: [Fault; 7] = [
 
 /// Tries every fault; an error if one goes unnoticed.
 pub fn run(seed: u64) -> Result<(), String> {
-    let program = Program::find()?;
+    let program = find()?;
     let mut faults = Faults::default();
     for fault in FAULTS {
         let shows = match fault {
@@ -63,7 +63,7 @@ fn try_fault(fault: Fault, seed: u64, program: &Program) -> Result<Tries, String
             Fault::Row => without_last_row(&text),
             _ => text,
         };
-        let mut got = program.print(&handed, 1)?;
+        let mut got = program.print(&handed, &Pieces::Equal(1))?;
         let equal = !got.differs(&expected);
         match fault {
             Fault::Row => {}

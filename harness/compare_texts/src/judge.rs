@@ -1,7 +1,5 @@
 //! Holds what the program prints for each text against what it must.
-use crate::difference;
-use crate::program::Program;
-use command::reached;
+use command::{difference, reached, Pieces, Program};
 use std::collections::BTreeMap;
 use texts::generate::Given;
 use texts::{outcome, Outcome};
@@ -32,8 +30,8 @@ impl Judge {
         let outcome = outcome(&given.bytes);
         let expected = outcome.bytes();
         self.count(given, &outcome, expected.len());
-        let pieces = [1, 1, 5][self.texts % 3];
-        let got = program.print(&given.bytes, pieces);
+        let pieces = Pieces::Equal([1, 1, 5][self.texts % 3]);
+        let got = program.print(&given.bytes, &pieces);
         let got = got.map_err(|why| format!("{name}: {why}"))?;
         if !got.differs(&expected) {
             return Ok(());
@@ -41,7 +39,7 @@ impl Judge {
         self.differing += 1;
         if self.differing <= SHOWN {
             let name = format!("{name}, {}", given.kind);
-            println!("{}", difference::text(&name, &given.bytes, &expected, &got));
+            println!("{}", difference(&name, &given.bytes, &expected, &got));
         }
         Ok(())
     }

@@ -13,19 +13,20 @@
 //! something else, exits with a status other than 0, or is ended by a signal.
 #![forbid(unsafe_code)]
 
-mod difference;
 mod fault;
 mod judge;
-mod program;
 
-use command::number;
+use command::{difference, number, Pieces, Program};
 use judge::Judge;
-use program::Program;
 use std::io::{Read, Write};
 use std::process::ExitCode;
 use texts::generate::nth;
 
 const SEED: u64 = 20;
+
+fn find() -> Result<Program, String> {
+    Program::find("TREELIST", "treelist")
+}
 
 fn main() -> ExitCode {
     command::main("texts", ask)
@@ -51,7 +52,7 @@ fn one(text: &str) -> Result<std::ops::Range<usize>, String> {
 }
 
 fn compare(numbers: std::ops::Range<usize>, seed: u64) -> Result<(), String> {
-    let program = Program::find()?;
+    let program = find()?;
     let mut judge = Judge::default();
     let asked = numbers.len();
     for n in numbers {
@@ -74,8 +75,8 @@ fn replay() -> Result<(), String> {
     let read = std::io::stdin().read_to_end(&mut text);
     read.map_err(|e| e.to_string())?;
     let expected = texts::printed(&text);
-    let got = Program::find()?.print(&text, 1)?;
-    println!("{}", difference::text("the text", &text, &expected, &got));
+    let got = find()?.print(&text, &Pieces::Equal(1))?;
+    println!("{}", difference("the text", &text, &expected, &got));
     match got.differs(&expected) {
         false => Ok(()),
         true => Err(judge::NOT_THE_RUST.into()),

@@ -1,8 +1,9 @@
 //! Holds the oracle against document 01: its examples, the differences that docs/DIFFERENCES.md
-//! lists, random runs of whole trees, byte runs, the worked runs of docs/LAYOUT.md, and texts. Stops at
-//! the first thing that does not hold.
+//! lists, random runs of whole trees, byte runs, the worked runs of docs/LAYOUT.md, texts and archives. Stops
+//! at the first thing that does not hold.
 #![forbid(unsafe_code)]
 
+mod archives_read;
 mod bare;
 mod differences;
 mod examples;
@@ -31,6 +32,8 @@ fn main() {
     println!("docs/LAYOUT.md: {calls} calls of its worked runs, answered as the page says");
     let in_form = texts_read::run(1_000);
     println!("texts: 1000, {in_form} in form, each read as it was made and every refusal met");
+    let in_form = archives_read::run(600);
+    println!("archives: 600, {in_form} in form, each read as it was made and every refusal met");
     let reached = oracle::feed::seed17_draws() > draws;
     assert!(!reached, "the branch seeded with 17 was reached");
 }

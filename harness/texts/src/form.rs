@@ -58,7 +58,7 @@ fn row(rest: &mut &[u8]) -> Option<Row> {
 }
 
 /// Any number of fields up to the line feed, each with one space before it.
-fn fields<T>(rest: &mut &[u8], field: fn(&mut &[u8]) -> Option<T>) -> Option<Vec<T>> {
+pub fn fields<T>(rest: &mut &[u8], field: fn(&mut &[u8]) -> Option<T>) -> Option<Vec<T>> {
     let mut found = Vec::new();
     while exactly(rest, "\n").is_none() {
         exactly(rest, " ")?;
@@ -68,7 +68,7 @@ fn fields<T>(rest: &mut &[u8], field: fn(&mut &[u8]) -> Option<T>) -> Option<Vec
 }
 
 /// At most nine digits and no leading zero.
-fn number(rest: &mut &[u8]) -> Option<u32> {
+pub fn number(rest: &mut &[u8]) -> Option<u32> {
     let digits = run_of(rest, b"0123456789");
     let leading = digits.len() > 1 && digits[0] == b'0';
     if leading || !(1..=9).contains(&digits.len()) {
@@ -79,7 +79,7 @@ fn number(rest: &mut &[u8]) -> Option<u32> {
 }
 
 /// A number, or a minus sign and a number other than 0.
-fn coordinate(rest: &mut &[u8]) -> Option<i32> {
+pub fn coordinate(rest: &mut &[u8]) -> Option<i32> {
     let minus = exactly(rest, "-").is_some();
     let size = number(rest)? as i32;
     match (minus, size) {
@@ -90,10 +90,15 @@ fn coordinate(rest: &mut &[u8]) -> Option<i32> {
 }
 
 /// Sixteen upper-case hexadecimal digits.
-fn word(rest: &mut &[u8]) -> Option<u64> {
+pub fn word(rest: &mut &[u8]) -> Option<u64> {
+    hexadecimal(rest, 16)
+}
+
+/// So many upper-case hexadecimal digits, no more and no fewer.
+pub fn hexadecimal(rest: &mut &[u8], count: usize) -> Option<u64> {
     let all = b"0123456789ABCDEF";
     let digits = run_of(rest, all);
-    if digits.len() != 16 {
+    if digits.len() != count {
         return None;
     }
     let place = |digit: &u8| all.iter().position(|one| one == digit);
@@ -102,7 +107,7 @@ fn word(rest: &mut &[u8]) -> Option<u64> {
 }
 
 /// Goes past these bytes, if they come next.
-fn exactly(rest: &mut &[u8], bytes: &str) -> Option<()> {
+pub fn exactly(rest: &mut &[u8], bytes: &str) -> Option<()> {
     *rest = rest.strip_prefix(bytes.as_bytes())?;
     Some(())
 }

@@ -8,4 +8,4 @@ mod printed;
 mod text;
 
 pub use printed::{outcome, printed, Outcome};
-pub use text::{Making, Row, Text, MAKING_NAMES, OP_NAMES};
+pub use text::{coordinate_bits, joined, Making, Row, Text, MAKING_NAMES, OP_NAMES};

@@ -40,13 +40,12 @@ impl Making {
 }
 
 impl Row {
-    /// The call that the row stands for. A coordinate beyond 2^24 is rounded here, and is too large
-    /// before and after.
+    /// The call that the row stands for.
     pub fn call(&self) -> Call {
         match self {
             Row::Put { index, coordinates } => Call::Put {
                 index: *index,
-                coordinates: coordinates.iter().map(|x| (*x as f32).to_bits()).collect(),
+                coordinates: coordinate_bits(coordinates),
             },
             Row::Add { index, words } => Call::Add {
                 index: *index,
@@ -92,6 +91,12 @@ impl Text {
     pub fn bytes(&self) -> Vec<u8> {
         joined(&self.lines())
     }
+}
+
+/// The coordinates as a call has them. One beyond 2^24 is rounded here, and is too large before and after.
+pub fn coordinate_bits(coordinates: &[i32]) -> Vec<u32> {
+    let bits = |x: &i32| (*x as f32).to_bits();
+    coordinates.iter().map(bits).collect()
 }
 
 /// The lines, each with a line feed after it.

@@ -11,7 +11,9 @@ mod writer;
 
 pub use full::{outward, run as full, Outward};
 pub use long::{lone_leaf_to_the_limit, three_values_to_the_limit};
-pub use sampled::{run as sampled, run_of as sampled_of};
+pub use sampled::{
+    capacity as sampled_capacity, run as sampled, run_by as sampled_by, run_of as sampled_of,
+};
 
 use crate::layout::{Answer, Run};
 use oracle::Words;

@@ -51,6 +51,11 @@ pub fn run_of(capacity: u32, words: &mut Words, room: Room) -> Written {
         setting::share(capacity, words),
         initial_share(capacity as usize, words),
     );
+    run_by(making, words, room)
+}
+
+/// The same with this making, which is in range; now and then another takes its place that is not.
+pub fn run_by(making: Making, words: &mut Words, room: Room) -> Written {
     let setting = Setting::of(making, words, room);
     let arrivals = Arrivals {
         weighing: Weighing::new(words.one_of(&Weights::ALL), words),
@@ -68,7 +73,7 @@ pub fn run_of(capacity: u32, words: &mut Words, room: Room) -> Written {
 
 /// A capacity, mostly one whose sample can be filled twice in half of the room; one in four is any number
 /// up to those.
-fn capacity(words: &mut Words, room: Room) -> u32 {
+pub fn capacity(words: &mut Words, room: Room) -> u32 {
     let any = words.one_of(&CAPACITIES);
     let filled = |c: u32| c as usize * (24 + 8 * c as usize);
     let fitting: Vec<u32> = CAPACITIES

@@ -21,7 +21,8 @@ pub fn text(text: Text, words: &mut Words) -> Given {
     }
 }
 
-fn change(bytes: &mut Vec<u8>, words: &mut Words) {
+/// One change.
+pub fn change(bytes: &mut Vec<u8>, words: &mut Words) {
     if bytes.is_empty() {
         return;
     }

@@ -1,6 +1,6 @@
 //! Texts from a seeded generator. Where the generator knows how a text reads, it says so, so that
 //! the reader of `form` can be held against it.
-mod broken;
+pub mod broken;
 mod changed;
 mod example;
 mod full;
@@ -11,10 +11,13 @@ mod small;
 mod whole;
 
 pub use broken::BREAKS;
+pub use changed::change;
 pub use example::document;
 pub use long::{text as long, LONGS};
 pub use makings::MAKINGS;
+pub use odd::coordinate as odd_coordinate;
 pub use small::{smalls, SMALLS};
+pub use whole::{whole as whole_coordinate, MOST};
 
 use crate::text::Text;
 use oracle::Words;

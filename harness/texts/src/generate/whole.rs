@@ -92,7 +92,7 @@ fn row(call: &Call, words: &mut Words) -> Option<Row> {
 }
 
 /// The whole number that an f32 is, unless it is none or has too many digits.
-fn whole(bits: u32, words: &mut Words) -> i32 {
+pub fn whole(bits: u32, words: &mut Words) -> i32 {
     let x = f32::from_bits(bits);
     let fits = x.abs() < MOST as f32 && x.fract() == 0.0;
     match fits && bits != (-0.0f32).to_bits() {

@@ -1,5 +1,5 @@
 //! Texts with one rule of form broken, and the bad row that this makes.
-mod lines;
+pub mod lines;
 mod rows;
 
 use super::Given;
@@ -26,18 +26,26 @@ pub struct Break {
     how: How,
 }
 
-const fn row(name: &'static str, rows: &'static [&'static [u8]]) -> Break {
+pub const fn row(name: &'static str, rows: &'static [&'static [u8]]) -> Break {
     let how = How::Row(rows);
     Break { name, how }
 }
 
-const fn changed(name: &'static str, change: fn(&mut Lines, &mut Words) -> usize) -> Break {
+pub const fn changed(name: &'static str, change: fn(&mut Lines, &mut Words) -> usize) -> Break {
     let how = How::Lines(change);
     Break { name, how }
 }
 
-const fn bytes(name: &'static str, change: fn(&mut Vec<u8>, usize, &mut Words) -> usize) -> Break {
+pub const fn bytes(
+    name: &'static str,
+    change: fn(&mut Vec<u8>, usize, &mut Words) -> usize,
+) -> Break {
     let how = How::Bytes(change);
+    Break { name, how }
+}
+
+pub const fn making(name: &'static str, rows: &'static [&'static [u8]]) -> Break {
+    let how = How::Making(rows);
     Break { name, how }
 }
 
@@ -55,10 +63,7 @@ pub const BREAKS: [Break; 38] = [
     row("delete with a rest", rows::DELETE_WITH_REST),
     row("no index", rows::NO_INDEX),
     row("empty line", rows::EMPTY_LINE),
-    Break {
-        name: "making out of form",
-        how: How::Making(rows::MAKING),
-    },
+    making("making out of form", rows::MAKING),
     changed("two spaces", lines::two_spaces),
     changed("space at the end", lines::space_at_end),
     changed("space at the start", lines::space_at_start),
@@ -102,30 +107,35 @@ pub const BREAKS: [Break; 38] = [
 
 /// The text with the rule broken.
 pub fn apply(broken: &Break, text: Text, words: &mut Words) -> Given {
-    let mut lines = text.lines();
-    let mut bytes = text.bytes();
-    let bad = match broken.how {
-        How::Row(rows) => {
-            let place = words.below(text.rows.len() + 1);
-            lines.insert(BEFORE + place, words.one_of(rows).to_vec());
-            bytes = joined(&lines);
-            place + 1
-        }
-        How::Making(rows) => {
-            lines[1] = words.one_of(rows).to_vec();
-            bytes = joined(&lines);
-            0
-        }
-        How::Lines(change) => {
-            let bad = change(&mut lines, words);
-            bytes = joined(&lines);
-            bad
-        }
-        How::Bytes(change) => change(&mut bytes, text.rows.len(), words),
-    };
+    let (bytes, bad) = broken.apply(text.lines(), words);
     Given {
         kind: broken.name,
         bytes,
         known: Some(Err(bad)),
+    }
+}
+
+impl Break {
+    /// The bytes of these lines with the rule broken, and the first bad row.
+    pub fn apply(&self, mut lines: Lines, words: &mut Words) -> (Vec<u8>, usize) {
+        let rows = lines.len() - BEFORE;
+        let bad = match self.how {
+            How::Row(bad) => {
+                let place = words.below(rows + 1);
+                lines.insert(BEFORE + place, words.one_of(bad).to_vec());
+                place + 1
+            }
+            How::Making(bad) => {
+                lines[1] = words.one_of(bad).to_vec();
+                0
+            }
+            How::Lines(change) => change(&mut lines, words),
+            How::Bytes(change) => {
+                let mut bytes = joined(&lines);
+                let bad = change(&mut bytes, rows, words);
+                return (bytes, bad);
+            }
+        };
+        (joined(&lines), bad)
     }
 }

@@ -1,0 +1,99 @@
+//! Reads an archive line by line, as a program must that keeps no more than one: a row that is out of
+//! form ends the reading, and those before it stand.
+use crate::archive::{Archive, Making, Row, MAKING_NAMES};
+use texts::form::{coordinate, exactly, fields, hexadecimal, number, word};
+use texts::OP_NAMES;
+
+/// No row is longer, its line feed not counted.
+pub const MOST_BYTES: usize = 8_191;
+
+/// What a text of an archive reads as.
+#[derive(Clone, Debug, PartialEq)]
+pub struct Read {
+    /// The making, and the rows before the first bad one.
+    pub archive: Archive,
+    /// The first bad row, if there is one.
+    pub bad: Option<usize>,
+}
+
+/// How the bytes read; `None` where one of the first three lines is out of form or missing.
+pub fn read(bytes: &[u8]) -> Option<Read> {
+    let mut rest = bytes;
+    names(line(&mut rest)?, MAKING_NAMES)?;
+    let making = making(line(&mut rest)?)?;
+    names(line(&mut rest)?, OP_NAMES)?;
+    let (mut rows, mut bad) = (Vec::new(), None);
+    while !rest.is_empty() && bad.is_none() {
+        match line(&mut rest).and_then(row) {
+            Some(row) => rows.push(row),
+            None => bad = Some(rows.len() + 1),
+        }
+    }
+    let archive = Archive { making, rows };
+    Some(Read { archive, bad })
+}
+
+/// Goes past the next line and gives it with its line feed; `None` where it has none or is too long.
+fn line<'a>(rest: &mut &'a [u8]) -> Option<&'a [u8]> {
+    let end = rest.iter().position(|byte| *byte == b'\n')?;
+    let (line, after) = rest.split_at(end + 1);
+    *rest = after;
+    (end <= MOST_BYTES).then_some(line)
+}
+
+fn names(mut line: &[u8], names: &str) -> Option<()> {
+    exactly(&mut line, names)?;
+    exactly(&mut line, "\n")
+}
+
+fn making(mut line: &[u8]) -> Option<Making> {
+    let rest = &mut line;
+    let dimensions = number(rest)?;
+    exactly(rest, " ")?;
+    let capacity = number(rest)?;
+    exactly(rest, " ")?;
+    let cache16 = number(rest)?;
+    exactly(rest, " ")?;
+    let initial16 = number(rest)?;
+    exactly(rest, "\n")?;
+    Some(Making {
+        dimensions,
+        capacity,
+        cache16,
+        initial16,
+    })
+}
+
+fn row(mut line: &[u8]) -> Option<Row> {
+    let rest = &mut line;
+    let op = number(rest)?;
+    exactly(rest, " ")?;
+    match op {
+        0 => Some(Row::Put {
+            index: number(rest)?,
+            coordinates: fields(rest, coordinate)?,
+        }),
+        3 => arrival(rest),
+        4 => {
+            exactly(rest, "-")?;
+            let coordinates = fields(rest, coordinate)?;
+            Some(Row::Report { coordinates })
+        }
+        _ => None,
+    }
+}
+
+/// An arrival's index, weight and word for the starting chance must be there.
+fn arrival(rest: &mut &[u8]) -> Option<Row> {
+    let index = number(rest)?;
+    exactly(rest, " ")?;
+    let weight = hexadecimal(rest, 8)? as u32;
+    exactly(rest, " ")?;
+    let start = word(rest)?;
+    Some(Row::Arrival {
+        index,
+        weight,
+        start,
+        words: fields(rest, word)?,
+    })
+}

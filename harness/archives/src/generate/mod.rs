@@ -1,0 +1,130 @@
+//! Archives from a seeded generator. Where the generator knows how an archive reads, it says so, so that
+//! the reader of `form` can be held against it.
+mod big;
+mod broken;
+mod cut;
+mod examples;
+mod garbage;
+mod lengths;
+mod makings;
+mod odd;
+mod sizes;
+mod small;
+mod whole;
+
+pub use big::{archive as big, pool, Big, BIGS};
+pub use broken::BREAKS;
+pub use examples::{lanterns, starred, STARRED};
+pub use lengths::LENGTHS;
+pub use makings::MAKINGS;
+pub use sizes::SIZES;
+pub use small::{smalls, SMALLS};
+
+use crate::archive::Archive;
+use oracle::Words;
+
+/// How an archive reads, where the generator knows.
+#[derive(Clone, Debug, PartialEq)]
+pub enum Known {
+    InForm(Archive),
+    /// This is the first bad row, 0 where it is one of the first three lines.
+    Bad(usize),
+    OnlyTheReaderTells,
+}
+
+/// An archive for `regrow`.
+#[derive(Clone)]
+pub struct Given {
+    /// What is tried with it.
+    pub kind: &'static str,
+    pub bytes: Vec<u8>,
+    pub known: Known,
+}
+
+impl Given {
+    fn in_form(kind: &'static str, archive: Archive) -> Self {
+        Given {
+            kind,
+            bytes: archive.bytes(),
+            known: Known::InForm(archive),
+        }
+    }
+
+    fn untold(kind: &'static str, bytes: Vec<u8>) -> Self {
+        Given {
+            kind,
+            bytes,
+            known: Known::OnlyTheReaderTells,
+        }
+    }
+}
+
+/// The number of the first archive that is not one of a list.
+pub const FIRST_DRAWN: usize =
+    1 + STARRED + BREAKS.len() + MAKINGS.len() + LENGTHS.len() + SIZES + SMALLS + BIGS.len();
+
+/// The n-th archive of a seed: the lanterns' and document 01's, each break of a rule, each making at a limit, each
+/// length of a line, each size of an archive, the smallest, the largest, then drawn ones. Each has a generator of its own, so that it can
+/// be made without those before it.
+pub fn nth(seed: u64, n: usize) -> Given {
+    let mut of_seed = Words::new(seed);
+    let mut words = Words::new(of_seed.word() ^ n as u64);
+    let words = &mut words;
+    let breaks_from = 1 + STARRED;
+    let makings_from = breaks_from + BREAKS.len();
+    let lengths_from = makings_from + MAKINGS.len();
+    let sizes_from = lengths_from + LENGTHS.len();
+    let smalls_from = sizes_from + SIZES;
+    let bigs_from = smalls_from + SMALLS;
+    match n {
+        0 => lanterns(),
+        n if n < breaks_from => starred().swap_remove(n - 1),
+        n if n < makings_from => broken(n - breaks_from, words),
+        n if n < lengths_from => made(n - makings_from, words),
+        n if n < sizes_from => lengths::given(&LENGTHS[n - lengths_from], words),
+        n if n < smalls_from => sizes::given(n - sizes_from, words),
+        n if n < bigs_from => smalls().swap_remove(n - smalls_from),
+        n if n < FIRST_DRAWN => Given::in_form("big", big(&BIGS[n - bigs_from], words)),
+        _ => drawn(words),
+    }
+}
+
+fn drawn(words: &mut Words) -> Given {
+    match words.below(48) {
+        0..=7 => broken(words.below(BREAKS.len()), words),
+        8..=10 => changed(words),
+        11..=13 => cut::given(whole::archive(words), words),
+        14 if words.once_in(2) => sizes::given(words.below(SIZES), words),
+        14 => lengths::given(&words.one_of(&LENGTHS), words),
+        15 => made(words.below(MAKINGS.len()), words),
+        16 => garbage::given(words),
+        17 => without_rows(words),
+        18 => Given::in_form("long", big(&Big::drawn(words), words)),
+        _ => Given::in_form("in form", whole::archive(words)),
+    }
+}
+
+/// A short archive with one rule of form broken, the n-th of `BREAKS`.
+fn broken(n: usize, words: &mut Words) -> Given {
+    broken::given(&BREAKS[n], whole::short(words), words)
+}
+
+/// A short archive with a making at a limit, the n-th of `MAKINGS`.
+fn made(n: usize, words: &mut Words) -> Given {
+    Given::in_form("making at a limit", makings::archive(MAKINGS[n], words))
+}
+
+/// An archive with a few bytes changed anywhere, in form or not.
+fn changed(words: &mut Words) -> Given {
+    let mut bytes = whole::short(words).bytes();
+    for _ in 0..words.one_of(&[1, 1, 1, 2, 3]) {
+        texts::generate::change(&mut bytes, words);
+    }
+    Given::untold("bytes changed", bytes)
+}
+
+fn without_rows(words: &mut Words) -> Given {
+    let mut archive = whole::short(words);
+    archive.rows.clear();
+    Given::in_form("no op rows", archive)
+}

@@ -1,0 +1,106 @@
+//! The smallest archives at the edges of the form, and at those of what a row or a making takes.
+use super::{Given, Known};
+
+const NAMES: &str = "dimensions capacity cache16 initial16\n";
+const OPS: &str = "op index rest\n";
+const HEAD: &str = "dimensions capacity cache16 initial16\n1 2 16 16\nop index rest\n";
+
+/// Whole texts that are out of form before their first op row.
+const LINES: [&str; 16] = [
+    "",
+    "\n",
+    "\n\n\n",
+    "dimensions capacity cache16 initial16",
+    "dimensions capacity cache16 initial16\n",
+    "dimensions capacity cache16 initial16\n1 2 16 16",
+    "dimensions capacity cache16 initial16\n1 2 16 16\n",
+    "dimensions capacity cache16 initial16\n1 2 16 16\nop index rest",
+    "dimensions capacity cache16\n1 2 16\nop index rest\n",
+    "dimensions capacity cache16 initial16\n1 2 16\nop index rest\n",
+    "dimensions capacity cache16\n1 2 16 16\nop index rest\n",
+    "dimensions capacity cache16 initial16\nop index rest\n",
+    "dimensions capacity cache16 initial16 \n1 2 16 16\nop index rest\n",
+    "dimensions capacity cache16 initial16\r\n1 2 16 16\r\nop index rest\r\n",
+    "\u{FEFF}dimensions capacity cache16 initial16\n1 2 16 16\nop index rest\n",
+    // a making that would be refused; but the third line is looked at before
+    "dimensions capacity cache16 initial16\n9 1 17 17\nop index\n",
+];
+
+/// Op rows in form, and the first bad one behind them if there is one.
+const ROWS: [(&str, Option<usize>); 22] = [
+    ("", None),
+    ("4 -\n4 - 0\n4 - 0 0\n4 - 1048577\n", None),
+    (
+        "0 0 1048577\n0 0 -1048577\n0 0\n0 1024 0\n0 999999999 999999999\n",
+        None,
+    ),
+    (
+        "0 0 1048576\n0 1 -1048576\n3 0 00000000 0000000000000000\n",
+        None,
+    ),
+    (
+        "3 1 BF800000 0000000000000000 8000000000000000 8000000000000000\n",
+        None,
+    ),
+    ("3 1024 7FC00000 0000000000000000\n", None),
+    (
+        "0 0 0\n3 0 80000000 0000000000000000\n3 0 FF800000 0000000000000000\n",
+        None,
+    ),
+    (
+        "0 0 0\n3 0 7F7FFFFF FFFFFFFFFFFFFFFF 0000000000000000 0000000000000000\n",
+        None,
+    ),
+    (
+        "0 0 0\n3 0 00000000 0000000000000000 0000000000000000 0000000000000000\n0 0 0\n4 - 0\n",
+        None,
+    ),
+    ("0 0 0\n1 0\n", Some(2)),
+    ("0 0 0\n2 0\n", Some(2)),
+    ("0 0 0\n4 - 0\n4 0 0\n", Some(3)),
+    ("4\n", Some(1)),
+    ("4 \n", Some(1)),
+    ("4 -0\n", Some(1)),
+    ("4 - -0\n", Some(1)),
+    ("4 --\n", Some(1)),
+    ("0 - 0\n", Some(1)),
+    ("3 - 00000000 0000000000000000\n", Some(1)),
+    ("3 0\n", Some(1)),
+    ("3 0 00000000\n", Some(1)),
+    ("0 0 0\n4 - 0", Some(2)),
+];
+
+/// Makings refused, whatever comes after them.
+const REFUSED: [&str; 4] = ["9 1 17 17", "1 1 17 17", "1 2 17 17", "1 2 16 17"];
+const AFTER: [&str; 3] = ["", "0 0 0\n", "no row\n"];
+
+/// How many there are.
+pub const SMALLS: usize = LINES.len() + ROWS.len() + REFUSED.len() * AFTER.len();
+
+/// All of them, always the same.
+pub fn smalls() -> Vec<Given> {
+    let mut all = Vec::with_capacity(SMALLS);
+    for text in LINES {
+        all.push(bad("small, bad lines", text.into(), 0));
+    }
+    for (rows, row) in ROWS {
+        let text = format!("{HEAD}{rows}");
+        all.push(match row {
+            Some(row) => bad("small, a bad row", text, row),
+            None => Given::untold("small, in form", text.into_bytes()),
+        });
+    }
+    for making in REFUSED {
+        let texts = AFTER.map(|rows| format!("{NAMES}{making}\n{OPS}{rows}"));
+        all.extend(texts.map(|text| Given::untold("small, refused making", text.into_bytes())));
+    }
+    all
+}
+
+fn bad(kind: &'static str, text: String, row: usize) -> Given {
+    Given {
+        kind,
+        bytes: text.into_bytes(),
+        known: Known::Bad(row),
+    }
+}
