@@ -12,6 +12,7 @@ use Rattle.sampler.proofs.Places.{entries-read}
 use Rattle.cuttree.specs.Run.{World, put, call}
 use Rattle.cuttree.specs.Counts.{Counts}
 use Rattle.cuttree.proofs.Keeps.{Inv}
+use Rattle.wholetree.specs.Reading.{Reading}
 use Rattle.wholetree.specs.Whole.{whole}
 use Rattle.pointstore.specs.declared.PutAnswer.{PutAnswer}
 use Rattle.pointstore.specs.Puts.{PutDone}
