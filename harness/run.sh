@@ -72,7 +72,7 @@ built run --package compare -- --fault
 compared=$(mktemp)
 built run --package compare -- "${COMPARE:-75s}" >"$compared" 2>&1 &
 comparing=$!
-trap 'kill "$comparing" 2>/dev/null; rm -f "$compared"' EXIT
+trap 'kill "$comparing" 2>/dev/null || true; rm -f "$compared"' EXIT
 built run --package compare_leaves -- --fault
 built run --package compare_leaves -- "${LEAVES:-1000000}"
 if [ -n "$listed" ]; then
