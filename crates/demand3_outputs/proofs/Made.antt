@@ -34,7 +34,7 @@ module _ (d c : ℕ) where
   unfolding madeBy
   taken s tree e = tested _ (Bare.NotMade 2) (Bare.NotMade 1) (Bare.Tree tree) (λ h. cc) (λ h. cc) e
 
-  taken-sampled : (s f : Float) (h : SamplerPlusTree) → sampledBy d c s f ≡ Tree h → Taken
+  pub taken-sampled : (s f : Float) (h : SamplerPlusTree) → sampledBy d c s f ≡ Tree h → Taken
   unfolding sampledBy
   taken-sampled s f h e = tested _ (NotMade 2) (NotMade 1) (Tree h) (λ h. cc) (λ h. cc) e
 

@@ -4,8 +4,9 @@ use mathlib.Core.Bool.{Bool, true, cond}
 use mathlib.Core.List.{List, [], _∷_, _++_}
 use Prim.Native.Nat.{ℕ, _≤_}
 use native.Mathlib.Omega.{arith}
+use lib.ListN.{length}
 use lib.Ieee.{Float}
-use Rattle.limits.specs.Limits.{width}
+use Rattle.limits.specs.Limits.{width, capacityLimit}
 use Rattle.readings.specs.Number.{nought}
 use Rattle.sampler.specs.Sample.{Entry}
 use Rattle.cuttree.specs.Run as Bare
@@ -26,7 +27,7 @@ use Rattle.samplerplustree.specs.declared.MadeSampled.{MadeSampled}
 use Rattle.samplerplustree.specs.State.{headOf}
 use Rattle.samplerplustree.specs.Updates.{updateSays}
 use Rattle.nodeview.specs.Report.{reportOf}
-use Rattle.demand3.specs.Answered.{SameTree}
+use Rattle.demand3.specs.Answered.{SameTree, SampleClaim}
 use Rattle.demand3.proofs.Answered.{seen, leaves-tree, accepted-as}
 use Rattle.demand3.proofs.Sampled.{sampledAt, kept-numbers}
 use Rattle.demand3.proofs.Reports.{report-rows}
@@ -41,24 +42,29 @@ use Rattle.demand3_outputs.proofs.Numbers.{numbers-are, arrival-numbers
 
 -- what the calls of a run are answered
 module _ (d : ℕ) (s : Float) where
-  abbrev answerTo : Sampled (whole d) → (e : RunCall d) → RunAnswer d e
+  abbrev pub answerTo : Sampled (whole d) → (e : RunCall d) → RunAnswer d e
   answerTo X (plain e) = Bare.call (whole d) (X .capacity) (X .world) e .0
   answerTo X (arrives i w x ws) = call (whole d) X (arrive i w x ws) .0
   answerTo X (reports n xs) = reportOf d (X .capacity) (X .world) n xs
   answerTo X sample = X .sample
 
-  abbrev answersTo : Sampled (whole d) → (es : List (RunCall d)) → RunAnswers d es
+  abbrev pub answersTo : Sampled (whole d) → (es : List (RunCall d)) → RunAnswers d es
   answersTo X [] = tt
   answersTo X (e ∷ es) = (answerTo X e, answersTo (left d s X e) es)
 
+  -- and what they leave
+  abbrev pub leftBy : Sampled (whole d) → List (RunCall d) → Sampled (whole d)
+  leftBy X [] = X
+  leftBy X (e ∷ es) = leftBy (left d s X e) es
+
 -- A call, from a world that agrees with the counts, and with the sample where there is one.
 module _ (d c : ℕ) (s : Float) (few : d ≤ width) (sampled : Bool) (f : Float) where
-  abbrev at : World (whole d) → List Entry → Sampled (whole d)
+  abbrev pub at : World (whole d) → List Entry → Sampled (whole d)
   at W ks = sampledAt d c s f W ks
 
-  record Kept (W : World (whole d)) (ks : List Entry) (K : Counts (whole d)) : Type 0 where
-    counts : Inv (whole d) c W K
-    agrees : sampled ≡ true → Agrees (whole d) (at W ks)
+  pub record Kept (W : World (whole d)) (ks : List Entry) (K : Counts (whole d)) : Type 0 where
+    pub counts : Inv (whole d) c W K
+    pub agrees : sampled ≡ true → Agrees (whole d) (at W ks)
 
   -- the world and the sample that a call leaves, its claim, and the numbers of its answer
   record Step (W : World (whole d)) (K : Counts (whole d)) (e : RunCall d) (a : RunAnswer d e) (X : Sampled (whole d)) (ns : List ℕ) : Type 0 where
@@ -70,6 +76,9 @@ module _ (d c : ℕ) (s : Float) (few : d ≤ width) (sampled : Bool) (f : Float
     numbers-are : ns ≡ numbersOf d c e a
 
   module _ (W : World (whole d)) (ks : List Entry) (K : Counts (whole d)) (k : Kept W ks K) where
+    pub sample-kept : sampled ≡ true → SampleClaim d c (length ks) ks K
+    sample-kept t = let A = k .agrees t in record { room = A .room; kept = kept-numbers d c s f W ks K (k .counts) A }
+
     plain-agrees : (e : Call (whole d)) → OfKind {d = d} sampled (plain e) → sampled ≡ true → Agrees (whole d) (at (Bare.call (whole d) c W e .1) ks)
     plain-agrees (put i xs) o t = every-put (whole d) (whole-laws d) (at W ks) i xs (k .agrees t)
     plain-agrees (add i ws) o t = clash sampled t o
@@ -104,33 +113,49 @@ module _ (d c : ℕ) (s : Float) (few : d ≤ width) (sampled : Bool) (f : Float
     }
     step (arrives i w x ws) o = arrival i w x ws (call (whole d) (at W ks) (arrive i w x ws)) (every-arrival (whole d) (whole-laws d) (at W ks) i w x ws (k .agrees o))
     step (reports n xs) o = record { world = W; entries = ks; leaves = refl; kept = k; claim = (report-rows d c K n xs W (k .counts), λ q. refl); numbers-are = refl }
-    step sample o =
-        let A = k .agrees o in
-        record { world = W; entries = ks; leaves = refl; kept = k; claim = (record { room = A .room; kept = kept-numbers d c s f W ks K (k .counts) A }, λ q. refl); numbers-are = refl }
+    step sample o = record { world = W; entries = ks; leaves = refl; kept = k; claim = (sample-kept o, λ q. refl); numbers-are = refl }
 
-  -- all calls
-  abbrev Runs : View (whole d) → Counts (whole d) → List (RunCall d) → Sampled (whole d) → Type 0
-  Runs G K es X = RunAnswered d c G K es (answersTo d s X es) × (toldFrom d s X es ≡ allNumbers d c es (answersTo d s X es))
+  -- All calls: what they leave, that they are answered, whatever is said of the last tree and the last counts, and told.
+  pub record Runs (G : View (whole d)) (K : Counts (whole d)) (es : List (RunCall d)) (X : Sampled (whole d)) : Type 1 where
+    pub world : World (whole d)
+    pub entries : List Entry
+    pub counts : Counts (whole d)
+    pub leaves : leftBy d s X es ≡ at world entries
+    pub kept : Kept world entries counts
+    pub answered : (P : View (whole d) → Counts (whole d) → Type 0) → P (viewOf (whole d) c world counts) counts → RunAnswered d c P G K es (answersTo d s X es)
+    pub told : toldFrom d s X es ≡ allNumbers d c es (answersTo d s X es)
 
   runs : (W : World (whole d)) (ks : List Entry) (K : Counts (whole d)) (es : List (RunCall d)) → Kept W ks K → AllOfKind sampled es → Runs (viewOf (whole d) c W K) K es (at W ks)
-  runs W ks K [] k o = (seen d c W K (k .counts), refl)
+  runs W ks K [] k o = record { world = W; entries = ks; counts = K; leaves = refl; kept = k; answered = λ P p. (seen d c W K (k .counts), p); told = refl }
   runs W ks K (e ∷ es) k (o, os) =
       let T = step W ks K k e o in
       let K′ = countCall d c e (answerTo d s (at W ks) e) K in
       let H = viewOf (whole d) c (T .world) K′ in
-      let (A, N) = subst (Runs H K′ es) (sym (T .leaves)) (runs (T .world) (T .entries) K′ es (T .kept) os) in
-      ((seen d c W K (k .counts), (H, T .claim, A)), ap₂ _++_ (T .numbers-are) N)
+      let R = subst (Runs H K′ es) (sym (T .leaves)) (runs (T .world) (T .entries) K′ es (T .kept) os) in
+      record {
+        world = R .world;
+        entries = R .entries;
+        counts = R .counts;
+        leaves = R .leaves;
+        kept = R .kept;
+        answered = λ P p. (seen d c W K (k .counts), (H, T .claim, R .answered P p));
+        told = ap₂ _++_ (T .numbers-are) (R .told);
+      }
+
+  -- from a fresh tree and an unwritten table
+  pub runs-fresh : 2 ≤ c → c ≤ capacityLimit → (es : List (RunCall d)) → AllOfKind sampled es → Runs (viewOf (whole d) c (Bare.fresh (whole d) c) (nothing (whole d))) (nothing (whole d)) es (at (Bare.fresh (whole d) c) [])
+  runs-fresh room small es o =
+      runs (Bare.fresh (whole d) c) [] (nothing (whole d)) es (record { counts = inv-fresh (whole d) c room; agrees = λ _. fresh-agrees (whole d) c f room (omega (arith, small)) }) o
 
 pub runs-answer : RunsAnswer
 runs-answer run lent es h C M =
     let d = channels run in
     let c = capacity run in
     let s = share run in
-    let f = cond (isSampled run) (initial run) nought in
     let (few, room, small) = taken-by run h M in
-    let (A, N) = runs d c s few (isSampled run) f (Bare.fresh (whole d) c) [] (nothing (whole d)) es (record { counts = inv-fresh (whole d) c room; agrees = λ _. fresh-agrees (whole d) c f room (omega (arith, small)) }) (calls-kind run es C) in (
+    let R = runs-fresh d c s few (isSampled run) (cond (isSampled run) (initial run) nought) room small es (calls-kind run es C) in (
       answersTo d s (begun run) es,
       viewOf (whole d) c (Bare.fresh (whole d) c) (nothing (whole d)),
-      A,
-      ap (λ o. outcomeOf run o lent) C ∙ ap (λ (m : MadeSampled). given (answered run m es) lent) M ∙ ap (λ (l : List ℕ). given (0 ∷ l) lent) N,
+      R .answered (λ H N. Unit {0}) tt,
+      ap (λ o. outcomeOf run o lent) C ∙ ap (λ (m : MadeSampled). given (answered run m es) lent) M ∙ ap (λ (l : List ℕ). given (0 ∷ l) lent) (R .told),
     )

@@ -30,11 +30,11 @@ use Rattle.demand3_outputs.proofs.Made.{taken}
 
 module _ (d c : ℕ) where
   -- the lines below the names
-  abbrev linesIn : Option (Tree (whole d)) → List ℕ
+  abbrev pub linesIn : Option (Tree (whole d)) → List ℕ
   linesIn none = []
   linesIn (some t) = linesOf d c t
 
-  printed-is : (o : Option (Tree (whole d))) → printedTree d c o ≡ namesLine ++ linesIn o
+  pub printed-is : (o : Option (Tree (whole d))) → printedTree d c o ≡ namesLine ++ linesIn o
   printed-is none = refl
   printed-is (some t) = refl
 
@@ -48,7 +48,7 @@ module _ (d c : ℕ) where
     no-node x (inl (n, e)) = nonsense (cc)
     no-node x (inr (r, e)) = nonsense (cc)
 
-    listing-of : (o : Option (Tree (whole d))) → Inv (whole d) c (record { table = f; tree = o; free = u }) K → Listing d (linesIn o) (viewOf (whole d) c (record { table = f; tree = o; free = u }) K)
+    pub listing-of : (o : Option (Tree (whole d))) → Inv (whole d) c (record { table = f; tree = o; free = u }) K → Listing d (linesIn o) (viewOf (whole d) c (record { table = f; tree = o; free = u }) K)
     listing-of none I = inl (no-node, refl)
     listing-of (some t) I = inr (id (whole d) c t, is-root (whole d) c (whole-laws d) f t u K I, lines-from t I t here)
 

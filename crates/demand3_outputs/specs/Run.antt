@@ -83,15 +83,17 @@ module _ (d c : ℕ) where
   RunClaim G K (reports n xs) x H = ((rs : List ReportRow) → x ≡ rows rs → ReportClaim d c G xs (length rs)) × SameTree d c G H
   RunClaim G K sample ks H = SampleClaim d c (length ks) ks K × SameTree d c G H
 
-  -- Before each call and after the last there is a tree that is as demand 3 says, which the queries among the calls give; G is the first.
-  abbrev pub RunAnswered : View (whole d) → Counts (whole d) → (es : List (RunCall d)) → RunAnswers d es → Type 0
-  RunAnswered G K [] as′ = Seen d c G K
-  RunAnswered G K (e ∷ es) (a, as′) = Seen d c G K × ((H : View (whole d)) × RunClaim G K e a H × RunAnswered H (countCall e a K) es as′)
+  -- Before each call and after the last there is a tree that is as demand 3 says, which the queries among the calls give; G is the first. P is what is
+  -- said besides of the last tree and the last counts.
+  abbrev pub RunAnswered : (View (whole d) → Counts (whole d) → Type 0) → View (whole d) → Counts (whole d) → (es : List (RunCall d)) → RunAnswers d es → Type 0
+  RunAnswered P G K [] as′ = Seen d c G K × P G K
+  RunAnswered P G K (e ∷ es) (a, as′) = Seen d c G K × ((H : View (whole d)) × RunClaim G K e a H × RunAnswered P H (countCall e a K) es as′)
 
 -- For every run in the layout whose making is accepted, of a bare or a sampled tree, there are answers to its calls that are as demand 3 says, and they
--- are what is written, after the making's 0 and where the lent bytes are enough for them. `outcome` is what `sicklephlox_run` ensures.
+-- are what is written, after the making's 0 and where the lent bytes are enough for them; nothing is said
+-- besides of the last tree. `outcome` is what `sicklephlox_run` ensures.
 abbrev pub RunsAnswer : Type 0
 RunsAnswer = (run lent : List ℕ) (es : List (RunCall (channels run))) (h : SamplerPlusTree) → calls run ≡ some es → made run ≡ Tree h
     → (as′ : RunAnswers (channels run) es) × (G : View (whole (channels run)))
-    × RunAnswered (channels run) (capacity run) G (nothing (whole (channels run))) es as′
+    × RunAnswered (channels run) (capacity run) (λ H N. Unit {0}) G (nothing (whole (channels run))) es as′
     × (outcome run lent ≡ given (0 ∷ allNumbers (channels run) (capacity run) es as′) lent)
