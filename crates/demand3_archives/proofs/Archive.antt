@@ -28,9 +28,9 @@ use Rattle.regrow_line.specs.Answered.{putLines, arrivalLines, linesOfReport}
 use Rattle.regrow_line.specs.Archive.{rowsOf, rowsLeave, printed}
 use Rattle.demand3_outputs.specs.Run.{RunAnswered}
 use Rattle.demand3_outputs.proofs.Made.{taken-sampled}
-use Rattle.demand3_outputs.proofs.Run.{answersTo, leftBy, at, sample-kept, runs-fresh}
+use Rattle.demand3_outputs.proofs.Run.{answersTo, leftBy, sample-kept, runs-fresh}
 use Rattle.demand3_outputs.proofs.Text.{linesIn, printed-is, listing-of}
-use Rattle.demand3_archives.specs.Archive.{callsIn, toldArrival, toldRows, AtEnd, ArchivesAnswer}
+use Rattle.demand3_archives.specs.Archive.{callsIn, arrivalTold, rowsTold, AtEnd, ArchivesAnswer}
 
 module _ (d : ℕ) where
   -- rows have no add and no delete
@@ -56,7 +56,7 @@ module _ (d c : ℕ) (s : Float) where
   put-told X i xs r = by-put (whole d) (X .capacity) (λ x. putLines (putSays d (x .0)) r ≡ toldRow d (x .0) r) (X .world) (λ m. refl) i xs (λ U _. refl)
 
   arrival-told : (h : SamplerPlusTree) (G : View (whole d)) (Q : View (whole d) → Type 0) (K : Counts (whole d)) (i : ℕ) (ws : List ℕ) (r : ℕ) (o : SampledAnswer (whole d)) → ArrivalClaim d c G Q K i ws o
-      → arrivalLines (updateSays d h o) r ≡ toldArrival d o r
+      → arrivalLines (updateSays d h o) r ≡ arrivalTold d o r
   arrival-told h G Q K i ws r (bare a) ((x, e), q) = rw e refl
   arrival-told h G Q K i ws r notAccepted q = refl
   arrival-told h G Q K i ws r (accepted j none) A = refl
@@ -64,7 +64,7 @@ module _ (d c : ℕ) (s : Float) where
 
   module _ (P : View (whole d) → Counts (whole d) → Type 0) where
     rows-told : (X : Sampled (whole d)) (r : ℕ) (G : View (whole d)) (K : Counts (whole d)) (rows : List ArchiveRow) → RunAnswered d c P G K (callsIn d rows) (answersTo d s X (callsIn d rows))
-        → printed d s X r rows ≡ toldRows d r rows (answersTo d s X (callsIn d rows))
+        → printed d s X r rows ≡ rowsTold d r rows (answersTo d s X (callsIn d rows))
     rows-told X r G K [] A = refl
     rows-told X r G K (puts i xs ∷ rows) (S, (H, C, A)) = ap₂ _++_ (put-told X i xs r) (rows-told (rowLeaves d X (puts i xs)) (r + 1) H _ rows A)
     rows-told X r G K (arrives i w x ws ∷ rows) (S, (H, C, A)) =
@@ -90,7 +90,7 @@ archives-answer line m h L M lines =
       first = viewOf (whole d) c (Bare.fresh (whole d) c) (nothing (whole d));
       answers = answersTo d s X (callsIn d rows);
       entries = ks;
-      lines = linesIn d c (W .tree);
+      listing = linesIn d c (W .tree);
       answered = A;
       rows-are = rows-told d c s (AtEnd d c ks (linesIn d c (W .tree))) X 1 _ (nothing (whole d)) rows A;
       end-is = ap (endLines d) (rows-leave d s X rows ∙ R .leaves) ∙ ap (λ (l : List ℕ). sampleNames ++ entryLines ks ++ l) (printed-is d c (W .tree));

@@ -42,7 +42,7 @@ use Rattle.demand3_outputs.proofs.Numbers.{numbers-are, arrival-numbers
 
 -- what the calls of a run are answered
 module _ (d : ℕ) (s : Float) where
-  abbrev pub answerTo : Sampled (whole d) → (e : RunCall d) → RunAnswer d e
+  abbrev answerTo : Sampled (whole d) → (e : RunCall d) → RunAnswer d e
   answerTo X (plain e) = Bare.call (whole d) (X .capacity) (X .world) e .0
   answerTo X (arrives i w x ws) = call (whole d) X (arrive i w x ws) .0
   answerTo X (reports n xs) = reportOf d (X .capacity) (X .world) n xs
@@ -59,7 +59,7 @@ module _ (d : ℕ) (s : Float) where
 
 -- A call, from a world that agrees with the counts, and with the sample where there is one.
 module _ (d c : ℕ) (s : Float) (few : d ≤ width) (sampled : Bool) (f : Float) where
-  abbrev pub at : World (whole d) → List Entry → Sampled (whole d)
+  abbrev at : World (whole d) → List Entry → Sampled (whole d)
   at W ks = sampledAt d c s f W ks
 
   pub record Kept (W : World (whole d)) (ks : List Entry) (K : Counts (whole d)) : Type 0 where

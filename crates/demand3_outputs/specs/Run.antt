@@ -89,9 +89,9 @@ module _ (d c : ℕ) where
   RunAnswered P G K [] as′ = Seen d c G K × P G K
   RunAnswered P G K (e ∷ es) (a, as′) = Seen d c G K × ((H : View (whole d)) × RunClaim G K e a H × RunAnswered P H (countCall e a K) es as′)
 
--- For every run in the layout whose making is accepted, of a bare or a sampled tree, there are answers to its calls that are as demand 3 says, and they
--- are what is written, after the making's 0 and where the lent bytes are enough for them; nothing is said
--- besides of the last tree. `outcome` is what `sicklephlox_run` ensures.
+-- For every run in the layout whose making is accepted, of a bare or a sampled tree, there are answers to its calls that are as demand 3 says, with nothing
+-- besides of the last tree, and they are what is written, after the making's 0 and where the lent bytes are enough for them. `outcome` is what
+-- `sicklephlox_run` ensures.
 abbrev pub RunsAnswer : Type 0
 RunsAnswer = (run lent : List ℕ) (es : List (RunCall (channels run))) (h : SamplerPlusTree) → calls run ≡ some es → made run ≡ Tree h
     → (as′ : RunAnswers (channels run) es) × (G : View (whole (channels run)))
