@@ -3,18 +3,20 @@ use limits::CAPACITY;
 use limits::CHANNELS;
 ghost use mathlib.Core.Path.{_≡_};
 ghost use Prim.Native.Nat.{ℕ, _+_, _*_, _≤_};
-ghost use lib.ListN.{length, take};
+ghost use lib.ListN.{length, take, replicate};
 ghost use lib.Seq.{sets};
 ghost use lib.Ieee.{binary32, ofBits};
 ghost use Rattle.limits.specs.Limits.{width, capacityLimit};
+ghost use Rattle.readings.specs.Number.{nought};
 ghost use Rattle.wholetree.specs.Whole.{tab};
 ghost use Rattle.runlayout.specs.Layout.{size, number, double};
 
-// n coordinates from a place on.
+// n coordinates from a place on, and +0.0 after them.
 // Rules out a coordinate read from the place before, and one turned into another float by its bits.
 pub fn coordinates_at(run: &[u8], from: usize, n: usize) -> [f32; CHANNELS + 1]
     requires { ⌜ (n ≤ (width + 1)) × (from + n ≤ size (now run)) ⌝ }
-    ensures { λ r. ⌜ take n r ≡ tab n (λ (i : ℕ). ofBits binary32 (number (now (run .entry)) (from + i))) ⌝ }
+    ensures all { λ r. ⌜ r ≡ sets (replicate (width + 1) nought) 0 (tab n (λ (i : ℕ). ofBits binary32 (number (now (run .entry)) (from + i)))) ⌝ }
+    ensures first { λ r. ⌜ take n r ≡ tab n (λ (i : ℕ). ofBits binary32 (number (now (run .entry)) (from + i))) ⌝ }
 {
     let mut coordinates = [0.0f32; CHANNELS + 1];
     let mut i: usize = 0;

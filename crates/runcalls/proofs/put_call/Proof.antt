@@ -29,7 +29,7 @@ put-requires : tie.Need-put-requires
 put-requires c κs = search needs
 
 returns : tie.Need-returns
-returns c = λ a e. put-given (c .before .before .before .before .before .before .before .before .before .before .args .run .now) _ _ _ _ _ _ _ _ _ _ _ (c .before .before .before .before .before .before .before .before .number-at .ensures .0) _ _ _ (c .before .before .before .before .before .before .before .number-at2 .ensures .0) (c .before .before .before .before .before .before .at-most .ensures) (c .before .before .before .before .before .coordinates-at .ensures) (λ xs. c .put .ensures .1 a xs e)
+returns c = λ a e. put-given (c .before .before .before .before .before .before .before .before .before .before .args .run .now) _ _ _ _ _ _ _ _ _ _ _ (c .before .before .before .before .before .before .before .before .number-at .ensures .0) _ _ _ (c .before .before .before .before .before .before .before .number-at2 .ensures .0) (c .before .before .before .before .before .before .at-most .ensures) (c .before .before .before .before .before .coordinates-at .ensures .1) (λ xs. c .put .ensures .1 a xs e)
 
 pub put-call-spec : {M : Type 1} → statement M
 put-call-spec =

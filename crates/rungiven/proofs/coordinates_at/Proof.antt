@@ -43,7 +43,10 @@ loop-again : tie.Need-loop-again Inv-loop μ-loop
 loop-again c = firsts-turn _ _ _ _ _ _ (c .before .before .before .loop .inv) (omega arith) (c .float-of .ensures ∙ ap (ofBits binary32) (c .before .bits-at .ensures))
 
 returns : tie.Need-returns Inv-loop μ-loop
-returns c = firsts-taken _ _ _ _ (firsts-all _ _ _ _ _ (c .before .loop .inv) (omega arith)) (omega arith)
+unfolding ofBits
+returns c =
+    let all = firsts-all _ _ _ _ _ (c .before .loop .inv) (omega arith) in
+    (all, firsts-taken _ _ _ _ all (omega arith))
 
 pub coordinates-at-spec : {M : Type 1} → statement M
 coordinates-at-spec =

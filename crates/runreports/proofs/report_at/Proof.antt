@@ -56,7 +56,7 @@ returns c =
     let first = written .before .before .before in
     let read = first .before .before .before .before in
     let s = read .before .before .before .before .before .before .args in
-    report-there _ _ _ _ _ _ _ _ _ (first .before .at-most2 .ensures) _ _ _ (first .report-first .ensures) (s .run .now) (s .p) (s .out) _ _ (s .answers .now) _ (read .before .before .before .number-at .ensures .0) (read .before .before .number-at2 .ensures .0) (read .before .at-most .ensures) (read .coordinates-at .ensures) (written .write-report .ensures)
+    report-there _ _ _ _ _ _ _ _ _ (first .before .at-most2 .ensures) _ _ _ (first .report-first .ensures) (s .run .now) (s .p) (s .out) _ _ (s .answers .now) _ (read .before .before .before .number-at .ensures .0) (read .before .before .number-at2 .ensures .0) (read .before .at-most .ensures) (read .coordinates-at .ensures .1) (written .write-report .ensures)
 
 pub report-at-spec : {M : Type 1} → statement M
 report-at-spec =
