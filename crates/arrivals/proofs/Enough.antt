@@ -1,5 +1,5 @@
 -- An arrival looks at no more words than its reach: with other words from there on its answer and what it leaves are the same. Assumes nothing.
-use mathlib.Core.Path.{_≡_, refl, sym, ap, _∙_}
+use mathlib.Core.Path.{_≡_, refl, ap, _∙_}
 use mathlib.Core.Bool.{Bool, true, false, cond, not}
 use mathlib.Core.Option.{Option, none, some}
 use mathlib.Core.List.{List}
@@ -8,10 +8,11 @@ use native.Mathlib.Omega.{arith}
 use lib.Dec.{eqb, leb, ltb}
 use lib.ListN.{length, getD}
 use Rattle.cuttree.specs.Setting.{Setting, below}
-use Rattle.cuttree.specs.Tree.{Tree, leaf, branch, ending, found, height, walk, leaves, drawn, parted, above, insert, addCopy, forget, orLifted}
+use Rattle.cuttree.specs.Tree.{Tree, leaf, branch, ending, found, height, walk, leaves, insert, addCopy, forget, orLifted}
 use Rattle.cuttree.specs.Run.{World, Answer, added, full, fewWords, indexAbove, refuse, withTree, totalOf, enter, add, delete, call}
 use Rattle.intervalstoremanager.specs.Stack.{next, afterGet}
-use Rattle.cuttree.proofs.Tests.{by-test, by-cond, cond-true, cond-false}
+use Rattle.cuttree.proofs.Tests.{by-cond, cond-true, cond-false}
+use Rattle.cuttree.proofs.Words.{insert-words}
 
 module _ (S : Setting) where
   open Setting S using (Point, Word, noWord, indices, limit)
@@ -64,16 +65,6 @@ module _ (S : Setting) where
         by-cond (λ (x : Answer S × World S). walkIn (x .1 .tree) p ≤ walk S t p) (leb indices e) _ _ (λ _. same)
         (λ _. rw (Q, T) (by-cond (λ (x : Answer S × World S). walkIn (x .1 .tree) p ≤ walk S t p) (not (found S t q)) _ _ (λ _. omega arith) (λ _. after-walk (forget S q t) (height S t p) (forget-height t h))))
 
-  -- ---- insertion looks at a word for each node of the walk
-  insert-words : (b i : ℕ) (p : Point) (w v : ℕ → Word) (t : Tree S) → ((m : ℕ) → m ≤ height S t p → w m ≡ v m) → insert S b i p w t ≡ insert S b i p v t
-  insert-words b i p w v (leaf j q n) h = ap (λ x. above S b (drawn S (leaf j q n) p x) i p (leaf j q n)) (h 0 (omega arith))
-  insert-words b i p w v (branch a k g l r) h =
-      let t = branch a k g l r in
-      ap (λ x. cond (parted S t p x) (above S b (drawn S t p x) i p t) (cond (below S k p) (branch a k g (insert S b i p w l) r) (branch a k g l (insert S b i p w r)))) (h (height S t p) (omega arith))
-      ∙ ap (λ x. cond (parted S t p (v (height S t p))) (above S b (drawn S t p (v (height S t p))) i p t) x) (by-test (below S k p)
-      (λ e. cond-true _ _ _ e ∙ ap (λ x. branch a k g x r) (insert-words b i p w v l (λ m y. h m (omega (arith, ap suc (cond-true (below S k p) (height S l p) (height S r p) e))))) ∙ sym (cond-true _ _ _ e))
-      (λ e. cond-false _ _ _ e ∙ ap (λ x. branch a k g l x) (insert-words b i p w v r (λ m y. h m (omega (arith, ap suc (cond-false (below S k p) (height S l p) (height S r p) e))))) ∙ sym (cond-false _ _ _ e)))
-
   -- two lists of words as long as each other, alike below m
   module _ (c m : ℕ) (ws vs : List Word) (alike : (n : ℕ) → n < m → getD ws n noWord ≡ getD vs n noWord) (long : length ws ≡ length vs) where
     enter-alike : (W : World S) (o : Option (Tree S)) (i : ℕ) (p : Point) → walkIn o p ≤ m → enter S c W o i p ws ≡ enter S c W o i p vs
@@ -81,7 +72,7 @@ module _ (S : Setting) where
     enter-alike W (some t) i p h =
         ap (λ (n : ℕ). cond (found S t p) (added (ending S t p .index) 0, withTree S W (some (addCopy S p t)) (W .free)) (refuse S W full (leb c (leaves S t)) (refuse S W fewWords (ltb n (walk S t p)) (added i (walk S t p), withTree S W (some (insert S (next (W .free)) i p (λ n. getD ws n noWord) t)) (afterGet (W .free)))))) long
         ∙ ap (λ (u : Tree S). cond (found S t p) (added (ending S t p .index) 0, withTree S W (some (addCopy S p t)) (W .free)) (refuse S W full (leb c (leaves S t)) (refuse S W fewWords (ltb (length vs) (walk S t p)) (added i (walk S t p), withTree S W (some u) (afterGet (W .free))))))
-        (insert-words _ i p _ _ t (λ n y. alike n (omega (arith, h, y))))
+        (insert-words S _ i p _ _ t (λ n y. alike n (omega (arith, h, y))))
 
     pub add-within : (W : World S) (i : ℕ) (p : Point) → W .table i ≡ some p → walkIn (W .tree) p ≤ m → call S c W (add i ws) ≡ call S c W (add i vs)
     add-within W i p P h = rw P (ap (λ x. refuse S W indexAbove (leb indices i) (refuse S W full (eqb (totalOf S (W .tree)) limit) x)) (enter-alike W (W .tree) i p h))

@@ -19,7 +19,7 @@ module _ (S : Setting) where
   open Setting S using (Point, Word, noWord, indices, limit)
 
   -- insertion looks at a word for each node of the walk
-  insert-words : (b i : ℕ) (p : Point) (w v : ℕ → Word) (t : Tree S) → ((m : ℕ) → m ≤ height S t p → w m ≡ v m) → insert S b i p w t ≡ insert S b i p v t
+  pub insert-words : (b i : ℕ) (p : Point) (w v : ℕ → Word) (t : Tree S) → ((m : ℕ) → m ≤ height S t p → w m ≡ v m) → insert S b i p w t ≡ insert S b i p v t
   insert-words b i p w v (leaf j q n) h = ap (λ x. above S b (drawn S (leaf j q n) p x) i p (leaf j q n)) (h 0 (omega arith))
   insert-words b i p w v (branch a k g l r) h =
       let t = branch a k g l r in
