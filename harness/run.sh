@@ -82,6 +82,7 @@ fi
 if [ -n "$regrown" ]; then
   built run --package compare_archives -- --fault
   built run --package compare_archives -- "${ARCHIVES:-1000}"
+  harness/statuses.sh
 fi
 status=0
 wait "$comparing" || status=$?
