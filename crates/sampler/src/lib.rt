@@ -7,7 +7,7 @@ use limits::CAPACITY;
 use limits::Held;
 use limits::Weights;
 ghost use mathlib.Core.Path.{_≡_};
-ghost use mathlib.Core.Bool.{false, _||_};
+ghost use mathlib.Core.Bool.{false, cond, _||_};
 ghost use mathlib.Core.List.{List, _∷_};
 ghost use Prim.Native.Nat.{ℕ, _+_, _*_, _<_, _≤_};
 ghost use lib.Dec.{eqb};
@@ -50,19 +50,24 @@ fn swap_weights(weights: &mut Weights, points: &mut Held, a: usize, b: usize)
     weights[b] = tmp_weight;
 }
 
+// 1 where the right one weighs more, else 0. A number and no branch, so that none has to be guessed.
+fn more(left: f32, right: f32) -> usize
+    ensures { λ r. ⌜ r ≡ cond (lt left right) 1 0 ⌝ }
+{
+    if left < right { 1 } else { 0 }
+}
+
 // `swap_down`'s choice: the child of `current` that weighs more, the left one where neither does.
 fn max_child(weights: &Weights, current: usize, size: usize) -> usize
     requires { ⌜ (2 * current + 1 < size) × (size ≤ capacityLimit) ⌝ }
     ensures range { λ r. ⌜ (current < r) × (r < size) ⌝ }
     ensures is { λ r. ⌜ ((ks : List Entry) (ws : List Float) (ps points : List ℕ) → Slots size ks ws ps (now (weights .entry)) points → r ≡ heavier above beyond ks current) ⌝ }
 {
-    let mut max_index = 2 * current + 1;
-    if 2 * current + 2 < size {
-        if weights[2 * current + 2] > weights[max_index] {
-            max_index = 2 * current + 2;
-        }
+    let left = 2 * current + 1;
+    if left + 1 < size {
+        return left + more(weights[left], weights[left + 1]);
     }
-    max_index
+    left
 }
 
 // `add_point`'s loop: the last entry goes up past each parent that weighs less.
