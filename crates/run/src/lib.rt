@@ -33,6 +33,7 @@ ghost use Rattle.run.specs.Running.{Running, SomeRunning, Started, SomeS
 ghost use Rattle.run.specs.Makes.{Makes};
 
 // The calls after the making, each answered in turn, after the making's own number. Gives how many numbers are answered.
+// The kind of the next call is read before a call is carried out: of a long run it lies far away in memory, and comes meanwhile.
 fn run_calls(
     tree: SamplerPlusTree,
     nodes: &mut Nodes,
@@ -57,9 +58,12 @@ fn run_calls(
     let mut rows = [[0u64; 4]; CAPACITY];
     let mut current = tree;
     let mut p = runlayout::making_width(run);
+    let mut kind = runlayout::number_or_none(run, p);
     let mut out: usize = 1;
     while p < n {
         let width = runlayout::answer_width(run, p);
+        let next = p + runlayout::width_at(run, p);
+        let ahead = runlayout::number_or_none(run, next);
         current = runsteps::step(
             current,
             nodes,
@@ -79,9 +83,11 @@ fn run_calls(
             answers,
             out,
             width,
+            kind,
         );
         out = out + width;
-        p = p + runlayout::width_at(run, p);
+        p = next;
+        kind = ahead;
     }
     out
 }

@@ -31,9 +31,6 @@ module _ (bytes : List ℕ) where
   pub within : (p : ℕ) → standsAt bytes p ≡ true → p + widthAt bytes p ≤ size bytes
   within p e = leb-true (p + widthAt bytes p) (size bytes) (and-right (isCall (isSampled bytes) (number bytes p)) (leb (p + widthAt bytes p) (size bytes)) e)
 
-  pub starts-inside : (p : ℕ) → standsAt bytes p ≡ true → p < size bytes
-  starts-inside p e = omega (arith, within p e, least p)
-
   -- a call has a number, so none stands at the run's end
   beyond : (p : ℕ) → size bytes ≤ p → standsAt bytes p ≡ false
   beyond p h = and-false (isCall (isSampled bytes) (number bytes p)) (leb (p + widthAt bytes p) (size bytes)) (lt-leb (p + widthAt bytes p) (size bytes) (omega (arith, least p)))

@@ -89,7 +89,8 @@ fn is_call(sampled: bool, kind: usize) -> bool
 }
 
 // The number at a place, 0 beyond the run's end.
-fn number_or_none(run: &[u8], p: usize) -> usize
+// Rules out 0 for the last number, and a number read beyond the end.
+pub fn number_or_none(run: &[u8], p: usize) -> usize
     requires { ⌜ length (now run) ≡ 4 * size (now run) ⌝ }
     ensures { λ r. ⌜ (r ≡ number (now (run .entry)) p) × (r < 4294967296) ⌝ }
 {

@@ -130,7 +130,8 @@ fn arrival_step(
     next
 }
 
-// The call at a place of the run, answered from the answer number `out` on; its answer has `width` numbers. Gives the header after it.
+// The call at a place of the run, of the kind that stands there, answered from the answer number `out` on; its answer has `width` numbers.
+// Gives the header after it.
 // Rules out the sample's arrays written by a put, and an answer that begins where the one before it does.
 pub fn step(
     current: SamplerPlusTree,
@@ -151,14 +152,14 @@ pub fn step(
     answers: &mut [u8],
     out: usize,
     width: usize,
+    kind: usize,
 ) -> SamplerPlusTree
-    requires stands { ⌜ standsAt (now run) p ≡ true ⌝ }
+    requires stands { ⌜ (standsAt (now run) p ≡ true) × (kind ≡ number (now run) p) ⌝ }
     requires state { ⌜ SomeStanding (now run) current (kept (lent (now nodes) (now cuts) (now copies) (now free) (now boxes)) (now points) (now written) (now weights) (now held)) ⌝ }
     requires room { ⌜ (width ≡ widthOfKind (channels (now run)) (capacity (now run)) (number (now run) p) (number (now run) (p + 1))) × (4 * (out + width) ≤ length (now answers)) ⌝ }
     ensures { λ r. ⌜ Steps (now (run .entry)) p out current (kept (lent (now (nodes .entry)) (now (cuts .entry)) (now (copies .entry)) (now (free .entry)) (now (boxes .entry))) (now (points .entry)) (now (written .entry)) (now (weights .entry)) (now (held .entry))) (room (now (words .entry)) (now (reply .entry)) (now (rows .entry)) (now (answers .entry)))
         r (kept (lent (now (nodes .exit)) (now (cuts .exit)) (now (copies .exit)) (now (free .exit)) (now (boxes .exit))) (now (points .exit)) (now (written .exit)) (now (weights .exit)) (now (held .exit))) (room (now (words .exit)) (now (reply .exit)) (now (rows .exit)) (now (answers .exit))) ⌝ }
 {
-    let kind = runlayout::number_at(run, p);
     if kind == 6 {
         return arrival_step(
             current,
