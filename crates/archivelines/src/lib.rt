@@ -3,12 +3,16 @@ use limits::CAPACITY;
 ghost use Prim.Native.Nat.{_+_, _≤_, _<_};
 ghost use lib.ListN.{length, take};
 ghost use Rattle.lines.specs.Lines.{Wrote};
-ghost use Rattle.archivelines.specs.Answers.{passedLine, keptLine, evictedLine, reportLine, reportLines, arrivalLine, answerLines};
+ghost use Rattle.archivelines.specs.Answers.{passedLine, keptLine, evictedLine, reportLine, reportLines, arrivalLine, answerLines, answerLimit};
+
+// A buffer of so many bytes has room for the answer of any row: `answerLimit`.
+pub const ANSWER: usize = CAPACITY * 84;
 
 // Writes `passed R`.
 fn put_passed(out: &mut [u8], at: usize, row: usize) -> usize
     requires { ⌜ at < 10000000000 ⌝ }
-    ensures { λ r. ⌜ Wrote (now (out .entry)) at (passedLine row) r (now (out .exit)) ⌝ }
+    ensures wrote { λ r. ⌜ Wrote (now (out .entry)) at (passedLine row) r (now (out .exit)) ⌝ }
+    ensures few { λ r. ⌜ r ≤ at + 28 ⌝ }
 {
     let p = lines::put_bytes(out, at, b"passed ");
     lines::put_last(out, p, row)
@@ -17,7 +21,8 @@ fn put_passed(out: &mut [u8], at: usize, row: usize) -> usize
 // Writes `leaf J R`.
 fn put_kept(out: &mut [u8], at: usize, leaf: usize, row: usize) -> usize
     requires { ⌜ at < 10000000000 ⌝ }
-    ensures { λ r. ⌜ Wrote (now (out .entry)) at (keptLine leaf row) r (now (out .exit)) ⌝ }
+    ensures wrote { λ r. ⌜ Wrote (now (out .entry)) at (keptLine leaf row) r (now (out .exit)) ⌝ }
+    ensures few { λ r. ⌜ r ≤ at + 47 ⌝ }
 {
     let p = lines::put_bytes(out, at, b"leaf ");
     let q = lines::put_field(out, p, leaf);
@@ -27,7 +32,8 @@ fn put_kept(out: &mut [u8], at: usize, leaf: usize, row: usize) -> usize
 // Writes `leaf J evicted E R`.
 fn put_evicted(out: &mut [u8], at: usize, leaf: usize, evicted: usize, row: usize) -> usize
     requires { ⌜ at < 10000000000 ⌝ }
-    ensures { λ r. ⌜ Wrote (now (out .entry)) at (evictedLine leaf evicted row) r (now (out .exit)) ⌝ }
+    ensures wrote { λ r. ⌜ Wrote (now (out .entry)) at (evictedLine leaf evicted row) r (now (out .exit)) ⌝ }
+    ensures few { λ r. ⌜ r ≤ at + 76 ⌝ }
 {
     let p1 = lines::put_bytes(out, at, b"leaf ");
     let p2 = lines::put_field(out, p1, leaf);
@@ -53,7 +59,8 @@ fn put_report_row(out: &mut [u8], at: usize, row: [u64; 4]) -> usize
 // Writes the first `count` rows, or all where there are fewer.
 fn put_report(out: &mut [u8], at: usize, rows: &[[u64; 4]], count: usize) -> usize
     requires { ⌜ (at < 10000000000) × (length (now rows) ≤ 256) ⌝ }
-    ensures { λ r. ⌜ Wrote (now (out .entry)) at (reportLines (take count (now (rows .entry)))) r (now (out .exit)) ⌝ }
+    ensures wrote { λ r. ⌜ Wrote (now (out .entry)) at (reportLines (take count (now (rows .entry)))) r (now (out .exit)) ⌝ }
+    ensures few { λ r. ⌜ r ≤ at + answerLimit ⌝ }
 {
     let n = casts::at_most(count, rows.len());
     let mut p = at;
@@ -68,7 +75,8 @@ fn put_report(out: &mut [u8], at: usize, rows: &[[u64; 4]], count: usize) -> usi
 // Writes what became of an arrival, by its numbers.
 fn put_arrival(out: &mut [u8], at: usize, numbers: [usize; 4], row: usize) -> usize
     requires { ⌜ at < 10000000000 ⌝ }
-    ensures { λ r. ⌜ Wrote (now (out .entry)) at (arrivalLine numbers row) r (now (out .exit)) ⌝ }
+    ensures wrote { λ r. ⌜ Wrote (now (out .entry)) at (arrivalLine numbers row) r (now (out .exit)) ⌝ }
+    ensures few { λ r. ⌜ r ≤ at + 76 ⌝ }
 {
     if numbers[1] == 0 {
         return put_passed(out, at, row);
@@ -79,7 +87,7 @@ fn put_arrival(out: &mut [u8], at: usize, numbers: [usize; 4], row: usize) -> us
     put_evicted(out, at, numbers[2], numbers[3], row)
 }
 
-// Writes the lines that answer a row, by its op, its answer's numbers and the lent rows.
+// Writes the lines that answer a row, by its op, its answer's numbers and the lent rows; the next place, which is at most `ANSWER` bytes on.
 // Rules out a report's rows from the root to the leaf, and `passed` printed of a refused arrival.
 pub fn put_answer(
     out: &mut [u8],
@@ -90,7 +98,8 @@ pub fn put_answer(
     row: usize,
 ) -> usize
     requires { ⌜ at < 10000000000 ⌝ }
-    ensures { λ r. ⌜ Wrote (now (out .entry)) at (answerLines op numbers (now (rows .entry)) row) r (now (out .exit)) ⌝ }
+    ensures wrote { λ r. ⌜ Wrote (now (out .entry)) at (answerLines op numbers (now (rows .entry)) row) r (now (out .exit)) ⌝ }
+    ensures fits { λ r. ⌜ r ≤ at + answerLimit ⌝ }
 {
     if numbers[0] != 0 {
         return lines::put_refused(out, at, numbers[0], row);

@@ -99,13 +99,13 @@ read-row (reports xs) k = refl
 read-row outOfForm k = refl
 
 -- ---- of a line: what was read of it, what was carried out, and what was written
-pub line-done : (line : List ℕ) (read : Line) (number : ℕ) (h : SamplerPlusTree) (a : Lent) (points : List (List Float)) (marks : List ℕ) (weights : List Float) (held : List ℕ) (rows : List (List ℕ)) (out : List ℕ)
+pub line-done : (line : List ℕ) (read : Line) (number at : ℕ) (h : SamplerPlusTree) (a : Lent) (points : List (List Float)) (marks : List ℕ) (weights : List Float) (held : List ℕ) (rows : List (List ℕ)) (out : List ℕ)
     (h′ : SamplerPlusTree) (a′ : Lent) (points′ : List (List Float)) (marks′ : List ℕ) (weights′ : List Float) (held′ : List ℕ) (rows′ : List (List ℕ)) (reply : List ℕ) (end : ℕ) (on : Bool) (out′ : List ℕ)
     → read ≡ readLine line → Carries (rowOf line) h a points marks weights held rows h′ a′ points′ marks′ weights′ held′ rows′ reply
-    → Wrote out 0 (answerLines (opRead read) (fourOf reply) rows′ number) end out′ → on ≡ isRead read
-    → LineCarries (rowOf line) number h a points marks weights held rows out (record { tree = h′; end = end; «goes_on» = on }) a′ points′ marks′ weights′ held′ rows′ out′
+    → Wrote out at (answerLines (opRead read) (fourOf reply) rows′ number) end out′ → on ≡ isRead read
+    → LineCarries (rowOf line) number at h a points marks weights held rows out (record { tree = h′; end = end; «goes_on» = on }) a′ points′ marks′ weights′ held′ rows′ out′
 unfolding readLine
-line-done line read number h a points marks weights held rows out h′ a′ points′ marks′ weights′ held′ rows′ reply end on out′ e C w g d s X S =
+line-done line read number at h a points marks weights held rows out h′ a′ points′ marks′ weights′ held′ rows′ reply end on out′ e C w g d s X S =
     let D = C d s X S in
     record {
       wrote = rw (e, D .reply-is, D .rows-are, by-row d s X (rowOf line) (restAt line) rows number) at w;

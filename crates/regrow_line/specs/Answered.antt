@@ -58,17 +58,17 @@ inForm (reports xs) = true
 inForm outOfForm = false
 
 -- ---- a line carried out
--- what it prints and leaves of X: its answer from the buffer's front, and header, arrays, table, sample and lent rows after it
-pub record LineDone (d : ℕ) (s : Float) (X : Sampled (whole d)) (row : ArchiveRow) (r : ℕ) (rows : List (List ℕ)) (out : List ℕ) (done : Done) (a : Lent) (points : List (List Float)) (marks : List ℕ) (weights : List Float) (held : List ℕ) (rows′ : List (List ℕ)) (out′ : List ℕ) : Type 0 where
-  pub wrote : Wrote out 0 (answered d s X row r) (done .end) out′
+-- what it prints and leaves of X: its answer from the place `at` on, and header, arrays, table, sample and lent rows after it
+pub record LineDone (d : ℕ) (s : Float) (X : Sampled (whole d)) (row : ArchiveRow) (r at : ℕ) (rows : List (List ℕ)) (out : List ℕ) (done : Done) (a : Lent) (points : List (List Float)) (marks : List ℕ) (weights : List Float) (held : List ℕ) (rows′ : List (List ℕ)) (out′ : List ℕ) : Type 0 where
+  pub wrote : Wrote out at (answered d s X row r) (done .end) out′
   pub on : done .«goes_on» ≡ inForm row
   pub rows-are : rows′ ≡ rowsLeft d X row rows
   pub state : SampledState d s (rowLeaves d X row) (done .tree) a points marks weights held
 
 -- A line, whichever sampled tree's the lent state is: header, arrays, table, sample, lent rows and buffer before it, then after it.
-abbrev pub LineCarries : ArchiveRow → ℕ → SamplerPlusTree → Lent → List (List Float) → List ℕ → List Float → List ℕ → List (List ℕ) → List ℕ → Done → Lent → List (List Float) → List ℕ → List Float → List ℕ → List (List ℕ) → List ℕ → Type 0
-LineCarries row r h a points marks weights held rows out done a′ points′ marks′ weights′ held′ rows′ out′ =
-    (d : ℕ) (s : Float) (X : Sampled (whole d)) → SampledState d s X h a points marks weights held → LineDone d s X row r rows out done a′ points′ marks′ weights′ held′ rows′ out′
+abbrev pub LineCarries : ArchiveRow → ℕ → ℕ → SamplerPlusTree → Lent → List (List Float) → List ℕ → List Float → List ℕ → List (List ℕ) → List ℕ → Done → Lent → List (List Float) → List ℕ → List Float → List ℕ → List (List ℕ) → List ℕ → Type 0
+LineCarries row r at h a points marks weights held rows out done a′ points′ marks′ weights′ held′ rows′ out′ =
+    (d : ℕ) (s : Float) (X : Sampled (whole d)) → SampledState d s X h a points marks weights held → LineDone d s X row r at rows out done a′ points′ marks′ weights′ held′ rows′ out′
 
 -- ---- by what was read of it
 abbrev pub opRead : Line → ℕ

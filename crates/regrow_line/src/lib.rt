@@ -14,14 +14,15 @@ use limits::Points;
 use limits::Weights;
 use samplerplustree::SamplerPlusTree;
 ghost use mathlib.Core.Path.{_≡_};
+ghost use Prim.Native.Nat.{_+_, _≤_, _<_};
 ghost use Rattle.lines.specs.Lines.{Wrote};
 ghost use Rattle.treestore.specs.Arrays.{lent};
 ghost use Rattle.samplerplustree.specs.State.{SomeSampled};
 ghost use Rattle.archiverow.specs.Rows.{rowOf};
-ghost use Rattle.archivelines.specs.Answers.{answerLines};
+ghost use Rattle.archivelines.specs.Answers.{answerLines, answerLimit};
 ghost use Rattle.regrow_line.specs.Answered.{opRead, isRead, fourOf, LineCarries};
 
-// A line that is carried out: the header after it, how many bytes its answer has, and whether the lines go on. A row out of form ends all.
+// A line that is carried out: the header after it, the place after its answer, and whether the lines go on. A row out of form ends all.
 pub struct Done {
     pub tree: SamplerPlusTree,
     pub end: usize,
@@ -52,15 +53,24 @@ fn in_form(read: Line) -> bool
 }
 
 // Writes the answer of a row, by its reply and the lent rows.
-fn write_answer(read: Line, reply: &Reply, rows: &Rows, number: usize, out: &mut [u8]) -> usize
-    ensures { λ r. ⌜ Wrote (now (out .entry)) 0 (answerLines (opRead read) (fourOf (now (reply .entry))) (now (rows .entry)) number) r (now (out .exit)) ⌝ }
+fn write_answer(
+    read: Line,
+    reply: &Reply,
+    rows: &Rows,
+    number: usize,
+    out: &mut [u8],
+    at: usize,
+) -> usize
+    requires { ⌜ at < 10000000000 ⌝ }
+    ensures wrote { λ r. ⌜ Wrote (now (out .entry)) at (answerLines (opRead read) (fourOf (now (reply .entry))) (now (rows .entry)) number) r (now (out .exit)) ⌝ }
+    ensures fits { λ r. ⌜ r ≤ at + answerLimit ⌝ }
 {
     let numbers = [reply[0], reply[1], reply[2], reply[3]];
-    archivelines::put_answer(out, 0, op_of(read), numbers, rows, number)
+    archivelines::put_answer(out, at, op_of(read), numbers, rows, number)
 }
 
-// Carries out a line, given without its line feed, as op row `number`, and writes its answer from the buffer's front. What lies beyond the buffer's end is counted
-// and not stored.
+// Carries out a line, given without its line feed, as op row `number`, and writes its answer from a place of the buffer on, which takes at most
+// `archivelines::ANSWER` bytes. What lies beyond the buffer's end is counted and not stored.
 // Rules out an answer of the tree before the row's own call, and a row out of form after which the lines go on.
 pub fn carry_line(
     tree: SamplerPlusTree,
@@ -77,11 +87,14 @@ pub fn carry_line(
     line: &[u8],
     number: usize,
     out: &mut [u8],
+    at: usize,
 ) -> Done
-    requires { ⌜ SomeSampled tree (lent (now nodes) (now cuts) (now copies) (now free) (now boxes)) (now points) (now written) (now weights) (now held) ⌝ }
-    ensures { λ r. ⌜ LineCarries (rowOf (now (line .entry))) number
+    requires near { ⌜ at < 10000000000 ⌝ }
+    requires stands { ⌜ SomeSampled tree (lent (now nodes) (now cuts) (now copies) (now free) (now boxes)) (now points) (now written) (now weights) (now held) ⌝ }
+    ensures carries { λ r. ⌜ LineCarries (rowOf (now (line .entry))) number at
         tree (lent (now (nodes .entry)) (now (cuts .entry)) (now (copies .entry)) (now (free .entry)) (now (boxes .entry))) (now (points .entry)) (now (written .entry)) (now (weights .entry)) (now (held .entry)) (now (rows .entry)) (now (out .entry))
         r (lent (now (nodes .exit)) (now (cuts .exit)) (now (copies .exit)) (now (free .exit)) (now (boxes .exit))) (now (points .exit)) (now (written .exit)) (now (weights .exit)) (now (held .exit)) (now (rows .exit)) (now (out .exit)) ⌝ }
+    ensures fits { λ r. ⌜ r .end ≤ at + answerLimit ⌝ }
 {
     let read = archiverow::read_line(line);
     let mut reply = [0usize; REPLY];
@@ -101,7 +114,7 @@ pub fn carry_line(
         rows,
         &mut reply,
     );
-    let end = write_answer(read, &reply, rows, number, out);
+    let end = write_answer(read, &reply, rows, number, out, at);
     let goes_on = in_form(read);
     Done {
         tree: next,

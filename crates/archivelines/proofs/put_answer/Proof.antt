@@ -1,4 +1,5 @@
 -- `archivelines::put_answer` meets its contract. Assumes nothing.
+use native.Mathlib.Omega.{arith}
 use Rattle.archivelines.proofs.Answers.{answer-refused, answer-arrival, answer-report, answer-none}
 use borrow.Author.Needs.{needs}
 use Rattle.archivelines.proofs.put_answer.Statement.{statement}
@@ -17,7 +18,7 @@ same-length : tie.Need-same-length
 same-length c = search needs
 
 returns : tie.Need-returns
-returns c = answer-refused _ _ _ _ (c .before .before .before .before .if1 .taken) (c .before .before .put-refused .ensures .0)
+returns c = (answer-refused _ _ _ _ (c .before .before .before .before .if1 .taken) (c .before .before .put-refused .ensures .0), omega (arith, c .before .before .put-refused .ensures .1))
 
 put-arrival-requires : tie.Need-put-arrival-requires
 put-arrival-requires c κs = search needs
@@ -26,7 +27,7 @@ same-length-2 : tie.Need-same-length-2
 same-length-2 c = search needs
 
 returns-2 : tie.Need-returns-2
-returns-2 c = answer-arrival _ _ _ _ (c .before .before .before .before .before .if1 .left) (c .before .before .before .before .if2 .taken) (c .before .before .put-arrival .ensures)
+returns-2 c = (answer-arrival _ _ _ _ (c .before .before .before .before .before .if1 .left) (c .before .before .before .before .if2 .taken) (c .before .before .put-arrival .ensures .0), omega (arith, c .before .before .put-arrival .ensures .1))
 
 array-read-put-report : tie.Need-array-read-put-report
 array-read-put-report c = search needs
@@ -38,10 +39,10 @@ same-length-3 : tie.Need-same-length-3
 same-length-3 c = search needs
 
 returns-3 : tie.Need-returns-3
-returns-3 c = answer-report _ _ _ _ (c .before .before .before .before .before .before .before .if1 .left) (c .before .before .before .before .before .if3 .taken) (c .before .before .put-report .ensures)
+returns-3 c = (answer-report _ _ _ _ (c .before .before .before .before .before .before .before .if1 .left) (c .before .before .before .before .before .if3 .taken) (c .before .before .put-report .ensures .0), c .before .before .put-report .ensures .1)
 
 returns-4 : tie.Need-returns-4
-returns-4 c = answer-none _ _ _ _ (c .before .before .if1 .left) (c .before .if2 .left) (c .if3 .left)
+returns-4 c = (answer-none _ _ _ _ (c .before .before .if1 .left) (c .before .if2 .left) (c .if3 .left), omega arith)
 
 pub put-answer-spec : {M : Type 1} → statement M
 put-answer-spec =

@@ -1,4 +1,5 @@
 -- `archivelines::put_arrival` meets its contract. Assumes nothing.
+use native.Mathlib.Omega.{arith}
 use Rattle.archivelines.proofs.Answers.{arrival-passed, arrival-kept, arrival-evicted}
 use borrow.Author.Needs.{needs}
 use Rattle.archivelines.proofs.put_arrival.Statement.{statement}
@@ -14,7 +15,7 @@ same-length : tie.Need-same-length
 same-length c = search needs
 
 returns : tie.Need-returns
-returns c = arrival-passed _ _ (c .before .before .before .before .if1 .taken) (c .before .before .put-passed .ensures)
+returns c = (arrival-passed _ _ (c .before .before .before .before .if1 .taken) (c .before .before .put-passed .ensures .0), omega (arith, c .before .before .put-passed .ensures .1))
 
 array-read-if2 : tie.Need-array-read-if2
 array-read-if2 c = search needs
@@ -29,7 +30,7 @@ same-length-2 : tie.Need-same-length-2
 same-length-2 c = search needs
 
 returns-2 : tie.Need-returns-2
-returns-2 c = arrival-kept _ _ (c .before .before .before .before .if2 .taken) (c .before .before .put-kept .ensures)
+returns-2 c = (arrival-kept _ _ (c .before .before .before .before .if2 .taken) (c .before .before .put-kept .ensures .0), omega (arith, c .before .before .put-kept .ensures .1))
 
 array-read-put-evicted : tie.Need-array-read-put-evicted
 array-read-put-evicted c = search needs
@@ -44,7 +45,7 @@ same-length-3 : tie.Need-same-length-3
 same-length-3 c = search needs
 
 returns-3 : tie.Need-returns-3
-returns-3 c = arrival-evicted _ _ (c .before .before .before .before .before .if1 .left) (c .before .before .before .before .if2 .left) (c .before .before .put-evicted .ensures)
+returns-3 c = (arrival-evicted _ _ (c .before .before .before .before .before .if1 .left) (c .before .before .before .before .if2 .left) (c .before .before .put-evicted .ensures .0), c .before .before .put-evicted .ensures .1)
 
 pub put-arrival-spec : {M : Type 1} → statement M
 put-arrival-spec =

@@ -1,4 +1,5 @@
 -- `archivelines::put_evicted` meets its contract. Assumes nothing.
+use native.Mathlib.Omega.{arith}
 use Rattle.archivelines.specs.Answers.{evictedLine}
 use Rattle.lines.proofs.Writes.{then}
 use borrow.Author.Needs.{needs}
@@ -31,7 +32,7 @@ same-length c = search needs
 
 returns : tie.Need-returns
 unfolding evictedLine
-returns c = then (then (then (then (c .before .before .before .before .before .before .before .before .before .before .before .before .before .before .before .before .before .before .before .put-bytes .ensures) (c .before .before .before .before .before .before .before .before .before .before .before .before .before .before .before .put-field .ensures .0)) (c .before .before .before .before .before .before .before .before .before .before .put-bytes2 .ensures)) (c .before .before .before .before .before .before .put-field2 .ensures .0)) (c .before .before .put-last .ensures .0)
+returns c = (then (then (then (then (c .before .before .before .before .before .before .before .before .before .before .before .before .before .before .before .before .before .before .before .put-bytes .ensures) (c .before .before .before .before .before .before .before .before .before .before .before .before .before .before .before .put-field .ensures .0)) (c .before .before .before .before .before .before .before .before .before .before .put-bytes2 .ensures)) (c .before .before .before .before .before .before .put-field2 .ensures .0)) (c .before .before .put-last .ensures .0), omega (arith, c .before .before .before .before .before .before .before .before .before .before .before .before .before .before .before .before .before .before .before .put-bytes .ensures .next, c .before .before .before .before .before .before .before .before .before .before .before .before .before .before .before .put-field .ensures .1, c .before .before .before .before .before .before .before .before .before .before .put-bytes2 .ensures .next, c .before .before .before .before .before .before .put-field2 .ensures .1, c .before .before .put-last .ensures .1))
 
 pub put-evicted-spec : {M : Type 1} → statement M
 put-evicted-spec =

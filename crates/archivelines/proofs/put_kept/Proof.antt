@@ -1,4 +1,5 @@
 -- `archivelines::put_kept` meets its contract. Assumes nothing.
+use native.Mathlib.Omega.{arith}
 use Rattle.archivelines.specs.Answers.{keptLine}
 use Rattle.lines.proofs.Writes.{then}
 use borrow.Author.Needs.{needs}
@@ -22,7 +23,7 @@ same-length c = search needs
 
 returns : tie.Need-returns
 unfolding keptLine
-returns c = then (then (c .before .before .before .before .before .before .before .before .before .before .put-bytes .ensures) (c .before .before .before .before .before .before .put-field .ensures .0)) (c .before .before .put-last .ensures .0)
+returns c = (then (then (c .before .before .before .before .before .before .before .before .before .before .put-bytes .ensures) (c .before .before .before .before .before .before .put-field .ensures .0)) (c .before .before .put-last .ensures .0), omega (arith, c .before .before .before .before .before .before .before .before .before .before .put-bytes .ensures .next, c .before .before .before .before .before .before .put-field .ensures .1, c .before .before .put-last .ensures .1))
 
 pub put-kept-spec : {M : Type 1} → statement M
 put-kept-spec =

@@ -1,4 +1,5 @@
 -- `archivelines::put_passed` meets its contract. Assumes nothing.
+use native.Mathlib.Omega.{arith}
 use Rattle.archivelines.specs.Answers.{passedLine}
 use Rattle.lines.proofs.Writes.{then}
 use borrow.Author.Needs.{needs}
@@ -19,7 +20,7 @@ same-length c = search needs
 
 returns : tie.Need-returns
 unfolding passedLine
-returns c = then (c .before .before .before .before .before .before .put-bytes .ensures) (c .before .before .put-last .ensures .0)
+returns c = (then (c .before .before .before .before .before .before .put-bytes .ensures) (c .before .before .put-last .ensures .0), omega (arith, c .before .before .before .before .before .before .put-bytes .ensures .next, c .before .before .put-last .ensures .1))
 
 pub put-passed-spec : {M : Type 1} → statement M
 put-passed-spec =

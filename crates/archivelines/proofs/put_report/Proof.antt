@@ -42,7 +42,7 @@ same-length : tie.Need-same-length Inv-loop μ-loop
 same-length c = long (c .before .loop .inv .wrote)
 
 returns : tie.Need-returns Inv-loop μ-loop
-returns c = row-end _ (c .before .loop .inv) (c .loop-test .left) (c .before .before .at-most .ensures)
+returns c = (row-end _ (c .before .loop .inv) (c .loop-test .left) (c .before .before .at-most .ensures), omega (arith, c .before .loop .inv .few, c .before .loop .inv .within, c .before .before .at-most .ensures, c .before .before .before .before .pre .1))
 
 pub put-report-spec : {M : Type 1} → statement M
 put-report-spec =
