@@ -16,9 +16,9 @@ use Rattle.samplerplustree.specs.declared.MadeSampled.the-variants.{Tree}
 use Rattle.samplerplustree.specs.State.{SomeSampled}
 use Rattle.archivehead.specs.Head.{ArchiveMaking}
 use Rattle.archivemaking.specs.Makes.{Room, MadeBy}
-use Rattle.regrow.specs.declared.Head.{Head}
-use Rattle.regrow.specs.declared.Head.the-variants.{At}
-use Rattle.regrow.specs.Reading.{HeadEnds, Heads}
+use Rattle.regrow_text.specs.declared.Head.{Head}
+use Rattle.regrow_text.specs.declared.Head.the-variants.{At}
+use Rattle.regrow_text.specs.Reading.{HeadEnds, Heads}
 
 pub headed : {text : List ℕ} {h : Head} {a b c : ℕ} → Heads text h → h ≡ At a b c → HeadEnds text a b c
 headed w e = rw e at w

@@ -1,3 +1,2 @@
-pub mod Moving
 pub mod Growing
 pub mod Heads

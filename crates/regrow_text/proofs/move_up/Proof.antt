@@ -1,11 +1,11 @@
--- `regrow::move_up` meets its contract. Assumes nothing.
+-- `regrow_text::move_up` meets its contract. Assumes nothing.
 use mathlib.Core.Path.{_≡_, refl}
 use Prim.Native.Nat.{_-_, _≤_}
 use native.Mathlib.Omega.{arith}
-use Rattle.regrow.proofs.Moving.{Moving, move-start, move-step}
+use Rattle.regrow_text.proofs.Moving.{Moving, move-start, move-step}
 use borrow.Author.Needs.{needs}
-use Rattle.regrow.proofs.move_up.Statement.{statement}
-use Rattle.regrow.proofs.move_up.Tie as tie
+use Rattle.regrow_text.proofs.move_up.Statement.{statement}
+use Rattle.regrow_text.proofs.move_up.Tie as tie
 
 abbrev Inv-loop : tie.InvT-loop
 Inv-loop text₀ from to n i₀ text i = (i ≤ n) × Moving text₀ from text i

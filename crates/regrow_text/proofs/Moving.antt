@@ -7,9 +7,9 @@ use native.Mathlib.Numerals.{add-one}
 use native.Mathlib.Omega.{arith}
 use lib.ListN.{length, take, drop, getD, set, length-set, length-take, length-drop}
 use lib.Seq.{take-suc, take-suc-set, drop-set-lt, drop-drop, getD-drop}
-use Rattle.regrow.specs.declared.More.{More}
-use Rattle.regrow.specs.declared.More.the-variants.{To}
-use Rattle.regrow.specs.Reading.{Came, Brings, Left}
+use Rattle.regrow_text.specs.declared.More.{More}
+use Rattle.regrow_text.specs.declared.More.the-variants.{To, Ended}
+use Rattle.regrow_text.specs.Reading.{Came, Brings, ReadsOn, Left}
 
 -- i bytes from `from` on are at the front, and those from i on are as they were
 pub record Moving (before : List ℕ) (from : ℕ) (text : List ℕ) (i : ℕ) : Type 0 where
@@ -35,10 +35,16 @@ move-step {before} {from} {text} {i} w h =
       same = length-set text i (getD text (from + i) 0) ∙ w .same;
     }
 
+-- ---- what came, with the bytes that were there
 pub came : {k : ℕ} {before : List ℕ} {r : More} {after : List ℕ} {n : ℕ} → Brings k before r after → r ≡ To n → Came k before n after
 came w e = rw e at w
 
--- ---- what came, with the bytes that were there
+pub came-on : {k : ℕ} {before : List ℕ} {r : More} {after : List ℕ} {n : ℕ} → ReadsOn k before r after → r ≡ To n → Came k before n after
+came-on w e = rw e at w
+
+pub ended-on : (k : ℕ) (before : List ℕ) (r : More) (after : List ℕ) → ReadsOn k before r after → r ≡ Ended → k ≡ 0
+ended-on k before r after w e = rw e at w
+
 pub counted : (a n : ℕ) (xs : List ℕ) → a ≤ length xs → n ≤ length (take (length xs - a) (drop a xs)) → a + n ≤ length xs
 counted a n xs h l = omega (arith, simp (length-take, length-drop) at l)
 

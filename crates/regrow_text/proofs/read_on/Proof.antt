@@ -1,8 +1,8 @@
--- `regrow::read_on` meets its contract. Assumes nothing.
-use Rattle.regrow.proofs.Moving.{came, after-move}
+-- `regrow_text::read_on` meets its contract. Assumes nothing.
+use Rattle.regrow_text.proofs.Moving.{came, after-move}
 use borrow.Author.Needs.{needs}
-use Rattle.regrow.proofs.read_on.Statement.{statement}
-use Rattle.regrow.proofs.read_on.Tie as tie
+use Rattle.regrow_text.proofs.read_on.Statement.{statement}
+use Rattle.regrow_text.proofs.read_on.Tie as tie
 
 sub-if1 : tie.Need-sub-if1
 sub-if1 c = search needs

@@ -1,13 +1,13 @@
--- `regrow::read_head` meets its contract: each read brings a byte at least. Assumes nothing.
+-- `regrow_text::read_head` meets its contract: each read brings a byte at least. Assumes nothing.
 use mathlib.Core.Path.{_≡_, sym, _∙_}
 use Prim.Native.Nat.{_-_, _≤_}
 use native.Mathlib.Omega.{arith}
 use lib.ListN.{length}
 use lib.Seq.{length-take-le}
-use Rattle.regrow.proofs.Moving.{came}
+use Rattle.regrow_text.proofs.Moving.{came}
 use borrow.Author.Needs.{needs}
-use Rattle.regrow.proofs.read_head.Statement.{statement}
-use Rattle.regrow.proofs.read_head.Tie as tie
+use Rattle.regrow_text.proofs.read_head.Statement.{statement}
+use Rattle.regrow_text.proofs.read_head.Tie as tie
 
 abbrev Inv-loop : tie.InvT-loop
 Inv-loop text₀ to₀ text to = (to ≤ length text) × (length text ≡ length text₀)

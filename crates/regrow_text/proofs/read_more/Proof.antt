@@ -1,13 +1,13 @@
--- `regrow::read_more` meets its contract. Assumes nothing.
+-- `regrow_text::read_more` meets its contract. Assumes nothing.
 use mathlib.Core.Path.{_≡_}
 use Prim.Native.Nat.{_-_}
 use native.Mathlib.Omega.{arith}
 use lib.ListN.{length}
 use borrow.Rule.Slice.PartMut.{putMid, same-len-mid, take-put}
-use Rattle.regrow.proofs.Moving.{counted}
+use Rattle.regrow_text.proofs.Moving.{counted}
 use borrow.Author.Needs.{needs}
-use Rattle.regrow.proofs.read_more.Statement.{statement}
-use Rattle.regrow.proofs.read_more.Tie as tie
+use Rattle.regrow_text.proofs.read_more.Statement.{statement}
+use Rattle.regrow_text.proofs.read_more.Tie as tie
 
 sub-read : tie.Need-sub-read
 sub-read c = search needs

@@ -1,8 +1,9 @@
--- `regrow::follow` meets its contract. Assumes nothing.
-use Rattle.regrow.proofs.Moving.{came, at-front}
+-- `regrow_text::follow` meets its contract. Assumes nothing.
+use native.Mathlib.Omega.{arith}
+use Rattle.regrow_text.proofs.Moving.{came-on, ended-on, at-front}
 use borrow.Author.Needs.{needs}
-use Rattle.regrow.proofs.follow.Statement.{statement}
-use Rattle.regrow.proofs.follow.Tie as tie
+use Rattle.regrow_text.proofs.follow.Statement.{statement}
+use Rattle.regrow_text.proofs.follow.Tie as tie
 
 add-t7 : tie.Need-add-t7
 add-t7 c = search needs
@@ -26,13 +27,13 @@ same-length : tie.Need-same-length
 same-length c = search needs
 
 returns-2 : tie.Need-returns-2
-returns-2 c = at-front _ _ _ _ (c .before .before .before .before .before .before .before .if1 .left) (came (c .before .before .before .before .before .read-on .ensures) (c .before .next .given .1))
+returns-2 c = at-front _ _ _ _ (c .before .before .before .before .before .before .before .if1 .left) (came-on (c .before .before .before .before .before .read-on .ensures) (c .before .next .given .1))
 
 same-length-2 : tie.Need-same-length-2
 same-length-2 c = search needs
 
 returns-3 : tie.Need-returns-3
-returns-3 c = search needs
+returns-3 c = omega (arith, c .before .before .before .before .before .before .before .before .pre .0, ended-on _ _ (c .before .before .before .before .read-on .result) _ (c .before .before .before .before .read-on .ensures) (c .enum-told .given .1))
 
 same-length-3 : tie.Need-same-length-3
 same-length-3 c = search needs
