@@ -14,13 +14,13 @@ slice-aggregate-head : tie.Need-slice-aggregate-head
 slice-aggregate-head c = sym (length-take-le _ _ (c .before .before .pre .0))
 
 find-head-requires : tie.Need-find-head-requires
-find-head-requires c κs = search needs
+find-head-requires c κs = tt
 
 enum-told : tie.Need-enum-told
 enum-told c = search needs
 
 refuse-requires : tie.Need-refuse-requires
-refuse-requires c κs = search needs
+refuse-requires c κs = tt
 
 enum-known-a : tie.Need-enum-known-a
 enum-known-a c = search needs
@@ -29,16 +29,16 @@ slice-aggregate-is-making-names : tie.Need-slice-aggregate-is-making-names
 slice-aggregate-is-making-names c = sym (length-take-le _ _ (headed (c .before .before .before .before .find-head .ensures) (c .before .before .a .given .1) .first .most))
 
 is-making-names-requires : tie.Need-is-making-names-requires
-is-making-names-requires c κs = search needs
+is-making-names-requires c κs = tt
 
 refuse-requires-2 : tie.Need-refuse-requires-2
-refuse-requires-2 c κs = search needs
+refuse-requires-2 c κs = tt
 
 same-length : tie.Need-same-length
 same-length c = search needs
 
 returns : tie.Need-returns
-returns c = search needs
+returns c = tt
 
 add-is-row-names : tie.Need-add-is-row-names
 add-is-row-names c =
@@ -56,16 +56,16 @@ part-is-row-names-end : tie.Need-part-is-row-names-end
 part-is-row-names-end c = headed (c .before .before .before .before .before .before .find-head .ensures) (c .before .before .before .before .a .given .1) .third .most
 
 is-row-names-requires : tie.Need-is-row-names-requires
-is-row-names-requires c κs = search needs
+is-row-names-requires c κs = tt
 
 refuse-requires-3 : tie.Need-refuse-requires-3
-refuse-requires-3 c κs = search needs
+refuse-requires-3 c κs = tt
 
 same-length-2 : tie.Need-same-length-2
 same-length-2 c = search needs
 
 returns-2 : tie.Need-returns-2
-returns-2 c = search needs
+returns-2 c = tt
 
 add-make-and-grow : tie.Need-add-make-and-grow
 add-make-and-grow c =
@@ -89,13 +89,13 @@ same-length-3 : tie.Need-same-length-3
 same-length-3 c = search needs
 
 returns-3 : tie.Need-returns-3
-returns-3 c = search needs
+returns-3 c = tt
 
 same-length-4 : tie.Need-same-length-4
 same-length-4 c = search needs
 
 returns-4 : tie.Need-returns-4
-returns-4 c = search needs
+returns-4 c = tt
 
 pub begin-spec : {M : Type 1} → statement M
 begin-spec =

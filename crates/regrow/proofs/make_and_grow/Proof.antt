@@ -9,10 +9,10 @@ use Rattle.regrow.proofs.make_and_grow.Statement.{statement}
 use Rattle.regrow.proofs.make_and_grow.Tie as tie
 
 no-points-requires : tie.Need-no-points-requires
-no-points-requires c κs = search needs
+no-points-requires c κs = tt
 
 no-marks-requires : tie.Need-no-marks-requires
-no-marks-requires c κs = search needs
+no-marks-requires c κs = tt
 
 sub-make : tie.Need-sub-make
 sub-make c = search needs
@@ -24,22 +24,22 @@ part-make-end : tie.Need-part-make-end
 part-make-end c = search needs
 
 make-requires : tie.Need-make-requires
-make-requires c κs = search needs
+make-requires c κs = tt
 
 enum-known-made : tie.Need-enum-known-made
 enum-known-made c = search needs
 
 wide8-requires : tie.Need-wide8-requires
-wide8-requires c κs = search needs
+wide8-requires c κs = tt
 
 refuse-requires : tie.Need-refuse-requires
-refuse-requires c κs = search needs
+refuse-requires c κs = tt
 
 enum-known-made-2 : tie.Need-enum-known-made-2
 enum-known-made-2 c = search needs
 
 large-buffer-requires : tie.Need-large-buffer-requires
-large-buffer-requires c κs = search needs
+large-buffer-requires c κs = tt
 
 slice-aggregate-grow : tie.Need-slice-aggregate-grow
 slice-aggregate-grow c = search needs
@@ -53,13 +53,13 @@ same-length : tie.Need-same-length
 same-length c = search needs
 
 returns : tie.Need-returns
-returns c = search needs
+returns c = tt
 
 same-length-2 : tie.Need-same-length-2
 same-length-2 c = search needs
 
 returns-2 : tie.Need-returns-2
-returns-2 c = search needs
+returns-2 c = tt
 
 pub make-and-grow-spec : {M : Type 1} → statement M
 make-and-grow-spec =
