@@ -40,6 +40,10 @@ Follows k before (Part from to) after = Left k before from to after
 Follows k before NextEnded after = k ≡ 0
 Follows k before NextFailed after = Unit {0}
 
+-- where a batch read something nothing more is read: what it left is next, where it stands
+abbrev pub Stays : (from to read : ℕ) → List ℕ → Next → List ℕ → Type 0
+Stays from to read before r after = 0 < read → (r ≡ Part (from + read) to) × (after ≡ before)
+
 -- the first three lines of a text end at line feeds, bytes 10, in it
 pub record HeadEnds (text : List ℕ) (a b c : ℕ) : Type 0 where
   pub first : PieceEnds 10 text 0 a

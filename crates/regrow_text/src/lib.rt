@@ -4,7 +4,7 @@ use libc::STDIN_FILENO;
 ghost use mathlib.Core.Path.{_≡_};
 ghost use Prim.Native.Nat.{_+_, _-_, _≤_, _<_};
 ghost use lib.ListN.{length, take, drop};
-ghost use Rattle.regrow_text.specs.Reading.{Brings, ReadsOn, Follows, Heads};
+ghost use Rattle.regrow_text.specs.Reading.{Brings, ReadsOn, Stays, Follows, Heads};
 
 // The first three lines have fewer bytes, if they are in form.
 const HEAD: usize = 120;
@@ -136,10 +136,11 @@ fn read_on(text: &mut [u8], from: usize, to: usize) -> More
 }
 
 // What follows a batch that read so many of the bytes between two places: what it left, or where it read none more of the archive.
-// Rules out a byte that is left lost or moved by one, and an archive that is cut off within a line taken for one that ends.
+// Rules out a wait for more while whole lines are left, and an archive that is cut off within a line taken for one that ends.
 pub fn follow(text: &mut [u8], from: usize, to: usize, read: usize) -> Next
     requires { ⌜ (from + read ≤ to) × (to ≤ length (now text)) × (8192 ≤ length (now text)) ⌝ }
-    ensures { λ r. ⌜ Follows (to - (from + read)) (drop (from + read) (now (text .entry))) r (now (text .exit)) ⌝ }
+    ensures stays { λ r. ⌜ Stays from to read (now (text .entry)) r (now (text .exit)) ⌝ }
+    ensures follows { λ r. ⌜ Follows (to - (from + read)) (drop (from + read) (now (text .entry))) r (now (text .exit)) ⌝ }
 {
     if read > 0 {
         return Next::Part(from + read, to);

@@ -119,7 +119,7 @@ loop-again : tie.Need-loop-again Inv-loop μ-loop
 loop-again c =
     let l = c .before .before .before .before .before .before .before .before .before .before .before .before .before .before .before .before .before .before .before .before .before .before .before .before .before .before .before .before .before .before .loop in
     let y = c .before .before .before .before .before .before .before .before .before .before .before .before .before .before .before .carry-lines in
-    let w = part (c .before .before .before .before .before .follow .ensures) (c .before .start .given .1) in
+    let w = part (c .before .before .before .before .before .follow .ensures .1) (c .before .start .given .1) in
     let r = simp (length-take, length-drop) at (y .ensures .1 .0) in (
       omega (arith, w .more),
       w .most,

@@ -1,4 +1,5 @@
 -- `regrow_text::follow` meets its contract. Assumes nothing.
+use mathlib.Core.Path.{refl}
 use native.Mathlib.Omega.{arith}
 use Rattle.regrow_text.proofs.Moving.{came-on, ended-on, at-front}
 use borrow.Author.Needs.{needs}
@@ -9,7 +10,7 @@ add-t7 : tie.Need-add-t7
 add-t7 c = search needs
 
 returns : tie.Need-returns
-returns c = search needs
+returns c = (λ h. (refl, refl), search needs)
 
 read-on-requires : tie.Need-read-on-requires
 read-on-requires c κs = search needs
@@ -27,19 +28,19 @@ same-length : tie.Need-same-length
 same-length c = search needs
 
 returns-2 : tie.Need-returns-2
-returns-2 c = at-front _ _ _ _ (c .before .before .before .before .before .before .before .if1 .left) (came-on (c .before .before .before .before .before .read-on .ensures) (c .before .next .given .1))
+returns-2 c = (λ h. absurd (omega (arith, c .before .before .before .before .before .before .before .if1 .left)), at-front _ _ _ _ (c .before .before .before .before .before .before .before .if1 .left) (came-on (c .before .before .before .before .before .read-on .ensures) (c .before .next .given .1)))
 
 same-length-2 : tie.Need-same-length-2
 same-length-2 c = search needs
 
 returns-3 : tie.Need-returns-3
-returns-3 c = omega (arith, c .before .before .before .before .before .before .before .before .pre .0, ended-on _ _ (c .before .before .before .before .read-on .result) _ (c .before .before .before .before .read-on .ensures) (c .enum-told .given .1))
+returns-3 c = (λ h. absurd (omega (arith, c .before .before .before .before .before .before .if1 .left)), omega (arith, c .before .before .before .before .before .before .before .before .pre .0, ended-on _ _ (c .before .before .before .before .read-on .result) _ (c .before .before .before .before .read-on .ensures) (c .enum-told .given .1)))
 
 same-length-3 : tie.Need-same-length-3
 same-length-3 c = search needs
 
 returns-4 : tie.Need-returns-4
-returns-4 c = search needs
+returns-4 c = (λ h. absurd (omega (arith, c .before .before .before .before .before .before .if1 .left)), tt)
 
 pub follow-spec : {M : Type 1} → statement M
 follow-spec =
