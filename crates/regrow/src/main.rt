@@ -20,6 +20,8 @@ use regrow_text::Head;
 use regrow_text::Next;
 use samplerplustree::MadeSampled;
 use samplerplustree::SamplerPlusTree;
+ghost use mathlib.Core.Path.{_≡_};
+ghost use mathlib.Core.Bool.{true};
 ghost use Prim.Native.Nat.{_≤_, _<_};
 ghost use lib.ListN.{length};
 ghost use Rattle.treestore.specs.Arrays.{lent};
@@ -37,6 +39,16 @@ fn refuse(number: usize, row: usize) {
     let mut line = [0u8; 64];
     let n = lines::put_refused(&mut line, 0, number, row);
     io::write_all(STDOUT_FILENO, &line[..n]);
+}
+
+// Writes answers; whether the rows go on, which they do not where an answer can't be written.
+fn tell(answers: &[u8], goes_on: bool) -> bool
+    ensures { λ r. ⌜ (r ≡ true → «goes_on» ≡ true) ⌝ }
+{
+    if !io::write_all(STDOUT_FILENO, answers) {
+        return false;
+    }
+    goes_on
 }
 
 // The archive's end: the sample and the tree.
@@ -102,10 +114,7 @@ fn grow(
         current = left;
         number = batch.number;
         let end = batch.end;
-        if !io::write_all(STDOUT_FILENO, &out[..end]) {
-            return;
-        }
-        if !batch.goes_on {
+        if !tell(&out[..end], batch.goes_on) {
             return;
         }
         match regrow_text::follow(text, from, to, batch.read) {
