@@ -2,31 +2,28 @@
 use mathlib.Core.Path.{_≡_, refl, sym, ap, _∙_}
 use mathlib.Core.Bool.{Bool, true, false, cond}
 use mathlib.Core.List.{List, [], _∷_, _++_, append-assoc, append-nil}
-use Prim.Native.Nat.{ℕ, suc, _+_, _-_, _≤_, _<_}
-use native.Mathlib.Nat.{add-zero}
+use Prim.Native.Nat.{ℕ, _+_, _-_, _≤_, _<_}
 use native.Mathlib.Omega.{arith}
 use borrow.Author.Tests.{lt-ltb, le-ltb}
-use lib.Dec.{ltb}
 use lib.Ieee.{Float}
 use lib.ListN.{length, take, drop, length-append, length-take, length-drop}
-use Rattle.text.specs.Pieces.{pieces, piecesFrom, PieceEnds}
+use Rattle.text.specs.Pieces.{piecesFrom, PieceEnds}
 use Rattle.text.proofs.Pieces.{from-zero, from-first, from-past, from-some}
 use Rattle.wholetree.specs.Whole.{whole}
 use Rattle.sampledtree.specs.Sampled.{Sampled}
 use Rattle.treestore.specs.Arrays.{Lent}
 use Rattle.samplerplustree.specs.declared.SamplerPlusTree.{SamplerPlusTree}
 use Rattle.samplerplustree.specs.State.{SampledState, SomeSampled}
-use Rattle.lines.specs.Lines.{Wrote}
 use Rattle.lines.proofs.Writes.{then}
-use Rattle.archiverow.specs.Rows.{ArchiveRow, rowOf}
+use Rattle.archiverow.specs.Rows.{rowOf}
 use Rattle.archivecalls.specs.Carried.{rowLeaves}
 use Rattle.archivelines.specs.Answers.{answerLimit}
 use Rattle.regrow_line.specs.declared.Done.{Done}
 use Rattle.regrow_line.specs.Answered.{answered, inForm, LineDone}
-use Rattle.regrow_line.specs.Archive.{rowsOf, rowsLeave, printed}
+use Rattle.regrow_line.specs.Archive.{rowsOf, rowsLeave}
 use Rattle.regrow_lines.specs.declared.Batch.{Batch}
-use Rattle.regrow_lines.specs.Batch.{linesFrom, linesIn, ended, allInForm, reportsLeft, LinesDone}
-use Rattle.regrow_lines.proofs.Joins.{leave-both, reports-both, rows-both, form-both, ended-both, in-parts}
+use Rattle.regrow_lines.specs.Batch.{linesFrom, linesIn, allInForm, LinesDone}
+use Rattle.regrow_lines.proofs.Joins.{reports-both, rows-both, form-both, ended-both, in-parts}
 
 -- ---- one line
 row-alone : (l : List ℕ) → rowsOf (l ∷ []) ≡ rowOf l ∷ []

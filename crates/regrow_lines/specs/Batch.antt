@@ -7,6 +7,7 @@ use Prim.Native.Nat.{ℕ, _+_}
 use lib.Dec.{ltb}
 use lib.ListN.{length, drop}
 use lib.Ieee.{Float}
+use Rattle.text.specs.Quoted.{bytes}
 use Rattle.text.specs.Pieces.{pieces}
 use Rattle.wholetree.specs.Whole.{whole}
 use Rattle.sampledtree.specs.Sampled.{Sampled}
@@ -40,6 +41,9 @@ module _ (d : ℕ) (s : Float) (size : ℕ) where
 abbrev pub ended : List (List ℕ) → List ℕ
 ended [] = []
 ended (l ∷ ls) = l ++ 10 ∷ ended ls
+
+two-lines : ended (bytes "0 7 5" ∷ bytes "4 - 8" ∷ []) ≡ bytes "0 7 5\n4 - 8\n"
+two-lines = refl
 
 -- whether all lines are rows in form
 abbrev pub allInForm : List (List ℕ) → Bool
