@@ -15,6 +15,7 @@ use Rattle.cuttree.specs.Tree.{Tree, leaf, branch, id, height, walk}
 use Rattle.cuttree.proofs.Tests.{by-cond, by-test}
 use Rattle.cuttree.proofs.Steps.{toward, aside, height-step}
 use Rattle.cuttree.proofs.Leaves.{walk-leaves}
+use Rattle.cuttree.proofs.Nodes.{In, here, left, right, in-trans}
 use Rattle.wholetree.specs.Reading.{Reading, coordinate}
 use Rattle.wholetree.specs.Whole.{whole}
 use Rattle.wholetree.proofs.Readings.{coordinate-is}
@@ -44,6 +45,7 @@ module _ (c : ℕ) (N : List (List ℕ)) (C P : List Float) where
     pub record Reaching (t : Tree (whole d)) (path : List (List ℕ)) (n node : ℕ) : Type 0 where
       pub long : length path ≡ capacityLimit
       pub at : Tree (whole d)
+      pub inside : In (whole d) at t
       pub rows : Laid d c (rowOf d c) (λ (j : ℕ). getD N j []) at
       pub values : Laid d c (cutOf d c) (λ (j : ℕ). getD C j nan) at
       pub in-range : InRange d c at
@@ -56,6 +58,7 @@ module _ (c : ℕ) (N : List (List ℕ)) (C P : List Float) where
     start root path t n w = record {
       long = length-set path 0 _ ∙ n;
       at = t;
+      inside = here;
       rows = w .rows;
       values = w .values;
       in-range = w .in-range;
@@ -81,12 +84,12 @@ module _ (c : ℕ) (N : List (List ℕ)) (C P : List Float) where
       pub next : Reaching t (set path n (stepOf N C P node)) (n + 1) (nodeOf (stepOf N C P node))
 
     pub turn : (t : Tree (whole d)) (path : List (List ℕ)) (n node : ℕ) → c ≤ capacityLimit → P ≡ p .row → Reaching t path n node → node < c → Turn t path n node
-    turn t path n node m e w lt = go (w .at) (w .rows) (w .values) (w .in-range) (w .node-is) (w .count) (w .written)
+    turn t path n node m e w lt = go (w .at) (w .inside) (w .rows) (w .values) (w .in-range) (w .node-is) (w .count) (w .written)
       where
-        go : (u : Tree (whole d)) → Laid d c (rowOf d c) (λ (j : ℕ). getD N j []) u → Laid d c (cutOf d c) (λ (j : ℕ). getD C j nan) u → InRange d c u → node ≡ id (whole d) c u →
+        go : (u : Tree (whole d)) → In (whole d) u t → Laid d c (rowOf d c) (λ (j : ℕ). getD N j []) u → Laid d c (cutOf d c) (λ (j : ℕ). getD C j nan) u → InRange d c u → node ≡ id (whole d) c u →
             n + height (whole d) u p ≡ walk (whole d) t p → take n path ++ rest u ≡ trail d c t p → Turn t path n node
-        go (leaf i q x) h v f a k g = absurd (omega arith)
-        go (branch b k x l r) h v f a j g =
+        go (leaf i q x) y h v f a k g = absurd (omega arith)
+        go (branch b k x l r) y h v f a j g =
             let s = step-is b k x l r node a e h v (f .1) in
             let u = toward (whole d) k p l r in
             let hs = height-step (whole d) b k x l r p in
@@ -97,6 +100,7 @@ module _ (c : ℕ) (N : List (List ℕ)) (C P : List Float) where
               next = rw s (record {
                 long = length-set path n _ ∙ w .long;
                 at = u;
+                inside = in-trans (whole d) (by-cond (λ v. In (whole d) v (branch b k x l r)) (below (whole d) k p) l r (λ _. left here) (λ _. right here)) y;
                 rows = by-cond (Laid d c (rowOf d c) (λ (j : ℕ). getD N j [])) (below (whole d) k p) l r (λ _. h .1) (λ _. h .2);
                 values = by-cond (Laid d c (cutOf d c) (λ (j : ℕ). getD C j nan)) (below (whole d) k p) l r (λ _. v .1) (λ _. v .2);
                 in-range = by-cond (InRange d c) (below (whole d) k p) l r (λ _. f .2) (λ _. f .3);

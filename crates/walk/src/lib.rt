@@ -10,12 +10,13 @@ ghost use mathlib.Core.Path.{_≡_};
 ghost use mathlib.Core.Bool.{cond};
 ghost use mathlib.Core.List.{[], _∷_};
 ghost use Prim.Native.Nat.{ℕ, _+_, _*_, _<_, _≤_};
-ghost use lib.ListN.{length, drop};
+ghost use lib.ListN.{length, drop, set};
 ghost use Rattle.limits.specs.Limits.{width, capacityLimit, branchLimit};
 ghost use Rattle.cuttree.specs.Tree.{Tree, ending};
 ghost use Rattle.wholetree.specs.Reading.{Reading, sameRow};
 ghost use Rattle.wholetree.specs.Whole.{whole};
 ghost use Rattle.layout.specs.Slots.{field};
+ghost use Rattle.layout.specs.Stands.{noSibling};
 ghost use Rattle.walk.specs.Walks.{stepOf, Walks, SomeWalks, Walked, SomeWalked};
 
 // The root stands in a path with this in place of a sibling.
@@ -52,7 +53,8 @@ fn in_turn(straight: bool, a: u16, b: u16) -> [u16; 2]
 }
 
 // The side that the point goes to, and the other.
-fn step_at(nodes: &Nodes, cuts: &Cuts, point: &Row, i: usize) -> [u16; 2]
+// Rules out a point that equals the cut's value on the right, and the sides with the point's own second.
+pub fn step_at(nodes: &Nodes, cuts: &Cuts, point: &Row, i: usize) -> [u16; 2]
     requires { ⌜ i < branchLimit ⌝ }
     requires { ⌜ field (now nodes) i 3 < width ⌝ }
     ensures { λ r. ⌜ r ≡ stepOf (now (nodes .entry)) (now (cuts .entry)) (now (point .entry)) i ⌝ }
@@ -61,6 +63,16 @@ fn step_at(nodes: &Nodes, cuts: &Cuts, point: &Row, i: usize) -> [u16; 2]
     let left = nodes[i][0];
     let right = nodes[i][1];
     in_turn(point[d] <= cuts[i], left, right)
+}
+
+// A path begins with the root, which has no sibling.
+// Rules out the root in place of its sibling, and a row beyond the first written.
+pub fn begin(path: &mut Path, root: u16)
+    ensures whole { λ _. ⌜ length (now (path .entry)) ≡ capacityLimit ⌝ }
+    ensures root { λ _. ⌜ now (path .exit) ≡ set (now (path .entry)) 0 (root ∷ noSibling ∷ []) ⌝ }
+{
+    path_length(path);
+    path[0] = [root, NO_SIBLING];
 }
 
 // The nodes from the root to the leaf, each with its sibling; the root has none. The rows after the walk's stay as they are.
@@ -77,8 +89,7 @@ pub fn set_path(
     ensures walked { λ r. ⌜ ((d : ℕ) (t : Tree (whole d)) (p : Reading) → Walks d capacity (now (nodes .entry)) (now (cuts .entry)) (now (point .entry)) root t p → Walked d capacity (now (path .exit)) r t p) ⌝ }
     ensures rest { λ r. ⌜ drop r (now (path .exit)) ≡ drop r (now (path .entry)) ⌝ }
 {
-    path_length(path);
-    path[0] = [root, NO_SIBLING];
+    begin(path, root);
     let mut n: usize = 1;
     let mut node = root;
     while node < capacity {

@@ -1,12 +1,9 @@
 -- `set_path` meets its contract: at each turn the walk of every tree that stands has come to the node (`Reaching`). Assumes nothing.
-use mathlib.Core.List.{[], _∷_}
-use lib.ListN.{set}
-use mathlib.Core.Path.{_≡_, refl, _∙_}
+use mathlib.Core.Path.{_≡_, refl, ap, _∙_}
 use Prim.Native.Nat.{ℕ, _-_, _≤_}
 use native.Mathlib.Omega.{arith}
 use lib.ListN.{drop}
 use lib.Seq.{drop-set-lt}
-use Rattle.layout.specs.Stands.{noSibling}
 use Rattle.limits.specs.Limits.{capacityLimit}
 use Rattle.cuttree.specs.Tree.{Tree}
 use Rattle.wholetree.specs.Reading.{Reading}
@@ -25,11 +22,8 @@ Inv-loop nodes cuts point root capacity path₀ n₀ node₀ path n node =
 abbrev μ-loop : tie.MeasureT-loop
 μ-loop nodes cuts point root capacity path₀ n₀ node₀ path n node = capacityLimit - n
 
-path-length-requires : tie.Need-path-length-requires Inv-loop μ-loop
-path-length-requires c κs = search needs
-
-element-set-from-path : tie.Need-element-set-from-path Inv-loop μ-loop
-element-set-from-path c = search needs
+begin-requires : tie.Need-begin-requires Inv-loop μ-loop
+begin-requires c κs = search needs
 
 -- what is known in a turn
 here : (c : tie.In-loop Inv-loop μ-loop) → Turn (c .before .before .before .before .args .capacity) (c .before .before .before .before .args .nodes .now) (c .before .before .before .before .args .cuts .now) (c .before .before .before .before .args .point .now)
@@ -39,7 +33,7 @@ here c =
     turn _ _ _ _ _ _ _ _ _ _ (w .0) (w .3 .walks .point-is) (w .4 _ _ _ (w .3 .walks)) (c .loop-test .taken)
 
 loop-holds : tie.Need-loop-holds Inv-loop μ-loop
-loop-holds c = (search needs, search needs, refl, c .before .before .pre .1, λ d t p w. start _ _ _ _ d p _ (c .before .before .args .path .now) t (c .path-length .ensures) w)
+loop-holds c = (search needs, search needs, refl, c .before .before .pre .1, λ d t p w. rw (c .begin .ensures .1) (start _ _ _ _ d p _ (c .before .before .args .path .now) t (c .begin .ensures .0) w))
 
 wide16-requires : tie.Need-wide16-requires Inv-loop μ-loop
 wide16-requires c κs = search needs
@@ -49,11 +43,11 @@ step-at-requires c κs =
     let t = here (c .before) in
     (omega (arith, c .wide16 .ensures .0, c .before .before .loop .inv .0, t .small), rw (c .wide16 .ensures .0) (t .chan))
 
-mul-t17 : tie.Need-mul-t17 Inv-loop μ-loop
-mul-t17 c = let t = here (c .before .before) in omega (arith, t .room, c .before .before .before .loop .inv .0)
+mul-t14 : tie.Need-mul-t14 Inv-loop μ-loop
+mul-t14 c = let t = here (c .before .before) in omega (arith, t .room, c .before .before .before .loop .inv .0)
 
-element-set-from-path-2 : tie.Need-element-set-from-path-2 Inv-loop μ-loop
-element-set-from-path-2 c = let t = here (c .before .before) in omega (arith, t .room, c .before .before .before .loop .inv .0)
+element-set-from-path : tie.Need-element-set-from-path Inv-loop μ-loop
+element-set-from-path c = let t = here (c .before .before) in omega (arith, t .room, c .before .before .before .loop .inv .0)
 
 array-read-node : tie.Need-array-read-node Inv-loop μ-loop
 array-read-node c = search needs
@@ -67,11 +61,10 @@ loop-less c = let t = here (c .before .before) in omega (arith, t .room, c .befo
 loop-again : tie.Need-loop-again Inv-loop μ-loop
 loop-again c =
     let w = c .before .before .before .loop .inv in
-    let l = c .before .before .before .loop in
-    let a = c .before .before .before .before .before .before .args in (
+    let l = c .before .before .before .loop in (
       w .0,
       omega arith,
-      drop-next (l .path) (l .n) _ (set (a .path .now) 0 (a .root ∷ noSibling ∷ [])) (w .2),
+      drop-next (l .path) (l .n) _ _ (w .2),
       w .3,
       λ d t p g. rw (c .step-at .ensures, c .before .wide16 .ensures .0) (turn _ _ _ _ d p t _ _ _ (w .0) (g .point-is) (w .4 d t p g) (c .before .before .loop-test .taken) .next),
     )
@@ -79,7 +72,7 @@ loop-again c =
 returns : tie.Need-returns Inv-loop μ-loop
 returns c =
     let w = c .before .loop .inv in
-    ((λ d t p g. arrived _ _ _ _ d p t _ _ _ (w .0) (w .4 d t p g) (c .loop-test .left)), w .2 ∙ drop-set-lt _ _ 0 _ (w .1))
+    ((λ d t p g. arrived _ _ _ _ d p t _ _ _ (w .0) (w .4 d t p g) (c .loop-test .left)), w .2 ∙ ap (drop (c .before .loop .n)) (c .before .before .begin .ensures .1) ∙ drop-set-lt _ _ 0 _ (w .1))
 
 pub set-path-spec : {M : Type 1} → statement M
 set-path-spec =
@@ -87,13 +80,12 @@ set-path-spec =
     (tie.spec
     Inv-loop
     μ-loop
-    path-length-requires
-    element-set-from-path
+    begin-requires
     loop-holds
     wide16-requires
     step-at-requires
-    mul-t17
-    element-set-from-path-2
+    mul-t14
+    element-set-from-path
     array-read-node
     add-n
     loop-less
