@@ -1,4 +1,4 @@
--- The loop when m rows are written: those rows, and the box of the node that it comes from, whichever tree stands in the arrays; where it starts, each way on, and its end. Assumes nothing.
+-- The loop when m rows are written: those rows, and the box of the node that it comes from unless that is cached, whichever tree stands in the arrays; where it starts, the way on, and its end. Assumes nothing.
 use mathlib.Core.Path.{_≡_, refl, sym, ap, _∙_, subst}
 use mathlib.Core.Bool.{cond}
 use mathlib.Core.List.{List, [], _∷_, _++_}
@@ -8,8 +8,7 @@ use native.Mathlib.Omega.{arith}
 use lib.Dec.{ltb, ltb→lt, nltb→le}
 use lib.ListN.{length, getD, set, drop, length-set}
 use lib.Seq.{drop-set-lt}
-use lib.Ieee.{Float, binary64, toBits}
-use borrow.Table.Steps.{cases as by-test}
+use lib.Ieee.{Float, nan, binary64, toBits}
 use Rattle.limits.specs.Limits.{width}
 use Rattle.readings.specs.Number.{nought}
 use Rattle.readings.proofs.Tests.{yes, no}
@@ -18,6 +17,7 @@ use Rattle.cut.specs.Sums.{one}
 use Rattle.boundingbox.specs.declared.BoundingBox.{BoundingBox}
 use Rattle.probability.specs.Probability.{probability}
 use Rattle.cuttree.specs.Tree.{Tree, id, walk, ending}
+use Rattle.cuttree.proofs.Tests.{by-test, cond-true, cond-false}
 use Rattle.cuttree.specs.Walk.{sub, sibling}
 use Rattle.wholetree.specs.Reading.{Reading, sameRow}
 use Rattle.wholetree.specs.Whole.{whole, tab}
@@ -31,9 +31,10 @@ use Rattle.boxstore.specs.Boxed.{SomeBoxed}
 use Rattle.boxstore.specs.Grown.{GrownBy}
 use Rattle.boxstore.specs.Written.{lowIn, highIn}
 use Rattle.boxstore.proofs.Siblings.{sibling-is, At, some-sibling, grow-up}
-use Rattle.nodeview.specs.Report.{rowAt}
+use Rattle.nodeview.specs.Report.{chance, rowAt}
 use Rattle.nodeview.specs.Told.{numbersOf}
-use Rattle.nodeview.specs.Writing.{Writing, Writes}
+use Rattle.nodeview.specs.Walking.{Chanced}
+use Rattle.nodeview.specs.Writing.{endOr, Writing, Writes}
 use Rattle.nodeview.proofs.Fronts.{map-tab, front, front-next}
 use Rattle.nodeview.proofs.Nodes as Nodes
 
@@ -54,12 +55,16 @@ module _ (c k : ℕ) (nodes : List (List ℕ)) (copies : List ℕ) (points : Lis
     pub within : m ≤ len
     pub room : len ≤ length lent
     pub long : length rows ≡ length lent
-    pub box : Boxes (m - 1) b
+    pub box : k ≤ field path (len - m) 0 → Boxes (m - 1) b
     pub written : (d : ℕ) (t : Tree (whole d)) (p : Reading) → In d t p → rows ≡ front (numbers d t p) m lent
 
-  -- the box of the node of height m, in row i of the path, where it is cached
-  read-box : (i m : ℕ) → i + m + 1 ≡ len → (o : ℕ) → o ≡ field path i 0 → 0 < m → o < k → (b : BoundingBox) → b .«min_values» ≡ lowIn boxes o → b .«max_values» ≡ highIn boxes o → Boxes m b
-  read-box i m e o f z l b x y d t p w = Nodes.cached-at w i m e o f z l b x y
+  -- the box of the node o, of height m and in row i of the path: the one kept where it is cached, else the one given
+  abbrev pub boxOr : ℕ → BoundingBox → BoundingBox
+  boxOr o b = record { «min_values» = endOr k o (lowIn boxes o) (b .«min_values»); «max_values» = endOr k o (highIn boxes o) (b .«max_values») }
+
+  read-box : (i m : ℕ) → i + m + 1 ≡ len → (o : ℕ) → o ≡ field path i 0 → (b : BoundingBox) → (k ≤ o → Boxes m b) → Boxes m (boxOr o b)
+  read-box i m e o f b B d t p w =
+      by-test (ltb o k) (λ x. Nodes.cached-at w i m e o f (ltb→lt o k (yes x)) (boxOr o b) (cond-true _ _ _ x) (cond-true _ _ _ x)) (λ x. rw x (B (nltb→le o k (no x)) d t p w))
 
   -- the box of the node of height m, from that of the node below it on the walk and its sibling
   module _ (m : ℕ) (z : 0 < m) (h : m < len) (node : ℕ) (f : node ≡ getD (getD path (len - 1 - (m - 1)) []) 1 0) where
@@ -74,11 +79,9 @@ module _ (c k : ℕ) (nodes : List (List ℕ)) (copies : List ℕ) (points : Lis
         let e : suc (m - 1) ≡ m = omega arith in
         subst (λ n. At d c p t n b′) e (grow-up d c p k nodes points boxes (m - 1) t (omega (arith, w .walked .count)) (w .boxed) node (side w) b b′ (B d t p w) g)
 
-  -- the same box, as `ends_above` gives it from that of the node below
-  pub box-above : (i m : ℕ) → i + m + 1 ≡ len → (o : ℕ) → o ≡ field path i 0 → 0 < m → m < len → (node : ℕ) → node ≡ getD (getD path (len - 1 - (m - 1)) []) 1 0 → (b b′ : BoundingBox) → Boxes (m - 1) b
-      → (o < k → (b′ .«min_values» ≡ lowIn boxes o) × (b′ .«max_values» ≡ highIn boxes o)) → (k ≤ o → GrownBy c k node nodes points boxes b b′) → Boxes m b′
-  box-above i m e o f z h node g b b′ B r q =
-      by-test (ltb o k) (λ t. let x = r (ltb→lt o k (yes t)) in read-box i m e o f z (ltb→lt o k (yes t)) b′ (x .0) (x .1)) (λ t. grown-box m z h node g b b′ B (q (nltb→le o k (no t))))
+    -- the same box, as `ends_above` gives it from that of the node below
+    pub box-above : (o : ℕ) → o ≡ field path (len - m) 0 → (b b′ : BoundingBox) → (k ≤ field path (len - m) 0 → Boxes (m - 1) b) → GrownBy c k node nodes points boxes (boxOr o b) b′ → Boxes m b′
+    box-above o g b b′ B q = grown-box (boxOr o b) b′ (read-box (len - m) (m - 1) (omega arith) o g b (λ l. B (omega (arith, g)))) q
 
   -- box and query are coordinates
   pub box-readings : (m : ℕ) (b : BoundingBox) → Boxes m b → {d : ℕ} {t : Tree (whole d)} {p : Reading} → In d t p → Readings (b .«min_values») (b .«max_values») point width
@@ -95,7 +98,7 @@ module _ (c k : ℕ) (nodes : List (List ℕ)) (copies : List ℕ) (points : Lis
       within = some;
       room = omega (arith, length-set lent 0 x);
       long = refl;
-      box = B;
+      box = λ _. B;
       written = λ d t p w.
           ap (set lent 0) (r ∙ Nodes.row-is w i 0 e o f y _ g (Nodes.leaf-chance w j (l d t p (w .walked)))) ∙ front-next [] (numbers d t p) 0 lent (omega arith)
           ∙ ap (λ y. numbers d t p 0 ∷ y) (sym (drop-set-lt 1 lent 0 x (omega arith)));
@@ -109,18 +112,25 @@ module _ (c k : ℕ) (nodes : List (List ℕ)) (copies : List ℕ) (points : Lis
         ∙ ap (λ y. tab m (numbers d t p) ++ y) (ap (λ n. drop n (set lent 0 x)) l ∙ drop-set-lt len lent 0 x some)
         ∙ ap (λ y. y ++ drop len lent) (ap (λ n. tab n (numbers d t p)) e ∙ sym (map-tab numbersOf (walk (whole d) t p) (rowAt d c t p)))
 
-  -- the way on by the row of the branch of height m, whose id is o and whose box is b′
-  module _ (m : ℕ) (b : BoundingBox) (lent rows : List (List ℕ)) (G : Going m b lent rows) (h : m < len) where
-    pub going-on : (i : ℕ) → i + m + 1 ≡ len → (o : ℕ) → o ≡ field path i 0 → (b′ : BoundingBox) → Boxes m b′
-        → (y : ℕ) → y ≡ massAt c nodes copies o → (x : List ℕ) → x ≡ o ∷ i ∷ y ∷ toBits binary64 (probability (b′ .«min_values») (b′ .«max_values») point width) ∷ []
-        → Going (m + 1) b′ lent (set rows m x)
-    going-on i e o f b′ B y g x r =
+  -- the way on by the row of the branch of height m, whose id is o and whose box is b′ unless it is cached
+  module _ (chances : List Float) (K : Chanced k boxes point path len chances) (m : ℕ) (b : BoundingBox) (lent rows : List (List ℕ)) (G : Going m b lent rows) (h : m < len) (i : ℕ) (e : i + m + 1 ≡ len) (o : ℕ) (f : o ≡ field path i 0) (b′ : BoundingBox) (B : k ≤ o → Boxes m b′) where
+    chance-is : (v : Float) → v ≡ cond (ltb o k) (getD chances i nan) (probability (b′ .«min_values») (b′ .«max_values») point width) → {d : ℕ} {t : Tree (whole d)} {p : Reading} → In d t p → v ≡ chance d c (sub (whole d) t m p) p
+    chance-is v r {d} {t} {p} w = r ∙ by-test (ltb o k)
+        (λ x.
+        let l = ltb→lt o k (yes x) in
+        cond-true _ _ _ x ∙ rw (← f) at (K i (omega (arith, G .some)) (omega (arith, f))) ∙ Nodes.chance-at w i m e (G .some) (record { «min_values» = lowIn boxes o; «max_values» = highIn boxes o }) (Nodes.cached-at w i m e o f l _ refl refl))
+        (λ x. cond-false _ _ _ x ∙ Nodes.chance-at w i m e (G .some) b′ (B (nltb→le o k (no x)) d t p w))
+
+    pub going-on : (y : ℕ) → y ≡ massAt c nodes copies o → (v : Float) → v ≡ cond (ltb o k) (getD chances i nan) (probability (b′ .«min_values») (b′ .«max_values») point width)
+        → (x : List ℕ) → x ≡ o ∷ i ∷ y ∷ toBits binary64 v ∷ [] → Going (m + 1) b′ lent (set rows m x)
+    going-on y g v q x r =
         let back : m + 1 - 1 ≡ m = omega arith in
+        let row : len - (m + 1) ≡ i = omega arith in
         record {
           some = omega arith;
           within = omega arith;
           room = G .room;
           long = length-set rows m x ∙ G .long;
-          box = rw back B;
-          written = λ d t p w. rw (add-one m, G .written d t p w, r ∙ Nodes.row-is w i m e o f y _ g (Nodes.chance-at w i m e (G .some) b′ (B d t p w))) (front-next [] (numbers d t p) m lent (omega (arith, G .room)));
+          box = rw (back, row, ← f) B;
+          written = λ d t p w. rw (add-one m, G .written d t p w, r ∙ Nodes.row-is w i m e o f y v g (chance-is v q w)) (front-next [] (numbers d t p) m lent (omega (arith, G .room)));
         }

@@ -1,4 +1,5 @@
 pub mod Fronts
+pub mod Walking
 pub mod Nodes
 pub mod Going
 pub mod Reports

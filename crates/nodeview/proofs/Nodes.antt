@@ -25,7 +25,6 @@ use Rattle.layout.proofs.Trails.{path-node}
 use Rattle.walk.proofs.Ends.{walk-is}
 use Rattle.nodestore.specs.Rows.{massAt}
 use Rattle.nodestore.proofs.Grafts.{mass-at, id-low}
-use Rattle.boxstore.specs.Boxed.{Boxed}
 use Rattle.boxstore.specs.Grown.{BoxOf}
 use Rattle.boxstore.specs.Written.{lowIn, highIn}
 use Rattle.boxstore.proofs.Ends.{row-ends}
@@ -36,12 +35,7 @@ use Rattle.nodeview.specs.Report.{chance, rowAt}
 use Rattle.nodeview.specs.Told.{numbersOf}
 use Rattle.nodeview.specs.Writing.{Writing}
 
--- a node with others below it is a branch, and its id is below the capacity
-branch-below : (d c k : ℕ) (nodes : List (List ℕ)) (points : List (List Float)) (boxes : List (List (List Float))) (u : Tree (whole d)) (p : Reading) → 0 < height (whole d) u p → Boxed d c k nodes points boxes u → id (whole d) c u < c
-branch-below d c k nodes points boxes (leaf i q n) p h B = absurd (omega arith)
-branch-below d c k nodes points boxes (branch b x g l r) p h B = omega (arith, B .in-range .0)
-
--- and its chance is that of its box
+-- the chance of a node with others below it, a branch, is that of its box
 pub branch-chance : (d c : ℕ) (u : Tree (whole d)) (p : Reading) → 0 < height (whole d) u p → probability (lowOf d c u) (highOf d c u) (p .row) width ≡ chance d c u p
 branch-chance d c (leaf i q n) p h = absurd (omega arith)
 branch-chance d c (branch b k g l r) p h = refl
@@ -82,17 +76,14 @@ module _ {d c k : ℕ} {nodes : List (List ℕ)} {copies : List ℕ} {points : L
       pub mass-asks : (o < c → o < branchLimit) × ((o - c < pointLimit) × (c ≤ o → 1 ≤ getD copies (o - c) 0))
       mass-asks = rw is-node (id-low d c t p nodes (w .cuts) copies (w .stored) u inside)
 
-      -- above the leaf: its number, and its box if it is cached
-      module _ (z : 0 < m) where
-        below : o < c
-        below = rw is-node (branch-below d c k nodes points boxes u p (omega (arith, height-sub (whole d) m p t within)) (boxed-in d c k nodes points boxes inside (w .boxed)))
+      -- its number where it is cached, and then its box
+      module _ (l : o < k) where
+        pub cached-low : o < branchLimit
+        cached-low = mass-asks .0 (omega (arith, w .few))
 
-        pub node-low : o < branchLimit
-        node-low = mass-asks .0 below
-
-        pub cached-at : o < k → (b : BoundingBox) → b .«min_values» ≡ lowIn boxes o → b .«max_values» ≡ highIn boxes o → At d c p t m b
-        cached-at l b x y =
-            let r : BoxOf c k o nodes points boxes b = at-cached c k o nodes points boxes below l .whole-box b x y in
+        pub cached-at : (b : BoundingBox) → b .«min_values» ≡ lowIn boxes o → b .«max_values» ≡ highIn boxes o → At d c p t m b
+        cached-at b x y =
+            let r : BoxOf c k o nodes points boxes b = at-cached c k o nodes points boxes (omega (arith, w .few)) l .whole-box b x y in
             let v = r d u (sym is-node) (boxed-in d c k nodes points boxes inside (w .boxed)) in
             record { low = v .0; high = v .1 }
 

@@ -18,17 +18,19 @@ use Rattle.wholetree.specs.Reading.{Reading, padded, reading}
 use Rattle.wholetree.specs.Whole.{whole, allCoordinates}
 use Rattle.wholetree.proofs.Readings.{tab-length, reading-row}
 use Rattle.pointstore.specs.Puts.{pointRefusal}
-use Rattle.walk.specs.Walks.{Walks, SomeWalks, Walked}
+use Rattle.walk.specs.Walks.{Walks, Walked}
+use Rattle.boxstore.specs.Boxed.{Boxed}
 use Rattle.treestore.specs.Arrays.{Lent}
 use Rattle.randomcuttree.specs.declared.RCFTree.{RCFTree}
 use Rattle.randomcuttree.specs.State.{State}
-use Rattle.randomcuttree.proofs.Parts.{dimensions-are, capacity-is, cached-is}
+use Rattle.randomcuttree.proofs.Parts.{dimensions-are, capacity-is, cached-is, cached-few}
 use Rattle.randomcuttree.proofs.Given.{stored, walks-of, boxed}
 use Rattle.randomcuttree.proofs.Calls.{no-tree}
 use Rattle.nodeview.specs.declared.ReportAnswer.{ReportAnswer}
 use Rattle.nodeview.specs.declared.ReportAnswer.the-variants.{Rows, NoReport}
 use Rattle.nodeview.specs.Report.{ReportRefusal, fewRows, treeEmpty, coordinateCount, badCoordinate, reportNumber, refused, rows, rowAt, rowsOf, reportIn, reportOf}
 use Rattle.nodeview.specs.Told.{numbersOf, reportSays, rowsAfter, ReportRead, Reported}
+use Rattle.nodeview.specs.Walking.{SomeWalking}
 use Rattle.nodeview.specs.Writing.{Writing, SomeWriting, Writes}
 
 -- what is wrong with a given point, or nothing
@@ -78,8 +80,11 @@ module _ {d c : ℕ} {s : Float} {W : World (whole d)} {tree : RCFTree} {a : Len
         walks : Walks d (tree .capacity) nodes cuts point (tree .root) t p
         walks = rw (capacity-is H, ← E .nodes-are, ← E .cuts-are) (walks-of H T p point point-is)
 
-        pub some-walks : (tree .capacity ≤ capacityLimit) × SomeWalks (tree .capacity) nodes cuts point (tree .root)
-        some-walks = (rw (capacity-is H) (H .limits .3), record { channels = d; tree = t; reading = p; walks = walks })
+        boxes-stand : Boxed d (tree .capacity) (tree .cached) nodes points boxes t
+        boxes-stand = rw (capacity-is H, cached-is H, ← E .nodes-are, ← E .boxes-are) (boxed H T)
+
+        pub some-walking : (tree .capacity ≤ capacityLimit) × SomeWalking (tree .capacity) (tree .cached) nodes cuts boxes point (tree .root)
+        some-walking = (rw (capacity-is H) (H .limits .3), record { channels = d; tree = t; reading = p; points = points; walks = walks; boxed = boxes-stand })
 
         -- ---- its walk
         module _ (path : List (List ℕ)) (n : ℕ) (w : (d : ℕ) (t : Tree (whole d)) (p : Reading) → Walks d (tree .capacity) nodes cuts point (tree .root) t p → Walked d (tree .capacity) path n t p) where
@@ -93,8 +98,9 @@ module _ {d c : ℕ} {s : Float} {W : World (whole d)} {tree : RCFTree} {a : Len
             writing : Writing d (tree .capacity) (tree .cached) nodes copies points boxes path n point t p
             writing = rw (capacity-is H, cached-is H) (record {
               cuts = cuts;
+              few = omega (arith, cached-few s c);
               stored = rw (E .nodes-are, E .cuts-are, E .copies-are) at (stored H T);
-              boxed = rw (E .nodes-are, E .boxes-are) at (boxed H T);
+              boxed = rw (capacity-is H, cached-is H) at boxes-stand;
               walked = walked;
               row = point-is;
             })

@@ -1,4 +1,5 @@
 pub mod Report
 pub mod Told
+pub mod Walking
 pub mod Writing
 pub mod Laws

@@ -1,7 +1,9 @@
 -- The loop from the leaf to the root: what it is told of a walk, and the rows that it writes. Definitions.
 use mathlib.Core.Path.{_≡_}
+use mathlib.Core.Bool.{cond}
 use mathlib.Core.List.{List, _++_, map}
 use Prim.Native.Nat.{ℕ, _≤_}
+use lib.Dec.{ltb}
 use lib.ListN.{length, drop}
 use lib.Ieee.{Float}
 use Rattle.cuttree.specs.Tree.{Tree}
@@ -13,9 +15,14 @@ use Rattle.boxstore.specs.Boxed.{Boxed}
 use Rattle.nodeview.specs.Report.{rowsOf}
 use Rattle.nodeview.specs.Told.{numbersOf}
 
+-- an end of the box of the node j: the one kept where it is cached, else the one given
+abbrev pub endOr : ℕ → ℕ → List Float → List Float → List Float
+endOr k j kept given = cond (ltb j k) kept given
+
 -- t stands in the arrays, k branches cached; the path is p's walk in it, and the point is p
 pub record Writing (d c k : ℕ) (nodes : List (List ℕ)) (copies : List ℕ) (points : List (List Float)) (boxes : List (List (List Float))) (path : List (List ℕ)) (len : ℕ) (point : List Float) (t : Tree (whole d)) (p : Reading) : Type 0 where
   pub cuts : List Float
+  pub few : k ≤ c
   pub stored : Stored d c nodes cuts copies t
   pub boxed : Boxed d c k nodes points boxes t
   pub walked : Walked d c path len t p

@@ -11,21 +11,30 @@ use limits::Points;
 use limits::Row;
 use randomcuttree::RCFTree;
 ghost use mathlib.Core.Path.{_≡_};
-ghost use Prim.Native.Nat.{_≤_, _<_};
+ghost use Prim.Native.Nat.{ℕ, _≤_, _<_};
 ghost use mathlib.Core.Bool.{cond};
 ghost use mathlib.Core.List.{[], _∷_};
+ghost use lib.Dec.{ltb};
+ghost use lib.ListN.{length, set};
 ghost use lib.Ieee.{binary64, toBits};
 ghost use Rattle.limits.specs.Limits.{width, capacityLimit, branchLimit};
 ghost use Rattle.readings.specs.Number.{nought};
 ghost use Rattle.cut.specs.Laws.{Readings};
 ghost use Rattle.cut.specs.Sums.{one};
 ghost use Rattle.probability.specs.Probability.{probability};
-ghost use Rattle.wholetree.specs.Reading.{sameRow};
+ghost use Rattle.cuttree.specs.Tree.{Tree};
+ghost use Rattle.wholetree.specs.Reading.{Reading, sameRow};
+ghost use Rattle.wholetree.specs.Whole.{whole};
+ghost use Rattle.walk.specs.Walks.{Walks, Walked};
 ghost use Rattle.boxstore.specs.Boxed.{SomeBoxed};
 ghost use Rattle.boxstore.specs.Grown.{EndsGrownBy};
 ghost use Rattle.boxstore.specs.Written.{lowIn, highIn};
 ghost use Rattle.nodeview.specs.Told.{ReportTold, SomeReportRead};
-ghost use Rattle.nodeview.specs.Writing.{SomeWriting, Writes};
+ghost use Rattle.nodeview.specs.Walking.{keptChance, Chanced, SomeWalking};
+ghost use Rattle.nodeview.specs.Writing.{endOr, SomeWriting, Writes};
+
+// The chance of each cached branch of a walk, by its depth: working memory.
+pub type Chances = [f64; CAPACITY];
 
 // What a report answers: how many rows it has written, or document 01's number.
 pub enum ReportAnswer {
@@ -51,20 +60,85 @@ fn leaf_row(id: u16, depth: usize, mass: u16, leaf: &Row, point: &Row) -> [u64; 
     numbers_of(id, depth, mass, 1.0)
 }
 
-// A branch's row: of the ends of its box and the query.
-fn branch_row(id: u16, depth: usize, mass: u16, low: &Row, high: &Row, point: &Row) -> [u64; 4]
-    requires { ⌜ Readings (now low) (now high) (now point) width ⌝ }
-    ensures { λ r. ⌜ r ≡ id ∷ depth ∷ mass ∷ toBits binary64 (probability (now (low .entry)) (now (high .entry)) (now (point .entry)) width) ∷ [] ⌝ }
+fn doubles_of(s: &[f64]) {}
+
+// The chance of a branch that is cached, put at its depth; nothing is put for any other. Lent chances have all their places, which the array's type doesn't
+// tell a proof.
+fn keep_chance(
+    chances: &mut Chances,
+    depth: usize,
+    branch: usize,
+    boxes: &Boxes,
+    point: &Row,
+    cached: usize,
+)
+    requires low { ⌜ (depth < capacityLimit) × (branch < branchLimit) ⌝ }
+    requires readings { ⌜ (branch < cached → Readings (lowIn (now boxes) branch) (highIn (now boxes) branch) (now point) width) ⌝ }
+    ensures whole { λ _. ⌜ length (now (chances .entry)) ≡ capacityLimit ⌝ }
+    ensures kept { λ _. ⌜ now (chances .exit) ≡ cond (ltb branch cached) (set (now (chances .entry)) depth (keptChance (now (boxes .entry)) branch (now (point .entry)))) (now (chances .entry)) ⌝ }
 {
-    let chance = probability::whole_probability_of_cut(low, high, point);
-    numbers_of(id, depth, mass, chance)
+    doubles_of(chances);
+    if cached <= branch {
+        return;
+    }
+    chances[depth] = probability::whole_probability_of_cut(
+        &boxes[branch][0],
+        &boxes[branch][1],
+        point,
+    );
 }
 
-// The ends of a node's box become those of the branch above it: read if that is cached, else moved out to hold the box of the node's sibling.
+// The walk that `walk::set_path` writes down, and the chance of each cached branch on it: worked out here, while the walk waits for its next row.
+// Rules out a chance put at another node's depth, and one worked out of a box that is not kept.
+fn walk_down(
+    nodes: &Nodes,
+    cuts: &Cuts,
+    boxes: &Boxes,
+    point: &Row,
+    root: u16,
+    capacity: u16,
+    cached: usize,
+    path: &mut Path,
+    chances: &mut Chances,
+) -> usize
+    requires few { ⌜ capacity ≤ capacityLimit ⌝ }
+    requires stands { ⌜ SomeWalking capacity cached (now nodes) (now cuts) (now boxes) (now point) root ⌝ }
+    ensures walked { λ r. ⌜ ((d : ℕ) (t : Tree (whole d)) (p : Reading) → Walks d capacity (now (nodes .entry)) (now (cuts .entry)) (now (point .entry)) root t p → Walked d capacity (now (path .exit)) r t p) ⌝ }
+    ensures chances { λ r. ⌜ Chanced cached (now (boxes .entry)) (now (point .entry)) (now (path .exit)) r (now (chances .exit)) ⌝ }
+{
+    walk::begin(path, root);
+    let mut n: usize = 1;
+    let mut node = root;
+    while node < capacity {
+        let i = wide16(node);
+        let s = walk::step_at(nodes, cuts, point, i);
+        path[n] = s;
+        keep_chance(chances, n - 1, i, boxes, point, cached);
+        node = s[0];
+        n += 1;
+    }
+    n
+}
+
+// The ends kept for a node that is cached; those given stay for any other.
+fn read_ends(low: &mut Row, high: &mut Row, node: usize, boxes: &Boxes, cached: usize)
+    requires { ⌜ (node < cached → node < branchLimit) ⌝ }
+    ensures { λ _. ⌜ (now (low .exit) ≡ endOr cached node (lowIn (now (boxes .entry)) node) (now (low .entry))) × (now (high .exit) ≡ endOr cached node (highIn (now (boxes .entry)) node) (now (high .entry))) ⌝ }
+{
+    if cached <= node {
+        return;
+    }
+    *low = boxes[node][0];
+    *high = boxes[node][1];
+}
+
+// The ends of a node's box become those of the branch above it, moved out to hold the box of the node's sibling. A cached branch needs no ends, its chance
+// being kept: they are left, and its own are read for the branch above it where that is not cached.
 fn ends_above(
     low: &mut Row,
     high: &mut Row,
     branch: usize,
+    below: usize,
     sibling: usize,
     nodes: &Nodes,
     points: &Points,
@@ -72,20 +146,30 @@ fn ends_above(
     capacity: usize,
     cached: usize,
 )
-    requires few { ⌜ (capacity ≤ capacityLimit) × (branch < branchLimit) ⌝ }
+    requires few { ⌜ (capacity ≤ capacityLimit) × (below < cached → below < branchLimit) ⌝ }
     requires stands { ⌜ SomeBoxed capacity cached sibling (now nodes) (now points) (now boxes) ⌝ }
-    ensures read { λ _. ⌜ (branch < cached → (now (low .exit) ≡ lowIn (now (boxes .entry)) branch) × (now (high .exit) ≡ highIn (now (boxes .entry)) branch)) ⌝ }
-    ensures grown { λ _. ⌜ (cached ≤ branch → EndsGrownBy capacity cached sibling (now (nodes .entry)) (now (points .entry)) (now (boxes .entry)) (now (low .entry)) (now (high .entry)) (now (low .exit)) (now (high .exit))) ⌝ }
+    ensures left { λ _. ⌜ (branch < cached → (now (low .exit) ≡ now (low .entry)) × (now (high .exit) ≡ now (high .entry))) ⌝ }
+    ensures grown { λ _. ⌜ (cached ≤ branch → EndsGrownBy capacity cached sibling (now (nodes .entry)) (now (points .entry)) (now (boxes .entry)) (endOr cached below (lowIn (now (boxes .entry)) below) (now (low .entry))) (endOr cached below (highIn (now (boxes .entry)) below) (now (high .entry))) (now (low .exit)) (now (high .exit))) ⌝ }
 {
     if branch < cached {
-        *low = boxes[branch][0];
-        *high = boxes[branch][1];
         return;
     }
+    read_ends(low, high, below, boxes, cached);
     boxstore::grow_ends(low, high, sibling, nodes, points, boxes, capacity, cached);
 }
 
-// The rows of a walk. The box of a branch that is cached is read; that of any other is the box of the node below it on the walk, grown by that node's sibling.
+// A branch's chance: the one worked out on the way down if it is cached, else that of the ends of its box and the query.
+fn chance_of(branch: usize, cached: usize, kept: f64, low: &Row, high: &Row, point: &Row) -> f64
+    requires { ⌜ (cached ≤ branch → Readings (now low) (now high) (now point) width) ⌝ }
+    ensures { λ r. ⌜ r ≡ cond (ltb branch cached) kept (probability (now (low .entry)) (now (high .entry)) (now (point .entry)) width) ⌝ }
+{
+    if branch < cached {
+        return kept;
+    }
+    probability::whole_probability_of_cut(low, high, point)
+}
+
+// The rows of a walk. The box of a branch that is not cached is the box of the node below it on the walk, grown by that node's sibling.
 // Rules out rows from the root to the leaf, and a box of the walk's node grown by the wrong side.
 fn write_rows(
     nodes: &Nodes,
@@ -93,13 +177,15 @@ fn write_rows(
     points: &Points,
     boxes: &Boxes,
     path: &Path,
+    chances: &Chances,
     len: usize,
     point: &Row,
     capacity: u16,
     cached: usize,
     rows: &mut [[u64; 4]],
 )
-    requires { ⌜ SomeWriting capacity cached (now nodes) (now copies) (now points) (now boxes) (now path) len (now point) (now rows) ⌝ }
+    requires walk { ⌜ SomeWriting capacity cached (now nodes) (now copies) (now points) (now boxes) (now path) len (now point) (now rows) ⌝ }
+    requires chances { ⌜ Chanced cached (now boxes) (now point) (now path) len (now chances) ⌝ }
     ensures { λ _. ⌜ Writes capacity cached (now (nodes .entry)) (now (copies .entry)) (now (points .entry)) (now (boxes .entry)) (now (path .entry)) len (now (point .entry)) (now (rows .entry)) (now (rows .exit)) ⌝ }
 {
     let c = wide16(capacity);
@@ -113,10 +199,12 @@ fn write_rows(
     while m < len {
         let depth = len - 1 - m;
         let node = walk::node_at(path, depth);
+        let branch = wide16(node);
         ends_above(
             &mut low,
             &mut high,
-            wide16(node),
+            branch,
+            wide16(walk::node_at(path, len - m)),
             boxstore::sibling_at(path, len, m - 1),
             nodes,
             points,
@@ -124,14 +212,15 @@ fn write_rows(
             c,
             cached,
         );
+        let chance = chance_of(branch, cached, chances[depth], &low, &high, point);
         let mass = nodestore::mass_of(nodes, copies, node, capacity);
-        rows[m] = branch_row(node, depth, mass, &low, &high, point);
+        rows[m] = numbers_of(node, depth, mass, chance);
         m += 1;
     }
 }
 
 // The report of a query: a row for each node of its walk, from the leaf to the root, written to the lent rows; or a refusal, in document 01's order, and
-// nothing written.
+// nothing written. The path and the chances are working memory: whatever they hold before, and what they hold after is free.
 // Rules out depths counted from the leaf, and a row written before too few are told.
 pub fn traverse(
     tree: RCFTree,
@@ -142,6 +231,8 @@ pub fn traverse(
     boxes: &Boxes,
     query: &[f32],
     rows: &mut [[u64; 4]],
+    path: &mut Path,
+    chances: &mut Chances,
 ) -> ReportAnswer
     requires { ⌜ SomeReportRead tree (now nodes) (now cuts) (now copies) (now points) (now boxes) ⌝ }
     ensures { λ r. ⌜ ReportTold tree (now (nodes .entry)) (now (cuts .entry)) (now (copies .entry)) (now (points .entry)) (now (boxes .entry)) (now (query .entry)) (now (rows .entry)) r (now (rows .exit)) ⌝ }
@@ -154,8 +245,17 @@ pub fn traverse(
         return ReportAnswer::NoReport(12);
     }
     let point = pointstore::row_of(query);
-    let mut path = [[0u16; 2]; CAPACITY];
-    let n = walk::set_path(nodes, cuts, &point, tree.root, tree.capacity, &mut path);
+    let n = walk_down(
+        nodes,
+        cuts,
+        boxes,
+        &point,
+        tree.root,
+        tree.capacity,
+        tree.cached,
+        path,
+        chances,
+    );
     if rows.len() < n {
         return ReportAnswer::NoReport(15);
     }
@@ -164,7 +264,8 @@ pub fn traverse(
         copies,
         points,
         boxes,
-        &path,
+        path,
+        chances,
         n,
         &point,
         tree.capacity,

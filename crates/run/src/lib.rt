@@ -56,6 +56,8 @@ fn run_calls(
     let mut words = [0u64; CAPACITY];
     let mut reply = [0usize; REPLY];
     let mut rows = [[0u64; 4]; CAPACITY];
+    let mut path = [[0u16; 2]; CAPACITY];
+    let mut chances = [0.0f64; CAPACITY];
     let mut current = tree;
     let mut p = runlayout::making_width(run);
     let mut kind = runlayout::number_or_none(run, p);
@@ -80,6 +82,8 @@ fn run_calls(
             &mut words,
             &mut reply,
             &mut rows,
+            &mut path,
+            &mut chances,
             answers,
             out,
             width,

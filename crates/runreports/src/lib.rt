@@ -5,7 +5,9 @@ use limits::CHANNELS;
 use limits::Copies;
 use limits::Cuts;
 use limits::Nodes;
+use limits::Path;
 use limits::Points;
+use nodeview::Chances;
 use nodeview::ReportAnswer;
 use randomcuttree::RCFTree;
 ghost use mathlib.Core.Path.{_≡_};
@@ -103,6 +105,8 @@ fn report_first(
     k: usize,
     rows: &mut [[u64; 4]],
     n: usize,
+    path: &mut Path,
+    chances: &mut Chances,
 ) -> ReportAnswer
     requires lent { ⌜ (k ≤ length (now coordinates)) × (n ≤ length (now rows)) ⌝ }
     requires state { ⌜ SomeReportRead tree (now nodes) (now cuts) (now copies) (now points) (now boxes) ⌝ }
@@ -117,11 +121,14 @@ fn report_first(
         boxes,
         &coordinates[..k],
         &mut rows[..n],
+        path,
+        chances,
     )
 }
 
 // The report at a place of the run: its answer's numbers from the answer number `out` on, and its rows in the working ones. No walk has more rows than
-// those, and a query of nine coordinates is refused like any longer one.
+// those, and a query of nine coordinates is refused like any longer one. The path and the chances are working memory too: whatever they hold before, and what
+// they hold after is free.
 // Rules out a row left from the report before told beyond those written, and the halves of a probability in turn.
 pub fn report_at(
     tree: RCFTree,
@@ -133,6 +140,8 @@ pub fn report_at(
     run: &[u8],
     p: usize,
     rows: &mut Rows,
+    path: &mut Path,
+    chances: &mut Chances,
     answers: &mut [u8],
     out: usize,
 )
@@ -155,6 +164,8 @@ pub fn report_at(
         k,
         rows,
         casts::at_most(n, CAPACITY),
+        path,
+        chances,
     );
     write_report(answer, rows, n, answers, out);
 }

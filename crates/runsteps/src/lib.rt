@@ -8,8 +8,10 @@ use limits::Free;
 use limits::Held;
 use limits::Marks;
 use limits::Nodes;
+use limits::Path;
 use limits::Points;
 use limits::Weights;
+use nodeview::Chances;
 use runreports::Rows;
 use samplerplustree::SamplerPlusTree;
 ghost use mathlib.Core.Path.{_≡_};
@@ -131,7 +133,7 @@ fn arrival_step(
 }
 
 // The call at a place of the run, of the kind that stands there, answered from the answer number `out` on; its answer has `width` numbers.
-// Gives the header after it.
+// Gives the header after it. The path and the chances are a report's working memory: whatever they hold before, and what they hold after is free.
 // Rules out the sample's arrays written by a put, and an answer that begins where the one before it does.
 pub fn step(
     current: SamplerPlusTree,
@@ -149,6 +151,8 @@ pub fn step(
     words: &mut Words,
     reply: &mut Reply,
     rows: &mut Rows,
+    path: &mut Path,
+    chances: &mut Chances,
     answers: &mut [u8],
     out: usize,
     width: usize,
@@ -191,6 +195,8 @@ pub fn step(
             run,
             p,
             rows,
+            path,
+            chances,
             answers,
             out,
         );

@@ -1,65 +1,65 @@
--- `write_rows` meets its contract: m rows are written, and the ends are those of the box of the last row's node (`Going`). Assumes nothing.
+-- `write_rows` meets its contract: m rows are written, and the ends are those of the box of the last row's node unless that is cached (`Going`). Assumes nothing.
 use mathlib.Core.Path.{_∙_, refl}
 use Prim.Native.Nat.{_-_}
 use native.Mathlib.Omega.{arith}
 use lib.ListN.{length-set}
-use Rattle.nodeview.proofs.Nodes.{leaf-low, leaf-box, mass-asks, node-low}
+use Rattle.nodeview.proofs.Nodes.{leaf-low, leaf-box, mass-asks, cached-low}
 use Rattle.nodeview.proofs.Going.{Going, some-side, box-above, box-readings, going-starts, going-on, going-ends}
 use borrow.Author.Needs.{needs}
 use Rattle.nodeview.proofs.write_rows.Statement.{statement}
 use Rattle.nodeview.proofs.write_rows.Tie as tie
 
 abbrev Inv-loop : tie.InvT-loop
-Inv-loop nodes copies points boxes path len point capacity cached rows₀ c leaf leaf-id leaf-mass low₀ high₀ m₀ rows low high m = Going capacity cached nodes copies points boxes path len point m (record { «min_values» = low; «max_values» = high }) rows₀ rows
+Inv-loop nodes copies points boxes path chances len point capacity cached rows₀ c leaf leaf-id leaf-mass low₀ high₀ m₀ rows low high m = Going capacity cached nodes copies points boxes path len point m (record { «min_values» = low; «max_values» = high }) rows₀ rows
 
 abbrev μ-loop : tie.MeasureT-loop
-μ-loop nodes copies points boxes path len point capacity cached rows₀ c leaf leaf-id leaf-mass low₀ high₀ m₀ rows low high m = len - m
+μ-loop nodes copies points boxes path chances len point capacity cached rows₀ c leaf leaf-id leaf-mass low₀ high₀ m₀ rows low high m = len - m
 
 wide16-requires : tie.Need-wide16-requires Inv-loop μ-loop
 wide16-requires c κs = search needs
 
 leaf-at-requires : tie.Need-leaf-at-requires Inv-loop μ-loop
-leaf-at-requires c κs = let p = c .before .pre in record { channels = p .channels; tree = p .tree; reading = p .reading; walked = p .writing .walked }
+leaf-at-requires c κs = let p = c .before .pre .0 in record { channels = p .channels; tree = p .tree; reading = p .reading; walked = p .writing .walked }
 
 sub-node-at : tie.Need-sub-node-at Inv-loop μ-loop
-sub-node-at c = omega (arith, c .before .before .pre .writing .walked .count)
+sub-node-at c = omega (arith, c .before .before .pre .0 .writing .walked .count)
 
 node-at-requires : tie.Need-node-at-requires Inv-loop μ-loop
-node-at-requires c κs = let w = c .before .before .pre .writing .walked in omega (arith, w .count, w .most)
+node-at-requires c κs = let w = c .before .before .pre .0 .writing .walked in omega (arith, w .count, w .most)
 
 mass-of-requires : tie.Need-mass-of-requires Inv-loop μ-loop
-mass-of-requires c κs = let w = c .before .before .before .pre .writing in mass-asks w _ 0 (omega (arith, w .walked .count)) _ (c .node-at .ensures)
+mass-of-requires c κs = let w = c .before .before .before .pre .0 .writing in mass-asks w _ 0 (omega (arith, w .walked .count)) _ (c .node-at .ensures)
 
 sub-leaf-row : tie.Need-sub-leaf-row Inv-loop μ-loop
-sub-leaf-row c = omega (arith, c .before .before .before .before .pre .writing .walked .count)
+sub-leaf-row c = omega (arith, c .before .before .before .before .pre .0 .writing .walked .count)
 
 mul-leaf-row : tie.Need-mul-leaf-row Inv-loop μ-loop
-mul-leaf-row c = let w = c .before .before .before .before .pre .writing in omega (arith, leaf-low w _ (c .before .before .leaf-at .ensures _ _ _ (w .walked)))
+mul-leaf-row c = let w = c .before .before .before .before .pre .0 .writing in omega (arith, leaf-low w _ (c .before .before .leaf-at .ensures _ _ _ (w .walked)))
 
 index-1-leaf-row : tie.Need-index-1-leaf-row Inv-loop μ-loop
-index-1-leaf-row c = let w = c .before .before .before .before .pre .writing in leaf-low w _ (c .before .before .leaf-at .ensures _ _ _ (w .walked))
+index-1-leaf-row c = let w = c .before .before .before .before .pre .0 .writing in leaf-low w _ (c .before .before .leaf-at .ensures _ _ _ (w .walked))
 
 leaf-row-requires : tie.Need-leaf-row-requires Inv-loop μ-loop
 leaf-row-requires c κs = search needs
 
 slice-set-from-rows : tie.Need-slice-set-from-rows Inv-loop μ-loop
-slice-set-from-rows c = let p = c .before .before .before .before .before .before .pre in omega (arith, p .room, p .writing .walked .count)
+slice-set-from-rows c = let p = c .before .before .before .before .before .before .pre .0 in omega (arith, p .room, p .writing .walked .count)
 
 mul-low : tie.Need-mul-low Inv-loop μ-loop
-mul-low c = let w = c .before .before .before .before .before .before .pre .writing in omega (arith, leaf-low w _ (c .before .before .before .before .leaf-at .ensures _ _ _ (w .walked)))
+mul-low c = let w = c .before .before .before .before .before .before .pre .0 .writing in omega (arith, leaf-low w _ (c .before .before .before .before .leaf-at .ensures _ _ _ (w .walked)))
 
 element-copy-out-low : tie.Need-element-copy-out-low Inv-loop μ-loop
-element-copy-out-low c = let w = c .before .before .before .before .before .before .pre .writing in leaf-low w _ (c .before .before .before .before .leaf-at .ensures _ _ _ (w .walked))
+element-copy-out-low c = let w = c .before .before .before .before .before .before .pre .0 .writing in leaf-low w _ (c .before .before .before .before .leaf-at .ensures _ _ _ (w .walked))
 
 mul-high : tie.Need-mul-high Inv-loop μ-loop
-mul-high c = let w = c .before .before .before .before .before .before .before .pre .writing in omega (arith, leaf-low w _ (c .before .before .before .before .before .leaf-at .ensures _ _ _ (w .walked)))
+mul-high c = let w = c .before .before .before .before .before .before .before .pre .0 .writing in omega (arith, leaf-low w _ (c .before .before .before .before .before .leaf-at .ensures _ _ _ (w .walked)))
 
 element-copy-out-high : tie.Need-element-copy-out-high Inv-loop μ-loop
-element-copy-out-high c = let w = c .before .before .before .before .before .before .before .pre .writing in leaf-low w _ (c .before .before .before .before .before .leaf-at .ensures _ _ _ (w .walked))
+element-copy-out-high c = let w = c .before .before .before .before .before .before .before .pre .0 .writing in leaf-low w _ (c .before .before .before .before .before .leaf-at .ensures _ _ _ (w .walked))
 
 loop-holds : tie.Need-loop-holds Inv-loop μ-loop
 loop-holds c =
-    let p = c .before .before .before .before .before .before .before .before .pre in
+    let p = c .before .before .before .before .before .before .before .before .pre .0 in
     let w = p .writing .walked in
     let leaf = c .before .before .before .before .before .before .leaf-at .ensures in
     going-starts _ _ _ _ _ _ _ _ _ (c .before .before .before .before .before .before .before .before .args .rows .now) (p .room) (omega (arith, w .count)) _
@@ -73,65 +73,83 @@ sub-depth-2 : tie.Need-sub-depth-2 Inv-loop μ-loop
 sub-depth-2 c = omega (arith, c .loop-test .taken)
 
 node-at-requires-2 : tie.Need-node-at-requires-2 Inv-loop μ-loop
-node-at-requires-2 c κs = omega (arith, c .before .before .before .before .before .before .before .before .before .before .pre .writing .walked .most)
+node-at-requires-2 c κs = omega (arith, c .before .before .before .before .before .before .before .before .before .before .pre .0 .writing .walked .most)
 
 wide16-requires-2 : tie.Need-wide16-requires-2 Inv-loop μ-loop
 wide16-requires-2 c κs = search needs
 
+sub-node-at-2 : tie.Need-sub-node-at-2 Inv-loop μ-loop
+sub-node-at-2 c = omega (arith, c .before .before .before .before .loop-test .taken)
+
+node-at-requires-3 : tie.Need-node-at-requires-3 Inv-loop μ-loop
+node-at-requires-3 c κs = omega (arith, c .before .before .before .before .before .loop .inv .some, c .before .before .before .before .before .before .before .before .before .before .before .before .before .before .pre .0 .writing .walked .most)
+
+wide16-requires-3 : tie.Need-wide16-requires-3 Inv-loop μ-loop
+wide16-requires-3 c κs = search needs
+
 sub-sibling-at : tie.Need-sub-sibling-at Inv-loop μ-loop
-sub-sibling-at c = c .before .before .before .before .before .loop .inv .some
+sub-sibling-at c = c .before .before .before .before .before .before .before .loop .inv .some
 
 sibling-at-requires : tie.Need-sibling-at-requires Inv-loop μ-loop
-sibling-at-requires c κs = (omega (arith, c .before .before .before .before .loop-test .taken), c .before .before .before .before .before .before .before .before .before .before .before .before .before .before .pre .writing .walked .most)
+sibling-at-requires c κs = (omega (arith, c .before .before .before .before .before .before .loop-test .taken), c .before .before .before .before .before .before .before .before .before .before .before .before .before .before .before .before .pre .0 .writing .walked .most)
 
 ends-above-requires : tie.Need-ends-above-requires Inv-loop μ-loop
 ends-above-requires c κs =
-    let w = c .before .before .before .before .before .before .before .before .before .before .before .before .before .before .before .pre .writing in
-    let g = c .before .before .before .before .before .before .loop .inv in
-    let h = c .before .before .before .before .before .loop-test .taken in
-    rw (c .before .wide162 .ensures .0, c .before .before .before .before .before .before .before .before .before .before .before .before .before .before .wide16 .ensures .0)
-    ((w .stored .small, node-low w _ (c .before .before .before .before .before .before .loop .m) (omega (arith, h)) _ (c .before .before .before .before .node-at2 .ensures) (g .some)), some-side _ _ _ _ _ _ _ _ _ _ (g .some) h _ (c .sibling-at .ensures) w)
+    let w = c .before .before .before .before .before .before .before .before .before .before .before .before .before .before .before .before .before .pre .0 .writing in
+    let g = c .before .before .before .before .before .before .before .before .loop .inv in
+    let h = c .before .before .before .before .before .before .before .loop-test .taken in
+    rw (c .before .wide163 .ensures .0, c .before .before .before .before .before .before .before .before .before .before .before .before .before .before .before .before .wide16 .ensures .0)
+    ((w .stored .small, cached-low w _ (c .before .before .before .before .before .before .before .before .loop .m - 1) (omega (arith, h, g .some)) _ (c .before .before .node-at3 .ensures)), some-side _ _ _ _ _ _ _ _ _ _ (g .some) h _ (c .sibling-at .ensures) w)
+
+mul-chance-of : tie.Need-mul-chance-of Inv-loop μ-loop
+mul-chance-of c = omega (arith, c .before .before .before .before .before .before .before .before .loop-test .taken, c .before .before .before .before .before .before .before .before .before .before .before .before .before .before .before .before .before .before .pre .0 .writing .walked .most)
+
+element-copy-out-chance-of : tie.Need-element-copy-out-chance-of Inv-loop μ-loop
+element-copy-out-chance-of c = omega (arith, c .before .before .before .before .before .before .before .before .loop-test .taken, c .before .before .before .before .before .before .before .before .before .before .before .before .before .before .before .before .before .before .pre .0 .writing .walked .most)
+
+chance-of-requires : tie.Need-chance-of-requires Inv-loop μ-loop
+chance-of-requires c κs =
+    let h = c .before .before .before .before .before .before .before .before .before .before .before .loop-test .taken in
+    let g = c .before .before .before .before .before .before .before .before .before .before .before .before .loop .inv in
+    let m = c .before .before .before .before .before .before .before .before .before .before .before .before .loop .m in
+    let e = rw (c .before .before .before .before .before .wide163 .ensures .0, c .before .before .before .before .before .before .before .before .before .before .before .before .before .before .before .before .before .before .before .before .wide16 .ensures .0) at (c .before .before .before .ends-above .ensures .1) in
+    λ l. box-readings _ _ _ _ _ _ _ _ _ m _ (box-above _ _ _ _ _ _ _ _ _ m (g .some) h _ (c .before .before .before .before .sibling-at .ensures) _ (c .before .before .before .before .before .before .node-at3 .ensures) _ _ (g .box) (e l)) (c .before .before .before .before .before .before .before .before .before .before .before .before .before .before .before .before .before .before .before .before .before .pre .0 .writing)
 
 mass-of-requires-2 : tie.Need-mass-of-requires-2 Inv-loop μ-loop
-mass-of-requires-2 c κs = mass-asks (c .before .before .before .before .before .before .before .before .before .before .before .before .before .before .before .before .pre .writing) _ (c .before .before .before .before .before .before .before .loop .m) (omega (arith, c .before .before .before .before .before .before .loop-test .taken)) _ (c .before .before .before .before .before .node-at2 .ensures)
+mass-of-requires-2 c κs = mass-asks (c .before .before .before .before .before .before .before .before .before .before .before .before .before .before .before .before .before .before .before .before .before .before .pre .0 .writing) _ (c .before .before .before .before .before .before .before .before .before .before .before .before .before .loop .m) (omega (arith, c .before .before .before .before .before .before .before .before .before .before .before .before .loop-test .taken)) _ (c .before .before .before .before .before .before .before .before .before .before .before .node-at2 .ensures)
 
-branch-row-requires : tie.Need-branch-row-requires Inv-loop μ-loop
-branch-row-requires c κs =
-    let h = c .before .before .before .before .before .before .before .before .before .loop-test .taken in
-    let g = c .before .before .before .before .before .before .before .before .before .before .loop .inv in
-    let m = c .before .before .before .before .before .before .before .before .before .before .loop .m in
-    let n = c .before .before .before .before .before .before .before .before .node-at2 .ensures in
-    let e = rw (c .before .before .before .before .before .wide162 .ensures .0, c .before .before .before .before .before .before .before .before .before .before .before .before .before .before .before .before .before .before .wide16 .ensures .0) at (c .before .before .before .ends-above .ensures) in
-    box-readings _ _ _ _ _ _ _ _ _ m _ (box-above _ _ _ _ _ _ _ _ _ _ m (omega (arith, h)) _ n (g .some) h _ (c .before .before .before .before .sibling-at .ensures) _ _ (g .box) (e .0) (e .1)) (c .before .before .before .before .before .before .before .before .before .before .before .before .before .before .before .before .before .before .before .pre .writing)
+numbers-of-requires : tie.Need-numbers-of-requires Inv-loop μ-loop
+numbers-of-requires c κs = search needs
 
-mul-t34 : tie.Need-mul-t34 Inv-loop μ-loop
-mul-t34 c = omega (arith, c .before .before .before .before .before .before .before .before .before .before .loop-test .taken, c .before .before .before .before .before .before .before .before .before .before .before .before .before .before .before .before .before .before .before .before .pre .writing .walked .most)
+mul-t44 : tie.Need-mul-t44 Inv-loop μ-loop
+mul-t44 c = omega (arith, c .before .before .before .before .before .before .before .before .before .before .before .before .before .before .loop-test .taken, c .before .before .before .before .before .before .before .before .before .before .before .before .before .before .before .before .before .before .before .before .before .before .before .before .pre .0 .writing .walked .most)
 
 slice-set-from-rows-2 : tie.Need-slice-set-from-rows-2 Inv-loop μ-loop
-slice-set-from-rows-2 c = let g = c .before .before .before .before .before .before .before .before .before .before .before .loop .inv in omega (arith, g .room, g .long, c .before .before .before .before .before .before .before .before .before .before .loop-test .taken)
+slice-set-from-rows-2 c = let g = c .before .before .before .before .before .before .before .before .before .before .before .before .before .before .before .loop .inv in omega (arith, g .room, g .long, c .before .before .before .before .before .before .before .before .before .before .before .before .before .before .loop-test .taken)
 
 add-m : tie.Need-add-m Inv-loop μ-loop
-add-m c = omega (arith, c .before .before .before .before .before .before .before .before .before .before .loop-test .taken, c .before .before .before .before .before .before .before .before .before .before .before .before .before .before .before .before .before .before .before .before .pre .writing .walked .most)
+add-m c = omega (arith, c .before .before .before .before .before .before .before .before .before .before .before .before .before .before .loop-test .taken, c .before .before .before .before .before .before .before .before .before .before .before .before .before .before .before .before .before .before .before .before .before .before .before .before .pre .0 .writing .walked .most)
 
 loop-less : tie.Need-loop-less Inv-loop μ-loop
-loop-less c = omega (arith, c .before .before .before .before .before .before .before .before .before .before .loop-test .taken)
+loop-less c = omega (arith, c .before .before .before .before .before .before .before .before .before .before .before .before .before .before .loop-test .taken)
 
 loop-again : tie.Need-loop-again Inv-loop μ-loop
 loop-again c =
-    let h = c .before .before .before .before .before .before .before .before .before .before .loop-test .taken in
-    let g = c .before .before .before .before .before .before .before .before .before .before .before .loop .inv in
-    let m = c .before .before .before .before .before .before .before .before .before .before .before .loop .m in
-    let n = c .before .before .before .before .before .before .before .before .before .node-at2 .ensures in
-    let e = rw (c .before .before .before .before .before .before .wide162 .ensures .0, c .before .before .before .before .before .before .before .before .before .before .before .before .before .before .before .before .before .before .before .wide16 .ensures .0) at (c .before .before .before .before .ends-above .ensures) in
-    going-on _ _ _ _ _ _ _ _ _ m _ _ _ g h _ (omega (arith, h)) _ n _ (box-above _ _ _ _ _ _ _ _ _ _ m (omega (arith, h)) _ n (g .some) h _ (c .before .before .before .before .before .sibling-at .ensures) _ _ (g .box) (e .0) (e .1))
-    _ (c .before .before .before .mass-of2 .ensures) _ (c .branch-row .ensures)
+    let h = c .before .before .before .before .before .before .before .before .before .before .before .before .before .before .loop-test .taken in
+    let g = c .before .before .before .before .before .before .before .before .before .before .before .before .before .before .before .loop .inv in
+    let m = c .before .before .before .before .before .before .before .before .before .before .before .before .before .before .before .loop .m in
+    let o = c .before .before .before .before .before .before .before .before .before .before .before .before .wide162 .ensures .0 in
+    let e = rw (o, c .before .before .before .before .before .before .before .before .wide163 .ensures .0, c .before .before .before .before .before .before .before .before .before .before .before .before .before .before .before .before .before .before .before .before .before .before .before .wide16 .ensures .0) at (c .before .before .before .before .before .before .ends-above .ensures .1) in
+    going-on _ _ _ _ _ _ _ _ _ (c .before .before .before .before .before .before .before .before .before .before .before .before .before .before .before .before .before .before .before .before .before .before .before .before .args .chances .now) (c .before .before .before .before .before .before .before .before .before .before .before .before .before .before .before .before .before .before .before .before .before .before .before .before .pre .1) m _ _ _ g h _ (omega (arith, h)) _ (c .before .before .before .before .before .before .before .before .before .before .before .before .before .node-at2 .ensures)
+    _ (λ l. box-above _ _ _ _ _ _ _ _ _ m (g .some) h _ (c .before .before .before .before .before .before .before .sibling-at .ensures) _ (c .before .before .before .before .before .before .before .before .before .node-at3 .ensures) _ _ (g .box) (e l))
+    _ (c .before .mass-of2 .ensures) _ (rw o at (c .before .before .chance-of .ensures)) _ (c .numbers-of .ensures)
 
 same-length : tie.Need-same-length Inv-loop μ-loop
 same-length c = c .before .loop .inv .long ∙ simp length-set
 
 returns : tie.Need-returns Inv-loop μ-loop
 returns c =
-    let p = c .before .before .before .before .before .before .before .before .before .before .pre in
+    let p = c .before .before .before .before .before .before .before .before .before .before .pre .0 in
     going-ends _ _ _ _ _ _ _ _ _ _ (p .room) (omega (arith, p .writing .walked .count)) _ _ _ _ (c .before .loop .inv) (c .loop-test .left)
 
 pub write-rows-spec : {M : Type 1} → statement M
@@ -159,12 +177,18 @@ write-rows-spec =
     sub-depth-2
     node-at-requires-2
     wide16-requires-2
+    sub-node-at-2
+    node-at-requires-3
+    wide16-requires-3
     sub-sibling-at
     sibling-at-requires
     ends-above-requires
+    mul-chance-of
+    element-copy-out-chance-of
+    chance-of-requires
     mass-of-requires-2
-    branch-row-requires
-    mul-t34
+    numbers-of-requires
+    mul-t44
     slice-set-from-rows-2
     add-m
     loop-less

@@ -19,12 +19,12 @@ below : (p n m : ℕ) → p < n → n ≡ m → p < m
 below p n m h e = omega arith
 
 abbrev Inv-loop : tie.InvT-loop
-Inv-loop nodes₀ cuts₀ copies₀ free₀ boxes₀ points₀ written₀ weights₀ held₀ run answers₀ n words₀ reply₀ rows₀ current₀ p₀ kind₀ out₀ nodes cuts copies free boxes points written weights held answers words reply rows current p kind out =
+Inv-loop nodes₀ cuts₀ copies₀ free₀ boxes₀ points₀ written₀ weights₀ held₀ run answers₀ n words₀ reply₀ rows₀ path₀ chances₀ current₀ p₀ kind₀ out₀ nodes cuts copies free boxes points written weights held answers words reply rows path chances current p kind out =
     (p ≤ size run) × (length answers ≡ length answers₀) × (kind ≡ number run p)
     × ((final : List ℕ) (count : ℕ) → Running run (makingWidth run) 1 current₀ (kept (lent nodes₀ cuts₀ copies₀ free₀ boxes₀) points₀ written₀ weights₀ held₀) answers₀ final count → Running run p out current (kept (lent nodes cuts copies free boxes) points written weights held) answers final count)
 
 abbrev μ-loop : tie.MeasureT-loop
-μ-loop nodes₀ cuts₀ copies₀ free₀ boxes₀ points₀ written₀ weights₀ held₀ run answers₀ n words₀ reply₀ rows₀ current₀ p₀ kind₀ out₀ nodes cuts copies free boxes points written weights held answers words reply rows current p kind out = size run - p
+μ-loop nodes₀ cuts₀ copies₀ free₀ boxes₀ points₀ written₀ weights₀ held₀ run answers₀ n words₀ reply₀ rows₀ path₀ chances₀ current₀ p₀ kind₀ out₀ nodes cuts copies free boxes points written weights held answers words reply rows path chances current p kind out = size run - p
 
 size-of-requires : tie.Need-size-of-requires Inv-loop μ-loop
 size-of-requires c κs = search needs
@@ -67,39 +67,39 @@ number-or-none-requires-2 c κs =
 
 step-requires : tie.Need-step-requires Inv-loop μ-loop
 step-requires c κs =
-    let s = c .before .before .before .before .before .before .before .before .before .before .before .before .before .before .before .before .before .before .before .before .before .before .before in
-    let l = c .before .before .before .before .before .before .before .before .before .before .before .before .before .before .before .before .before .loop in
+    let s = c .before .before .before .before .before .before .before .before .before .before .before .before .before .before .before .before .before .before .before .before .before .before .before .before .before in
+    let l = c .before .before .before .before .before .before .before .before .before .before .before .before .before .before .before .before .before .before .before .loop in
     let R = l .inv .3 _ _ (s .pre .1 .running) in
-    let h = below _ _ _ (c .before .before .before .before .before .before .before .before .before .before .before .before .before .before .before .before .loop-test .taken) (c .before .before .before .before .before .before .before .before .before .before .before .before .before .before .before .before .before .before .before .before .size-of .ensures) in
-    let w = c .before .before .before .before .before .before .before .before .before .before .before .before .before .before .before .answer-width in
+    let h = below _ _ _ (c .before .before .before .before .before .before .before .before .before .before .before .before .before .before .before .before .before .before .loop-test .taken) (c .before .before .before .before .before .before .before .before .before .before .before .before .before .before .before .before .before .before .before .before .before .before .size-of .ensures) in
+    let w = c .before .before .before .before .before .before .before .before .before .before .before .before .before .before .before .before .before .answer-width in
     ((stands (s .args .run .now) _ _ _ (kept (lent (l .nodes) (l .cuts) (l .copies) (l .free) (l .boxes)) (l .points) (l .written) (l .weights) (l .held)) _ _ _ R h, l .inv .2), (some-standing (s .args .run .now) _ _ _ (kept (lent (l .nodes) (l .cuts) (l .copies) (l .free) (l .boxes)) (l .points) (l .written) (l .weights) (l .held)) _ _ _ R h, (w .ensures .0, fits (s .args .run .now) _ _ _ (kept (lent (l .nodes) (l .cuts) (l .copies) (l .free) (l .boxes)) (l .points) (l .written) (l .weights) (l .held)) _ _ _ R h _ (w .ensures .0))))
 
 add-out : tie.Need-add-out Inv-loop μ-loop
 add-out c =
-    let s = c .before .before .before .before .before .before .before .before .before .before .before .before .before .before .before .before .before .before .before .before .before .before .before .before .before .before in
-    let l = c .before .before .before .before .before .before .before .before .before .before .before .before .before .before .before .before .before .before .before .before .loop in
+    let s = c .before .before .before .before .before .before .before .before .before .before .before .before .before .before .before .before .before .before .before .before .before .before .before .before .before .before .before .before in
+    let l = c .before .before .before .before .before .before .before .before .before .before .before .before .before .before .before .before .before .before .before .before .before .before .loop in
     let R = l .inv .3 _ _ (s .pre .1 .running) in
-    let h = below _ _ _ (c .before .before .before .before .before .before .before .before .before .before .before .before .before .before .before .before .before .before .before .loop-test .taken) (c .before .before .before .before .before .before .before .before .before .before .before .before .before .before .before .before .before .before .before .before .before .before .before .size-of .ensures) in
-    let w = c .before .before .before .before .before .before .before .before .before .before .before .before .before .before .before .before .before .before .answer-width in
+    let h = below _ _ _ (c .before .before .before .before .before .before .before .before .before .before .before .before .before .before .before .before .before .before .before .before .before .loop-test .taken) (c .before .before .before .before .before .before .before .before .before .before .before .before .before .before .before .before .before .before .before .before .before .before .before .before .before .size-of .ensures) in
+    let w = c .before .before .before .before .before .before .before .before .before .before .before .before .before .before .before .before .before .before .before .before .answer-width in
     omega (arith, fits (s .args .run .now) _ _ _ (kept (lent (l .nodes) (l .cuts) (l .copies) (l .free) (l .boxes)) (l .points) (l .written) (l .weights) (l .held)) _ _ _ R h _ (w .ensures .0), l .inv .1, s .good)
 
 loop-less : tie.Need-loop-less Inv-loop μ-loop
 loop-less c =
-    let h = below _ _ _ (c .before .before .before .before .before .before .before .before .before .before .before .before .before .before .before .before .before .before .before .loop-test .taken) (c .before .before .before .before .before .before .before .before .before .before .before .before .before .before .before .before .before .before .before .before .before .before .before .size-of .ensures) in
-    omega (arith, h, c .before .before .before .before .before .before .before .before .before .before .before .before .before .before .before .before .before .width-at .ensures .1)
+    let h = below _ _ _ (c .before .before .before .before .before .before .before .before .before .before .before .before .before .before .before .before .before .before .before .before .before .loop-test .taken) (c .before .before .before .before .before .before .before .before .before .before .before .before .before .before .before .before .before .before .before .before .before .before .before .before .before .size-of .ensures) in
+    omega (arith, h, c .before .before .before .before .before .before .before .before .before .before .before .before .before .before .before .before .before .before .before .width-at .ensures .1)
 
 loop-again : tie.Need-loop-again Inv-loop μ-loop
 loop-again c =
-    let s = c .before .before .before .before .before .before .before .before .before .before .before .before .before .before .before .before .before .before .before .before .before .before .before .before .before .before in
-    let l = c .before .before .before .before .before .before .before .before .before .before .before .before .before .before .before .before .before .before .before .before .loop in
+    let s = c .before .before .before .before .before .before .before .before .before .before .before .before .before .before .before .before .before .before .before .before .before .before .before .before .before .before .before .before in
+    let l = c .before .before .before .before .before .before .before .before .before .before .before .before .before .before .before .before .before .before .before .before .before .before .loop in
     let R = l .inv .3 _ _ (s .pre .1 .running) in
-    let h = below _ _ _ (c .before .before .before .before .before .before .before .before .before .before .before .before .before .before .before .before .before .before .before .loop-test .taken) (c .before .before .before .before .before .before .before .before .before .before .before .before .before .before .before .before .before .before .before .before .before .before .before .size-of .ensures) in
-    let w = c .before .before .before .before .before .before .before .before .before .before .before .before .before .before .before .before .before .before .answer-width in
+    let h = below _ _ _ (c .before .before .before .before .before .before .before .before .before .before .before .before .before .before .before .before .before .before .before .before .before .loop-test .taken) (c .before .before .before .before .before .before .before .before .before .before .before .before .before .before .before .before .before .before .before .before .before .before .before .before .before .size-of .ensures) in
+    let w = c .before .before .before .before .before .before .before .before .before .before .before .before .before .before .before .before .before .before .before .before .answer-width in
     let d = c .before .before .step .ensures in
-    let g = c .before .before .before .before .before .before .before .before .before .before .before .before .before .before .before .before .before .width-at .ensures .0 in (
+    let g = c .before .before .before .before .before .before .before .before .before .before .before .before .before .before .before .before .before .before .before .width-at .ensures .0 in (
       omega (arith, g, within (s .args .run .now) (l .p) (stands (s .args .run .now) _ _ _ (kept (lent (l .nodes) (l .cuts) (l .copies) (l .free) (l .boxes)) (l .points) (l .written) (l .weights) (l .held)) _ _ _ R h)),
       answers-length (s .args .run .now) _ _ _ (kept (lent (l .nodes) (l .cuts) (l .copies) (l .free) (l .boxes)) (l .points) (l .written) (l .weights) (l .held)) _ _ _ R h _ (w .ensures .0) (room (l .words) (l .reply) (l .rows) (l .answers)) _ _ _ d refl ∙ l .inv .1,
-      c .before .before .before .before .before .before .before .before .before .before .before .before .before .before .before .before .number-or-none2 .ensures .0,
+      c .before .before .before .before .before .before .before .before .before .before .before .before .before .before .before .before .before .before .number-or-none2 .ensures .0,
       λ final count R. turn (s .args .run .now) _ _ _ (kept (lent (l .nodes) (l .cuts) (l .copies) (l .free) (l .boxes)) (l .points) (l .written) (l .weights) (l .held)) _ _ _ (l .inv .3 final count R) h _ (w .ensures .0) (room (l .words) (l .reply) (l .rows) (l .answers)) _ _ _ d refl _ (ap (λ (k : ℕ). l .p + k) g),
     )
 

@@ -42,10 +42,11 @@ report-first-requires c κs = search needs
 write-report-requires : tie.Need-write-report-requires
 write-report-requires c κs =
     let first = c .before .before in
-    let read = first .before .before .before .before in
+    let most = first .before .before .before in
+    let read = most .before .before .before in
     let number = read .before .before .before in
     let s = number .before .before .before in
-    (rows-limit _ _ _ _ _ _ (take (read .before .at-most .result) (read .coordinates-at .result)) _ _ (first .before .at-most2 .ensures) _ _ _ (first .report-first .ensures) (s .pre .1 .1), omega (arith, s .pre .1 .0, number .number-at .ensures .0))
+    (rows-limit _ _ _ _ _ _ (take (read .before .at-most .result) (read .coordinates-at .result)) _ _ (most .at-most2 .ensures) _ _ _ (first .report-first .ensures) (s .pre .1 .1), omega (arith, s .pre .1 .0, number .number-at .ensures .0))
 
 same-length : tie.Need-same-length
 same-length c = search needs
@@ -54,9 +55,10 @@ returns : tie.Need-returns
 returns c =
     let written = c .before .before in
     let first = written .before .before .before in
-    let read = first .before .before .before .before in
+    let most = first .before .before .before in
+    let read = most .before .before .before in
     let s = read .before .before .before .before .before .before .args in
-    report-there _ _ _ _ _ _ _ _ _ (first .before .at-most2 .ensures) _ _ _ (first .report-first .ensures) (s .run .now) (s .p) (s .out) _ _ (s .answers .now) _ (read .before .before .before .number-at .ensures .0) (read .before .before .number-at2 .ensures .0) (read .before .at-most .ensures) (read .coordinates-at .ensures .1) (written .write-report .ensures)
+    report-there _ _ _ _ _ _ _ _ _ (most .at-most2 .ensures) _ _ _ (first .report-first .ensures) (s .run .now) (s .p) (s .out) _ _ (s .answers .now) _ (read .before .before .before .number-at .ensures .0) (read .before .before .number-at2 .ensures .0) (read .before .at-most .ensures) (read .coordinates-at .ensures .1) (written .write-report .ensures)
 
 pub report-at-spec : {M : Type 1} → statement M
 report-at-spec =

@@ -26,7 +26,7 @@ same-length c = search needs
 returns : tie.Need-returns
 returns c =
     let t = c .before in
-    let s = t .before .before .before .before .args in
+    let s = t .before .before .before .before .before .before .args in
     first-told _ _ _ _ _ _ (take (s .k) (s .coordinates .now)) (s .n) (s .rows .now) _ _ _ (omega arith) refl (t .traverse .ensures)
 
 pub report-first-spec : {M : Type 1} → statement M
