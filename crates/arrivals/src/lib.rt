@@ -10,12 +10,14 @@ use limits::Free;
 use limits::Held;
 use limits::Marks;
 use limits::Nodes;
-use limits::POINTS;
+use limits::Path;
 use limits::Points;
 use limits::Weights;
+use samplerplustree::Left;
 use samplerplustree::Offer;
 use samplerplustree::SamplerPlusTree;
 use samplerplustree::UpdateAnswer;
+use treestore::Found;
 ghost use mathlib.Core.Path.{_≡_};
 ghost use mathlib.Core.List.{List, [], _∷_};
 ghost use Prim.Native.Nat.{ℕ, _+_, _*_, _≤_};
@@ -87,50 +89,9 @@ pub fn test_arrival(
     tree.test_arrival(written, weights, index, weight, chance, &all[..n])
 }
 
-// How many of an arrival's words may be looked at: the walk of its reading before anything moves tells it, but where the walk ends in the leaf that
-// goes first.
-// Rules out the walk's length told where the leaf at its end is the one that goes.
-pub fn reach(
-    tree: SamplerPlusTree,
-    nodes: &Nodes,
-    cuts: &Cuts,
-    points: &Points,
-    written: &Marks,
-    held: &Held,
-    index: usize,
-) -> usize
-    requires { ⌜ SomeReach tree (now nodes) (now cuts) (now points) (now written) (now held) ⌝ }
-    ensures { λ r. ⌜ ReachIs tree (now (nodes .entry)) (now (cuts .entry)) (now (points .entry)) (now (written .entry)) (now (held .entry)) index r ⌝ }
-{
-    if POINTS <= index {
-        return 0;
-    }
-    if written[index] == 0 {
-        return 0;
-    }
-    let bare = tree.tree;
-    if bare.total == 0 {
-        return 0;
-    }
-    let mut path = [[0u16; 2]; CAPACITY];
-    let found = treestore::find(
-        bare.root,
-        bare.capacity,
-        nodes,
-        cuts,
-        points,
-        index,
-        &mut path,
-    );
-    if found.leaf == casts::wide16(held[0]) {
-        return CAPACITY;
-    }
-    found.walk
-}
-
 // What the test told carried out with the first n words.
-fn take_first(
-    tree: SamplerPlusTree,
+fn enter_first(
+    left: Left,
     offer: Offer,
     nodes: &mut Nodes,
     cuts: &mut Cuts,
@@ -138,21 +99,18 @@ fn take_first(
     free: &mut Free,
     boxes: &mut Boxes,
     points: &Points,
-    written: &Marks,
     weights: &mut Weights,
     held: &mut Held,
     index: usize,
     weight: f32,
+    path: &Path,
+    found: Found,
     words: &Words,
     n: usize,
 ) -> UpdateAnswer
-    requires { ⌜ (n ≤ capacityLimit) × SomeOffered tree offer (lent (now nodes) (now cuts) (now copies) (now free) (now boxes)) (now points) (now written) (now weights) (now held) index weight n ⌝ }
-    ensures long { λ r. ⌜ length (take n (now (words .entry))) ≡ n ⌝ }
-    ensures done { λ r. ⌜ TakeDone tree offer (lent (now (nodes .entry)) (now (cuts .entry)) (now (copies .entry)) (now (free .entry)) (now (boxes .entry))) (now (points .entry)) (now (written .entry)) (now (weights .entry)) (now (held .entry)) index weight (take n (now (words .entry))) r
-        (lent (now (nodes .exit)) (now (cuts .exit)) (now (copies .exit)) (now (free .exit)) (now (boxes .exit))) (now (weights .exit)) (now (held .exit)) ⌝ }
 {
     let all: &[u64] = words;
-    tree.take_arrival(
+    left.enter(
         offer,
         nodes,
         cuts,
@@ -160,20 +118,18 @@ fn take_first(
         free,
         boxes,
         points,
-        written,
         weights,
         held,
         index,
         weight,
+        path,
+        found,
         &all[..n],
     )
 }
 
-// What the test told carried out, by as many of the arrival's words as a tree has leaves at most, and the header after it. A list is short if it has
-// fewer than the capacity, and no walk takes more. Of the lent words only those that may be looked at have to be the arrival's.
-// Rules out an arrival that is short of words where the list has enough, and the old header given back for one that is accepted.
-pub fn take_arrival(
-    tree: SamplerPlusTree,
+pub fn enter(
+    left: Left,
     offer: Offer,
     nodes: &mut Nodes,
     cuts: &mut Cuts,
@@ -181,23 +137,19 @@ pub fn take_arrival(
     free: &mut Free,
     boxes: &mut Boxes,
     points: &Points,
-    written: &Marks,
     weights: &mut Weights,
     held: &mut Held,
     index: usize,
     weight: f32,
+    path: &Path,
+    found: Found,
     words: &Words,
     n: usize,
     reply: &mut Reply,
 ) -> SamplerPlusTree
-    requires { ⌜ (n ≤ capacityLimit) × SomeOffered tree offer (lent (now nodes) (now cuts) (now copies) (now free) (now boxes)) (now points) (now written) (now weights) (now held) index weight n ⌝ }
-    ensures long { λ r. ⌜ length (take n (now (words .entry))) ≡ n ⌝ }
-    ensures done { λ r. ⌜ ((x : ℕ) (ws : List ℕ) → length (take capacityLimit ws) ≡ n
-        → ArrivesBy offer n index weight x (take n (now (words .entry))) ws tree (lent (now (nodes .entry)) (now (cuts .entry)) (now (copies .entry)) (now (free .entry)) (now (boxes .entry))) (now (points .entry)) (now (written .entry)) (now (weights .entry)) (now (held .entry))
-        r (lent (now (nodes .exit)) (now (cuts .exit)) (now (copies .exit)) (now (free .exit)) (now (boxes .exit))) (now (weights .exit)) (now (held .exit)) (now (reply .exit))) ⌝ }
 {
-    let answer = take_first(
-        tree,
+    let answer = enter_first(
+        left,
         offer,
         nodes,
         cuts,
@@ -205,15 +157,16 @@ pub fn take_arrival(
         free,
         boxes,
         points,
-        written,
         weights,
         held,
         index,
         weight,
+        path,
+        found,
         words,
         n,
     );
-    let next = head_updated(tree, answer);
+    let next = head_updated(left.tree, answer);
     tell_update(answer, reply);
     next
 }
@@ -244,8 +197,7 @@ pub fn arrive(
         r (lent (now (nodes .exit)) (now (cuts .exit)) (now (copies .exit)) (now (free .exit)) (now (boxes .exit))) (now (weights .exit)) (now (held .exit)) (now (reply .exit))) ⌝ }
 {
     let offer = test_arrival(tree, written, weights, index, weight, chance, words, n);
-    take_arrival(
-        tree,
+    let left = tree.leave(
         offer,
         nodes,
         cuts,
@@ -256,8 +208,24 @@ pub fn arrive(
         written,
         weights,
         held,
+    );
+    let mut path = [[0u16; 2]; CAPACITY];
+    let found = left.find(offer, nodes, cuts, points, index, &mut path);
+    enter(
+        left,
+        offer,
+        nodes,
+        cuts,
+        copies,
+        free,
+        boxes,
+        points,
+        weights,
+        held,
         index,
         weight,
+        &path,
+        found,
         words,
         n,
         reply,

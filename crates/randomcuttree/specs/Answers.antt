@@ -1,9 +1,11 @@
 -- What an add and a delete answer, in document 01's numbers and values, and what they leave. Definitions.
 use mathlib.Core.Path.{_≡_}
+use mathlib.Core.Option.{some}
 use mathlib.Core.List.{List}
 use Prim.Native.Nat.{ℕ}
 use lib.Ieee.{Float}
 use Rattle.cuttree.specs.Run.{World, add, delete, call, Answer, refused, written, added, deleted, copiesAre, branchIs, boxIs, numberOf}
+use Rattle.wholetree.specs.Reading.{Reading}
 use Rattle.wholetree.specs.Whole.{whole}
 use Rattle.treestore.specs.Arrays.{Lent}
 use Rattle.randomcuttree.specs.declared.RCFTree.{RCFTree}
@@ -49,6 +51,11 @@ pub record Called {R : Type 0} (d c : ℕ) (s : Float) (says : RCFTree → Answe
 -- An add and a delete, whichever world's the lent state is. A refused one leaves the world as it is, so each array and the header.
 abbrev pub AddDone : RCFTree → Lent → List (List Float) → List ℕ → ℕ → List ℕ → AddAnswer → Lent → Type 0
 AddDone tree before points marks i words r after = (d c : ℕ) (s : Float) (W : World (whole d)) → State d c s W tree before points marks
+    → Called d c s (addSays d) (call (whole d) c W (add i words)) r after points marks
+
+-- the same of a reading that was looked for: the index is written
+abbrev pub SeenAdded : RCFTree → Lent → List (List Float) → ℕ → List ℕ → AddAnswer → Lent → Type 0
+SeenAdded tree before points i words r after = (d c : ℕ) (s : Float) (W : World (whole d)) (marks : List ℕ) (p : Reading) → State d c s W tree before points marks → W .table i ≡ some p
     → Called d c s (addSays d) (call (whole d) c W (add i words)) r after points marks
 
 abbrev pub DeleteDone : RCFTree → Lent → List (List Float) → List ℕ → ℕ → DeleteAnswer → Lent → Type 0

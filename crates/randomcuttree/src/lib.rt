@@ -17,6 +17,7 @@ use limits::POINTS;
 use limits::Path;
 use limits::Points;
 use pointstore::PutAnswer;
+use treestore::Found;
 ghost use mathlib.Core.Path.{_≡_};
 ghost use mathlib.Core.List.{[]};
 ghost use Prim.Native.Nat.{_<_};
@@ -27,7 +28,8 @@ ghost use Rattle.layout.specs.Layout.{noRow, noBoxEnds};
 ghost use Rattle.pointstore.specs.Puts.{Puts};
 ghost use Rattle.treestore.specs.Arrays.{lent};
 ghost use Rattle.randomcuttree.specs.State.{headed, SomeState};
-ghost use Rattle.randomcuttree.specs.Answers.{AddDone, DeleteDone};
+ghost use Rattle.randomcuttree.specs.Answers.{AddDone, SeenAdded, DeleteDone};
+ghost use Rattle.randomcuttree.specs.Finds.{nowhere, Seeks, Sees, SomeSeen};
 ghost use Rattle.randomcuttree.specs.Making.{MakeDone};
 ghost use Rattle.randomcuttree.specs.Queries.{copiesRead, branchRead, BoxTold, SomeBoxRead, noBox};
 
@@ -119,6 +121,18 @@ fn no_box() -> BoxAnswer
             min_values: [0.0; CHANNELS],
             max_values: [0.0; CHANNELS],
         },
+    }
+}
+
+// What is found where no walk is made.
+// Rules out a node counted, and a value told as held.
+pub fn no_walk() -> Found
+    ensures { λ r. ⌜ r ≡ nowhere ⌝ }
+{
+    Found {
+        walk: 0,
+        leaf: 0,
+        held: false,
     }
 }
 
@@ -273,6 +287,93 @@ impl RCFTree {
         pointstore::put(self.dimensions, copies, points, written, index, coordinates)
     }
 
+    // Looks for the reading of an index: its walk is written to the path. In an empty tree there is none.
+    // Rules out a walk through the rows of an empty tree, and a leaf of another value taken for the reading's own.
+    pub fn find(
+        self,
+        nodes: &Nodes,
+        cuts: &Cuts,
+        points: &Points,
+        index: usize,
+        path: &mut Path,
+    ) -> Found
+        requires { ⌜ Seeks self (now nodes) (now cuts) (now points) index ⌝ }
+        ensures { λ r. ⌜ Sees self (now (nodes .entry)) (now (cuts .entry)) (now (points .entry)) index (now (path .entry)) r (now (path .exit)) ⌝ }
+    {
+        if self.total == 0 {
+            return no_walk();
+        }
+        treestore::find(
+            self.root,
+            self.capacity,
+            nodes,
+            cuts,
+            points,
+            index,
+            path,
+        )
+    }
+
+    // The add of a reading that was looked for, in a tree below its total: the walk tells how many words it takes before any of them is needed.
+    // Rules out words taken for a value that is held, and a leaf put where the walk doesn't end.
+    pub fn add_found(
+        self,
+        nodes: &mut Nodes,
+        cuts: &mut Cuts,
+        copies: &mut Copies,
+        free: &mut Free,
+        boxes: &mut Boxes,
+        points: &Points,
+        index: usize,
+        path: &Path,
+        found: Found,
+        words: &[u64],
+    ) -> AddAnswer
+        requires { ⌜ SomeSeen self (lent (now nodes) (now cuts) (now copies) (now free) (now boxes)) (now points) index (now path) found ⌝ }
+        ensures { λ r. ⌜ SeenAdded self (lent (now (nodes .entry)) (now (cuts .entry)) (now (copies .entry)) (now (free .entry)) (now (boxes .entry))) (now (points .entry)) index (now (words .entry)) r (lent (now (nodes .exit)) (now (cuts .exit)) (now (copies .exit)) (now (free .exit)) (now (boxes .exit))) ⌝ }
+    {
+        let total = self.total;
+        if total == 0 {
+            nodestore::add_root(copies, index);
+            let root = index as u16 + self.capacity;
+            let tree = headed_by(self, root, 1, self.manager);
+            return AddAnswer::Added(tree, index, 0);
+        }
+        let n = found.walk;
+        let leaf = found.leaf;
+        if found.held {
+            nodestore::add_copy(nodes, copies, path, n, leaf);
+            let tree = headed_by(self, self.root, total + 1, self.manager);
+            return AddAnswer::Added(tree, leaf, 0);
+        }
+        if self.manager.is_empty() {
+            return AddAnswer::NotAdded(10);
+        }
+        if words.len() < n {
+            return AddAnswer::NotAdded(11);
+        }
+        let entered = treestore::insert_leaf(
+            self.root,
+            self.manager,
+            self.capacity,
+            self.cached,
+            nodes,
+            cuts,
+            copies,
+            free,
+            boxes,
+            points,
+            path,
+            n,
+            leaf,
+            index,
+            words,
+            &points[index],
+        );
+        let tree = headed_by(self, entered.root, total + 1, entered.manager);
+        AddAnswer::Added(tree, index, entered.words)
+    }
+
     // One copy more of the reading written for an index, with a word for each node of the walk where its value is new; or a refusal, in
     // document 01's order, and nothing written.
     // Rules out words taken for a value that is held, and a full tree told before the value is looked for.
@@ -297,59 +398,23 @@ impl RCFTree {
         if written[index] == 0 {
             return AddAnswer::NotAdded(9);
         }
-        let total = self.total;
-        if total == Self::TOTAL {
+        if self.total == Self::TOTAL {
             return AddAnswer::NotAdded(10);
-        }
-        if total == 0 {
-            nodestore::add_root(copies, index);
-            let root = index as u16 + self.capacity;
-            let tree = headed_by(self, root, 1, self.manager);
-            return AddAnswer::Added(tree, index, 0);
         }
         let mut path = [[0u16; 2]; CAPACITY];
-        let found = treestore::find(
-            self.root,
-            self.capacity,
-            nodes,
-            cuts,
-            points,
-            index,
-            &mut path,
-        );
-        let n = found.walk;
-        let leaf = found.leaf;
-        if found.held {
-            nodestore::add_copy(nodes, copies, &path, n, leaf);
-            let tree = headed_by(self, self.root, total + 1, self.manager);
-            return AddAnswer::Added(tree, leaf, 0);
-        }
-        if self.manager.is_empty() {
-            return AddAnswer::NotAdded(10);
-        }
-        if words.len() < n {
-            return AddAnswer::NotAdded(11);
-        }
-        let entered = treestore::insert_leaf(
-            self.root,
-            self.manager,
-            self.capacity,
-            self.cached,
+        let found = self.find(nodes, cuts, points, index, &mut path);
+        self.add_found(
             nodes,
             cuts,
             copies,
             free,
             boxes,
             points,
-            &path,
-            n,
-            leaf,
             index,
+            &path,
+            found,
             words,
-            &points[index],
-        );
-        let tree = headed_by(self, entered.root, total + 1, entered.manager);
-        AddAnswer::Added(tree, index, entered.words)
+        )
     }
 
     // One copy less of the reading written for an index; or a refusal, in document 01's order, and nothing written.

@@ -23,43 +23,6 @@ ghost use Rattle.arrivals.specs.Reach.{takes, SomeReach, UsedIs};
 ghost use Rattle.arrivals.specs.Arrived.{Arrives, ReadsWords};
 ghost use Rattle.runlayout.specs.Layout.{number, double, standsAt, arrivalWordsAt};
 
-// Whether an offer takes the arrival.
-fn is_taken(offer: Offer) -> bool
-    ensures { λ r. ⌜ r ≡ takes offer ⌝ }
-{
-    match offer {
-        Offer::Refused(_) => false,
-        Offer::Passes => false,
-        Offer::Begins => true,
-        Offer::Evicts => true,
-    }
-}
-
-// How many words of an arrival of n have to be read: those that may be looked at. Of a long run most of the time of an arrival would go to the others.
-fn words_used(
-    tree: SamplerPlusTree,
-    offer: Offer,
-    nodes: &Nodes,
-    cuts: &Cuts,
-    points: &Points,
-    written: &Marks,
-    held: &Held,
-    index: usize,
-    n: usize,
-) -> usize
-    requires { ⌜ SomeReach tree (now nodes) (now cuts) (now points) (now written) (now held) ⌝ }
-    ensures few { λ r. ⌜ r ≤ n ⌝ }
-    ensures is { λ r. ⌜ UsedIs tree offer (now (nodes .entry)) (now (cuts .entry)) (now (points .entry)) (now (written .entry)) (now (held .entry)) index n r ⌝ }
-{
-    if is_taken(offer) {
-        return casts::at_most(
-            n,
-            arrivals::reach(tree, nodes, cuts, points, written, held, index),
-        );
-    }
-    0
-}
-
 // The arrival at a place of the run: its answer's numbers in the reply, with 0 after them, and the header after it. It reads those
 // of its words that may be looked at into the lent ones, and those beyond them stay.
 // Rules out the word for the starting chance read from another place, and the last word of a walk unread.
@@ -93,10 +56,7 @@ pub fn arrival_at(
     let chance = runlayout::double_at(run, p + 3);
     let n = casts::at_most(runlayout::number_at(run, p + 5), CAPACITY);
     let offer = arrivals::test_arrival(tree, written, weights, index, weight, chance, words, n);
-    let used = words_used(tree, offer, nodes, cuts, points, written, held, index, n);
-    rungiven::read_words(run, p + 6, used, words);
-    arrivals::take_arrival(
-        tree,
+    let left = tree.leave(
         offer,
         nodes,
         cuts,
@@ -107,8 +67,26 @@ pub fn arrival_at(
         written,
         weights,
         held,
+    );
+    let mut path = [[0u16; 2]; CAPACITY];
+    let found = left.find(offer, nodes, cuts, points, index, &mut path);
+    let used = casts::at_most(n, found.walk);
+    rungiven::read_words(run, p + 6, used, words);
+    arrivals::enter(
+        left,
+        offer,
+        nodes,
+        cuts,
+        copies,
+        free,
+        boxes,
+        points,
+        weights,
+        held,
         index,
         weight,
+        &path,
+        found,
         words,
         n,
         reply,

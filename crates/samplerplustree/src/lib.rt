@@ -11,6 +11,7 @@ use limits::Held;
 use limits::Marks;
 use limits::Nodes;
 use limits::POINTS;
+use limits::Path;
 use limits::Points;
 use limits::Weights;
 use randomcuttree::AddAnswer;
@@ -18,6 +19,7 @@ use randomcuttree::DeleteAnswer;
 use randomcuttree::Made;
 use randomcuttree::RCFTree;
 use sampler::Sampler;
+use treestore::Found;
 ghost use mathlib.Core.Path.{_≡_};
 ghost use Prim.Native.Nat.{_<_};
 ghost use lib.ListN.{length};
@@ -65,6 +67,29 @@ struct AddedLeaf {
     leaf: usize,
 }
 
+// The same of the sampled tree.
+struct Admitted {
+    tree: SamplerPlusTree,
+    leaf: usize,
+}
+
+// Whether an offer takes the arrival.
+fn takes(offer: Offer) -> bool
+{
+    match offer {
+        Offer::Refused(_) => false,
+        Offer::Passes => false,
+        Offer::Begins => true,
+        Offer::Evicts => true,
+    }
+}
+
+// What is left once what an offer evicts is gone: the header, and the index that is gone, 0 where there is none.
+pub struct Left {
+    pub tree: SamplerPlusTree,
+    pub gone: usize,
+}
+
 // The number of the first refusal of a making whose initial share is refused.
 fn refusal_of(dimensions: usize, capacity: usize, cache_fraction: f64) -> u8
     ensures { λ r. ⌜ r ≡ refusalBy dimensions capacity «cache_fraction» ⌝ }
@@ -90,23 +115,25 @@ fn add_leaf(
     free: &mut Free,
     boxes: &mut Boxes,
     points: &Points,
-    written: &Marks,
     index: usize,
+    path: &Path,
+    found: Found,
     words: &[u64],
 ) -> AddedLeaf
     requires { ⌜ SomeAdmits tree (lent (now nodes) (now cuts) (now copies) (now free) (now boxes)) (now points) (now written) index (length (now words)) ⌝ }
     ensures small { λ r. ⌜ r .leaf < pointLimit ⌝ }
     ensures adds { λ r. ⌜ AddsLeaf tree (lent (now (nodes .entry)) (now (cuts .entry)) (now (copies .entry)) (now (free .entry)) (now (boxes .entry))) (now (points .entry)) (now (written .entry)) index (now (words .entry)) r (lent (now (nodes .exit)) (now (cuts .exit)) (now (copies .exit)) (now (free .exit)) (now (boxes .exit))) ⌝ }
 {
-    match tree.add(
+    match tree.add_found(
         nodes,
         cuts,
         copies,
         free,
         boxes,
         points,
-        written,
         index,
+        path,
+        found,
         words,
     ) {
         AddAnswer::Added(next, leaf, _) => AddedLeaf { tree: next, leaf },
@@ -243,9 +270,10 @@ impl SamplerPlusTree {
         Offer::Passes
     }
 
-    // A started arrival: it is added to the tree, and the sample keeps the leaf's index.
-    fn begin(
+    // What an offer evicts leaves: the first entry leaves the sample and its index the tree. Nothing leaves for any other offer.
+    pub fn leave(
         self,
+        offer: Offer,
         nodes: &mut Nodes,
         cuts: &mut Cuts,
         copies: &mut Copies,
@@ -255,39 +283,19 @@ impl SamplerPlusTree {
         written: &Marks,
         weights: &mut Weights,
         held: &mut Held,
-        index: usize,
-        weight: f32,
-        words: &[u64],
-    ) -> UpdateAnswer
-        requires { ⌜ SomeOffered self Offer.Begins (lent (now nodes) (now cuts) (now copies) (now free) (now boxes)) (now points) (now written) (now weights) (now held) index weight (length (now words)) ⌝ }
-        ensures { λ r. ⌜ TakeDone self Offer.Begins (lent (now (nodes .entry)) (now (cuts .entry)) (now (copies .entry)) (now (free .entry)) (now (boxes .entry))) (now (points .entry)) (now (written .entry)) (now (weights .entry)) (now (held .entry)) index weight (now (words .entry)) r
-            (lent (now (nodes .exit)) (now (cuts .exit)) (now (copies .exit)) (now (free .exit)) (now (boxes .exit))) (now (weights .exit)) (now (held .exit)) ⌝ }
+    ) -> Left
     {
-        let added = add_leaf(
-            self.tree,
-            nodes,
-            cuts,
-            copies,
-            free,
-            boxes,
-            points,
-            written,
-            index,
-            words,
-        );
-        let sampler = self.sampler
-            .add_point(weight, added.leaf as u16, weights, held);
-        let tree = added.tree;
-        let next = SamplerPlusTree {
-            tree,
-            sampler,
-            initial_accept_fraction: self.initial_accept_fraction,
-        };
-        UpdateAnswer::Accepted(next, added.leaf)
+        match offer {
+            Offer::Refused(_) => Left { tree: self, gone: 0 },
+            Offer::Passes => Left { tree: self, gone: 0 },
+            Offer::Begins => Left { tree: self, gone: 0 },
+            Offer::Evicts => self.evict(
+                nodes, cuts, copies, free, boxes, points, written, weights, held,
+            ),
+        }
     }
 
-    // An arrival with an eviction: the first entry leaves the sample and its index the tree, before the arrival is added and kept.
-    fn replace(
+    fn evict(
         self,
         nodes: &mut Nodes,
         cuts: &mut Cuts,
@@ -298,13 +306,7 @@ impl SamplerPlusTree {
         written: &Marks,
         weights: &mut Weights,
         held: &mut Held,
-        index: usize,
-        weight: f32,
-        words: &[u64],
-    ) -> UpdateAnswer
-        requires { ⌜ SomeOffered self Offer.Evicts (lent (now nodes) (now cuts) (now copies) (now free) (now boxes)) (now points) (now written) (now weights) (now held) index weight (length (now words)) ⌝ }
-        ensures { λ r. ⌜ TakeDone self Offer.Evicts (lent (now (nodes .entry)) (now (cuts .entry)) (now (copies .entry)) (now (free .entry)) (now (boxes .entry))) (now (points .entry)) (now (written .entry)) (now (weights .entry)) (now (held .entry)) index weight (now (words .entry)) r
-            (lent (now (nodes .exit)) (now (cuts .exit)) (now (copies .exit)) (now (free .exit)) (now (boxes .exit))) (now (weights .exit)) (now (held .exit)) ⌝ }
+    ) -> Left
     {
         let evicted = self.sampler.evict_max(weights, held);
         let gone = wide16(evicted.index);
@@ -319,28 +321,13 @@ impl SamplerPlusTree {
             written,
             gone,
         );
-        let added = add_leaf(
-            left,
-            nodes,
-            cuts,
-            copies,
-            free,
-            boxes,
-            points,
-            written,
-            index,
-            words,
-        );
-        let sampler = evicted
-            .sampler
-            .add_point(weight, added.leaf as u16, weights, held);
-        let tree = added.tree;
-        let next = SamplerPlusTree {
-            tree,
+        let sampler = evicted.sampler;
+        let tree = SamplerPlusTree {
+            tree: left,
             sampler,
             initial_accept_fraction: self.initial_accept_fraction,
         };
-        UpdateAnswer::Replaced(next, added.leaf, gone)
+        Left { tree, gone }
     }
 
     // Acts on what the test told of the same state and arrival. It cannot fail.
@@ -365,38 +352,36 @@ impl SamplerPlusTree {
         ensures { λ r. ⌜ TakeDone self offer (lent (now (nodes .entry)) (now (cuts .entry)) (now (copies .entry)) (now (free .entry)) (now (boxes .entry))) (now (points .entry)) (now (written .entry)) (now (weights .entry)) (now (held .entry)) index weight (now (words .entry)) r
             (lent (now (nodes .exit)) (now (cuts .exit)) (now (copies .exit)) (now (free .exit)) (now (boxes .exit))) (now (weights .exit)) (now (held .exit)) ⌝ }
     {
-        match offer {
-            Offer::Refused(n) => UpdateAnswer::Refused(n),
-            Offer::Passes => UpdateAnswer::NotAccepted,
-            Offer::Begins => self.begin(
-                nodes,
-                cuts,
-                copies,
-                free,
-                boxes,
-                points,
-                written,
-                weights,
-                held,
-                index,
-                weight,
-                words,
-            ),
-            Offer::Evicts => self.replace(
-                nodes,
-                cuts,
-                copies,
-                free,
-                boxes,
-                points,
-                written,
-                weights,
-                held,
-                index,
-                weight,
-                words,
-            ),
-        }
+        let left = self.leave(
+            offer,
+            nodes,
+            cuts,
+            copies,
+            free,
+            boxes,
+            points,
+            written,
+            weights,
+            held,
+        );
+        let mut path = [[0u16; 2]; CAPACITY];
+        let found = left.find(offer, nodes, cuts, points, index, &mut path);
+        left.enter(
+            offer,
+            nodes,
+            cuts,
+            copies,
+            free,
+            boxes,
+            points,
+            weights,
+            held,
+            index,
+            weight,
+            &path,
+            found,
+            words,
+        )
     }
 
     // An arrival: the test, and what it told carried out.
@@ -437,5 +422,112 @@ impl SamplerPlusTree {
             weight,
             words,
         )
+    }
+}
+
+impl Left {
+    // Looks for the reading of an arrival that is taken.
+    pub fn find(
+        self,
+        offer: Offer,
+        nodes: &Nodes,
+        cuts: &Cuts,
+        points: &Points,
+        index: usize,
+        path: &mut Path,
+    ) -> Found
+    {
+        let bare = self.tree.tree;
+        if !takes(offer) {
+            return Found {
+                walk: 0,
+                leaf: 0,
+                held: false,
+            };
+        }
+        bare.find(nodes, cuts, points, index, path)
+    }
+
+    // The arrival is added to the tree, and the sample keeps the leaf's index.
+    fn admit(
+        self,
+        nodes: &mut Nodes,
+        cuts: &mut Cuts,
+        copies: &mut Copies,
+        free: &mut Free,
+        boxes: &mut Boxes,
+        points: &Points,
+        weights: &mut Weights,
+        held: &mut Held,
+        index: usize,
+        weight: f32,
+        path: &Path,
+        found: Found,
+        words: &[u64],
+    ) -> Admitted
+    {
+        let head = self.tree;
+        let added = add_leaf(
+            head.tree,
+            nodes,
+            cuts,
+            copies,
+            free,
+            boxes,
+            points,
+            index,
+            path,
+            found,
+            words,
+        );
+        let sampler = head
+            .sampler
+            .add_point(weight, added.leaf as u16, weights, held);
+        let tree = added.tree;
+        let next = SamplerPlusTree {
+            tree,
+            sampler,
+            initial_accept_fraction: head.initial_accept_fraction,
+        };
+        Admitted { tree: next, leaf: added.leaf }
+    }
+
+    // What the offer was told for enters.
+    pub fn enter(
+        self,
+        offer: Offer,
+        nodes: &mut Nodes,
+        cuts: &mut Cuts,
+        copies: &mut Copies,
+        free: &mut Free,
+        boxes: &mut Boxes,
+        points: &Points,
+        weights: &mut Weights,
+        held: &mut Held,
+        index: usize,
+        weight: f32,
+        path: &Path,
+        found: Found,
+        words: &[u64],
+    ) -> UpdateAnswer
+    {
+        match offer {
+            Offer::Refused(n) => UpdateAnswer::Refused(n),
+            Offer::Passes => UpdateAnswer::NotAccepted,
+            Offer::Begins => {
+                let new = self.admit(
+                    nodes, cuts, copies, free, boxes, points, weights, held, index, weight, path, found, words,
+                );
+                let next = new.tree;
+                UpdateAnswer::Accepted(next, new.leaf)
+            }
+            Offer::Evicts => {
+                let new = self.admit(
+                    nodes, cuts, copies, free, boxes, points, weights, held, index, weight, path, found, words,
+                );
+                let next = new.tree;
+                UpdateAnswer::Replaced(next, new.leaf, self.gone)
+            }
+        }
     }
 }
