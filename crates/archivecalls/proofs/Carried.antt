@@ -12,7 +12,7 @@ use Rattle.randomcuttree.specs.declared.RCFTree.{RCFTree}
 use Rattle.randomcuttree.specs.State.{State, headerOf}
 use Rattle.samplerplustree.specs.declared.SamplerPlusTree.{SamplerPlusTree}
 use Rattle.samplerplustree.specs.State.{SomeSampled, samplerOf}
-use Rattle.samplerplustree.proofs.Begun.{tree-state}
+use Rattle.samplerplustree.proofs.Parts.{tree-state}
 use Rattle.answers.specs.Said.{filled, replyWidth}
 use Rattle.calls.specs.Done.{Does}
 use Rattle.nodeview.specs.Told.{SomeReportRead}

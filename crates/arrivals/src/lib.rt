@@ -107,8 +107,7 @@ fn enter_first(
     found: Found,
     words: &Words,
     n: usize,
-) -> UpdateAnswer
-{
+) -> UpdateAnswer {
     let all: &[u64] = words;
     left.enter(
         offer,
@@ -146,8 +145,7 @@ pub fn enter(
     words: &Words,
     n: usize,
     reply: &mut Reply,
-) -> SamplerPlusTree
-{
+) -> SamplerPlusTree {
     let answer = enter_first(
         left,
         offer,

@@ -303,15 +303,7 @@ impl RCFTree {
         if self.total == 0 {
             return no_walk();
         }
-        treestore::find(
-            self.root,
-            self.capacity,
-            nodes,
-            cuts,
-            points,
-            index,
-            path,
-        )
+        treestore::find(self.root, self.capacity, nodes, cuts, points, index, path)
     }
 
     // The add of a reading that was looked for, in a tree below its total: the walk tells how many words it takes before any of them is needed.

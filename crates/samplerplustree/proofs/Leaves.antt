@@ -17,6 +17,7 @@ use Rattle.wholetree.specs.Reading.{Reading}
 use Rattle.wholetree.specs.Whole.{whole}
 use Rattle.wholetree.proofs.Laws.{whole-laws}
 use Rattle.sampledtree.proofs.Admits.{Adds, held, add-admits, evicted-leaf, delete-admits}
+use Rattle.treestore.specs.declared.Found.{Found}
 use Rattle.treestore.specs.Arrays.{Lent}
 use Rattle.randomcuttree.specs.declared.RCFTree.{RCFTree}
 use Rattle.randomcuttree.specs.declared.AddAnswer.{AddAnswer}
@@ -24,7 +25,9 @@ use Rattle.randomcuttree.specs.declared.AddAnswer.the-variants.{Added, NotAdded
 use Rattle.randomcuttree.specs.declared.DeleteAnswer.{DeleteAnswer}
 use Rattle.randomcuttree.specs.declared.DeleteAnswer.the-variants.{Deleted, NotDeleted}
 use Rattle.randomcuttree.specs.State.{headerOf}
-use Rattle.randomcuttree.specs.Answers.{addSays, deleteSays, AddDone, DeleteDone}
+use Rattle.randomcuttree.specs.Finds.{SomeSeen}
+use Rattle.randomcuttree.proofs.Parts.{total-is}
+use Rattle.randomcuttree.specs.Answers.{addSays, deleteSays, SeenAdded, DeleteDone}
 use Rattle.samplerplustree.specs.Leaves.{SomeAdmits, AddsLeaf, SomeCopy, DeletesLeaf}
 
 -- an index that has a copy is one of the table's
@@ -41,14 +44,14 @@ module _ (d c : ℕ) (s : Float) (t : RCFTree) (j n : ℕ) where
   only-added : (W : World (whole d)) (i : ℕ) (ws : List ℕ) → OnlyAdded (call (whole d) c W (add i ws))
   only-added W i ws = by-add (whole d) c OnlyAdded W (λ m e. nonsense (cc)) i ws (λ k m U _ e. ((cc), (cc)))
 
-module _ (tree : RCFTree) (a : Lent) (points : List (List Float)) (marks : List ℕ) (i : ℕ) (ws : List ℕ) (r : AddAnswer) (b : Lent) (D : AddDone tree a points marks i ws r b) where
-  pub leaf-added : (t : RCFTree) (j n : ℕ) → r ≡ Added t j n → AddsLeaf tree a points marks i ws (record { tree = t; leaf = j }) b
-  leaf-added t j n e d c s W S =
-      let C = D d c s W S in
+module _ (tree : RCFTree) (a : Lent) (points : List (List Float)) (i : ℕ) (ws : List ℕ) (r : AddAnswer) (b : Lent) (D : SeenAdded tree a points i ws r b) where
+  pub leaf-added : (t : RCFTree) (j n : ℕ) → r ≡ Added t j n → AddsLeaf tree a points i ws (record { tree = t; leaf = j }) b
+  leaf-added t j n e d c s W marks p S P =
+      let C = D d c s W marks p S P in
       let A = only-added d c s t j n W i ws (sym e ∙ C .answer) in
       record { words = n; answer = A .0; tree-is = A .1; state = C .state }
 
-  module _ (A : SomeAdmits tree a points marks i (length ws)) where
+  module _ {path : List (List ℕ)} {f : Found} (A : SomeAdmits tree a points i path f (length ws)) where
     abbrev x : Answer (whole (A .channels)) × World (whole (A .channels))
     x = call (whole (A .channels)) (A .capacity) (A .world) (add i ws)
 
@@ -56,7 +59,7 @@ module _ (tree : RCFTree) (a : Lent) (points : List (List Float)) (marks : List 
     admits = let S = A .state in add-admits (whole (A .channels)) (whole-laws (A .channels)) (A .capacity) (A .world) i (A .point) ws (S .reachable .sound) (A .is-written) (A .room) (omega (arith, S .limits .3)) (A .enough)
 
     answered : r ≡ Added (headerOf (A .channels) (A .capacity) (A .share) (x .1)) (admits .leaf-index) (admits .words)
-    answered = D (A .channels) (A .capacity) (A .share) (A .world) (A .state) .answer ∙ ap (addSays (A .channels) (headerOf (A .channels) (A .capacity) (A .share) (x .1))) (admits .answer)
+    answered = D (A .channels) (A .capacity) (A .share) (A .world) (A .marks) (A .point) (A .state) (A .is-written) .answer ∙ ap (addSays (A .channels) (headerOf (A .channels) (A .capacity) (A .share) (x .1))) (admits .answer)
 
     pub never-refused : (n : ℕ) → r ≡ NotAdded n → ⊥
     never-refused n e = let z : _≡_ {A = ℕ} 0 1 = cc answered in omega arith
@@ -65,8 +68,23 @@ module _ (tree : RCFTree) (a : Lent) (points : List (List Float)) (marks : List 
     pub leaf-small : (t : RCFTree) (j n : ℕ) → r ≡ Added t j n → j < pointLimit
     leaf-small t j n e =
         let at : admits .leaf-index ≡ j = cc answered in
-        let C = D (A .channels) (A .capacity) (A .share) (A .world) (A .state) in
+        let C = D (A .channels) (A .capacity) (A .share) (A .world) (A .marks) (A .point) (A .state) (A .is-written) in
         in-table (A .channels) (A .capacity) (x .1 .table) (x .1 .tree) (x .1 .free) j (C .state .reachable .sound) (omega (arith, rw at at (admits .one-more j), is-same j))
+
+-- what the tree's add asks: a tree with fewer copies than its capacity is below its total
+pub seen-some : (tree : RCFTree) (a : Lent) (points : List (List Float)) (i n : ℕ) (path : List (List ℕ)) (f : Found) → SomeAdmits tree a points i path f n → SomeSeen tree a points i path f
+seen-some tree a points i n path f A = record {
+  channels = A .channels;
+  capacity = A .capacity;
+  share = A .share;
+  world = A .world;
+  marks = A .marks;
+  point = A .point;
+  state = A .state;
+  is-written = A .is-written;
+  room = λ e. omega (arith, e, total-is (A .state), A .room, A .state .limits .3);
+  seen = A .seen;
+}
 
 -- ---- THE DELETE
 module _ (d c : ℕ) (s : Float) (t : RCFTree) (j : ℕ) where

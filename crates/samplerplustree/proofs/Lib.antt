@@ -2,7 +2,8 @@ pub mod Makings
 pub mod Tested
 pub mod Leaves
 pub mod Slots
+pub mod Parts
 pub mod Taken
-pub mod Begun
-pub mod Replaced
+pub mod Evicted
+pub mod Entered
 pub mod Standing

@@ -1,7 +1,7 @@
--- The sample's arrays when an entry is added, and when one is evicted first. Assumes nothing.
-use mathlib.Core.Path.{_≡_, refl, sym, ap, _∙_, subst}
+-- The sample's arrays when an entry is added, and when the first is evicted. Assumes nothing.
+use mathlib.Core.Path.{_≡_, refl, sym, ap, _∙_}
 use mathlib.Core.List.{List, _∷_, _++_, map}
-use Prim.Native.Nat.{ℕ, suc, _+_, _-_, _<_}
+use Prim.Native.Nat.{ℕ, suc, _+_, _-_, _≤_, _<_}
 use native.Mathlib.Omega.{arith}
 use lib.ListN.{length, replicate}
 use lib.Ieee.{Float}
@@ -29,19 +29,21 @@ sample-of n ks weights held S = (
 one-off : {A : Type 0} (z : A) (n : ℕ) → n < capacityLimit → replicate (capacityLimit - n) z ≡ z ∷ replicate (capacityLimit - (n + 1)) z
 one-off z n l = let e : capacityLimit - n ≡ suc (capacityLimit - (n + 1)) = omega arith in ap (λ (m : ℕ). replicate m z) e
 
-module _ (ks : List Entry) (k : Entry) (weights : List Float) (held : List ℕ) (f : weights ≡ weightsOf ks) (g : held ≡ heldOf ks) where
-  pub begun : (weights′ : List Float) (held′ : List ℕ) → length ks < capacityLimit → Pushes (length ks) k weights held weights′ held′
+module _ (ks : List Entry) (weights : List Float) (held : List ℕ) (f : weights ≡ weightsOf ks) (g : held ≡ heldOf ks) (weights′ : List Float) (held′ : List ℕ) where
+  pub one-more : (k : Entry) → length ks < capacityLimit → Pushes (length ks) k weights held weights′ held′
       → (weights′ ≡ weightsOf (pushed above beyond ks k)) × (held′ ≡ heldOf (pushed above beyond ks k))
-  begun weights′ held′ l P = sample-of (length ks + 1) (pushed above beyond ks k) weights′ held′ (P ks nought _ 0 _ (record {
+  one-more k l P = sample-of (length ks + 1) (pushed above beyond ks k) weights′ held′ (P ks nought _ 0 _ (record {
     size = refl;
     weights-are = f ∙ ap (λ (r : List Float). map (λ (y : Entry). y .weight) ks ++ r) (one-off nought (length ks) l);
     points-are = g ∙ ap (λ (r : List ℕ). map (λ (y : Entry). y .index) ks ++ r) (one-off 0 (length ks) l);
   }))
 
-  pub replaced : (weights₁ : List Float) (held₁ : List ℕ) (weights′ : List Float) (held′ : List ℕ) → 0 < length ks → Evicts (length ks) weights held weights₁ held₁ → Pushes (length ks - 1) k weights₁ held₁ weights′ held′
-      → (weights′ ≡ weightsOf (pushed above beyond (popped above beyond ks) k)) × (held′ ≡ heldOf (pushed above beyond (popped above beyond ks) k))
-  replaced weights₁ held₁ weights′ held′ l E P =
+  pub one-less : 0 < length ks → length ks ≤ capacityLimit → Evicts (length ks) weights held weights′ held′ → (weights′ ≡ weightsOf (popped above beyond ks)) × (held′ ≡ heldOf (popped above beyond ks))
+  one-less l m E =
       let n : length ks - 1 + 1 ≡ length ks = omega arith in
-      sample-of (length ks) (pushed above beyond (popped above beyond ks) k) weights′ held′
-      (subst (λ (m : ℕ). Slots m (pushed above beyond (popped above beyond ks) k) (replicate (capacityLimit - length ks) nought) (replicate (capacityLimit - length ks) 0) weights′ held′) n
-      (P (popped above beyond ks) nought _ 0 _ (E ks _ _ (record { size = refl; weights-are = f; points-are = g }))))
+      let L = E ks _ _ (record { size = refl; weights-are = f; points-are = g }) in
+      sample-of (length ks - 1) (popped above beyond ks) weights′ held′ (record {
+        size = L .size;
+        weights-are = L .weights-are ∙ ap (λ (r : List Float). map (λ (y : Entry). y .weight) (popped above beyond ks) ++ r) (sym (one-off nought (length ks - 1) (omega arith) ∙ ap (λ (j : ℕ). nought ∷ replicate (capacityLimit - j) nought) n));
+        points-are = L .points-are ∙ ap (λ (r : List ℕ). map (λ (y : Entry). y .index) (popped above beyond ks) ++ r) (sym (one-off 0 (length ks - 1) (omega arith) ∙ ap (λ (j : ℕ). 0 ∷ replicate (capacityLimit - j) 0) n));
+      })

@@ -100,39 +100,5 @@ module _ (d : ℕ) (X : Sampled (whole d)) (i : ℕ) (w : Float) (ws : List ℕ)
       → admitted (whole d) X ks e w y ≡ (accepted j e, withSample (whole d) X (y .1) (pushed above beyond ks (record { weight = w; index = j })))
   admitted-as ks e (b, W) j n h = ap (λ (z : Answer (whole d)). admitted (whole d) X ks e w (z, W)) h
 
-  agrees-after : (x : ℕ) → Agrees (whole d) X → (j : ℕ) (e : Option ℕ) (Y : Sampled (whole d)) → call (whole d) X (arrive i w x ws) ≡ (accepted j e, Y) → Agrees (whole d) Y
+  pub agrees-after : (x : ℕ) → Agrees (whole d) X → (j : ℕ) (e : Option ℕ) (Y : Sampled (whole d)) → call (whole d) X (arrive i w x ws) ≡ (accepted j e, Y) → Agrees (whole d) Y
   agrees-after x A j e Y h = subst (Arrives (whole d) X i w ws) h (every-arrival (whole d) (whole-laws d) X i w x ws A) .2
-
-  module _ (s : Float) (h : SamplerPlusTree) (a : Lent) (points : List (List Float)) (marks : List ℕ) (weights : List Float) (held : List ℕ) (S : SampledState d s X h a points marks weights held) (x : ℕ) where
-    -- the state of the world that an accepted arrival leaves
-    pub accepted-leaves : (j : ℕ) (e : Option ℕ) (W : World (whole d)) (ks : List Entry) → call (whole d) X (arrive i w x ws) ≡ (accepted j e, withSample (whole d) X W ks)
-        → (b : Lent) (weights′ : List Float) (held′ : List ℕ) (r : UpdateAnswer) → State d (X .capacity) s W (headerOf d (X .capacity) s W) b points marks → weights′ ≡ weightsOf ks → held′ ≡ heldOf ks
-        → r ≡ updateSays d (headOf d s (withSample (whole d) X W ks)) (accepted j e) → Updated d s (call (whole d) X (arrive i w x ws)) r b points marks weights′ held′
-    accepted-leaves j e W ks E b weights′ held′ r T f g R = subst (λ z. Updated d s z r b points marks weights′ held′) (sym E) (record {
-      answer = R;
-      state = record { head-is = refl; tree-is = T; weights-are = f; held-are = g; agrees = agrees-after x (S .agrees) j e (withSample (whole d) X W ks) E; initial-is = S .initial-is };
-    })
-
-    -- one that is refused or not accepted leaves the world as it is
-    pub unchanged : (y : SampledAnswer (whole d)) (r : UpdateAnswer) → call (whole d) X (arrive i w x ws) ≡ (y, X) → r ≡ updateSays d (headOf d s X) y → Updated d s (call (whole d) X (arrive i w x ws)) r a points marks weights held
-    unchanged y r E R = subst (λ z. Updated d s z r a points marks weights held) (sym E) (record {
-      answer = R;
-      state = record { head-is = refl; tree-is = S .tree-is; weights-are = S .weights-are; held-are = S .held-are; agrees = S .agrees; initial-is = S .initial-is };
-    })
-
--- ---- the acting function, by its offer
-module _ (h : SamplerPlusTree) (o : Offer) (a : Lent) (points : List (List Float)) (marks : List ℕ) (weights : List Float) (held : List ℕ) (i : ℕ) (w : Float) (ws : List ℕ) where
-  pub take-refused : (n : ℕ) → o ≡ Refused n → TakeDone h o a points marks weights held i w ws (Answers.Refused n) a weights held
-  take-refused n f d s X x S e =
-      let (r, m, E) = call-of d X i w ws (S .agrees .room) x (Refused n) (sym f ∙ e) in
-      unchanged d X i w ws s h a points marks weights held S x (plain (refused r)) (Answers.Refused n) E (ap Answers.Refused m)
-
-  pub take-passes : o ≡ Passes → TakeDone h o a points marks weights held i w ws Answers.NotAccepted a weights held
-  take-passes f d s X x S e = unchanged d X i w ws s h a points marks weights held S x notAccepted Answers.NotAccepted (call-of d X i w ws (S .agrees .room) x Passes (sym f ∙ e)) refl
-
-  module _ (o′ : Offer) (f : o ≡ o′) where
-    pub take-asks : SomeOffered h o a points marks weights held i w (length ws) → SomeOffered h o′ a points marks weights held i w (length ws)
-    take-asks Q = subst (λ (z : Offer). SomeOffered h z a points marks weights held i w (length ws)) f Q
-
-    pub take-does : (r : UpdateAnswer) (b : Lent) (weights′ : List Float) (held′ : List ℕ) → TakeDone h o′ a points marks weights held i w ws r b weights′ held′ → TakeDone h o a points marks weights held i w ws r b weights′ held′
-    take-does r b weights′ held′ T d s X x S e = T d s X x S (sym f ∙ e)

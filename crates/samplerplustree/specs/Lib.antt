@@ -3,4 +3,5 @@ pub mod Making
 pub mod Updates
 pub mod Offers
 pub mod Leaves
+pub mod Entering
 pub mod Standing

@@ -23,13 +23,14 @@ use treestore::Found;
 ghost use mathlib.Core.Path.{_≡_};
 ghost use Prim.Native.Nat.{_<_};
 ghost use lib.ListN.{length};
-ghost use Rattle.limits.specs.Limits.{pointLimit};
+ghost use Rattle.limits.specs.Limits.{capacityLimit, pointLimit};
 ghost use Rattle.treestore.specs.Arrays.{lent};
 ghost use Rattle.samplerplustree.specs.State.{SomeSampled};
 ghost use Rattle.samplerplustree.specs.Making.{refusalBy, SampledMade};
 ghost use Rattle.samplerplustree.specs.Updates.{UpdateDone};
 ghost use Rattle.samplerplustree.specs.Offers.{refusalRead, startsRead, OfferTold, SomeOffered, TakeDone};
 ghost use Rattle.samplerplustree.specs.Leaves.{SomeAdmits, AddsLeaf, SomeCopy, DeletesLeaf};
+ghost use Rattle.samplerplustree.specs.Entering.{takes, answerBy, SomeLeaving, LeaveDone, SeeksBy, SeesBy, SomeEntering, EnterDone, AdmitDone};
 
 // The header: the tree's, the sample's, and the initial share.
 pub struct SamplerPlusTree {
@@ -73,17 +74,6 @@ struct Admitted {
     leaf: usize,
 }
 
-// Whether an offer takes the arrival.
-fn takes(offer: Offer) -> bool
-{
-    match offer {
-        Offer::Refused(_) => false,
-        Offer::Passes => false,
-        Offer::Begins => true,
-        Offer::Evicts => true,
-    }
-}
-
 // What is left once what an offer evicts is gone: the header, and the index that is gone, 0 where there is none.
 pub struct Left {
     pub tree: SamplerPlusTree,
@@ -106,6 +96,30 @@ fn refusal_of(dimensions: usize, capacity: usize, cache_fraction: f64) -> u8
     4
 }
 
+// Whether an offer takes the arrival.
+fn is_taken(offer: Offer) -> bool
+    ensures { λ r. ⌜ r ≡ takes offer ⌝ }
+{
+    match offer {
+        Offer::Refused(_) => false,
+        Offer::Passes => false,
+        Offer::Begins => true,
+        Offer::Evicts => true,
+    }
+}
+
+// What an offer has answered: of an arrival that is taken with the header after it, the leaf's index and the index that is gone.
+fn answer_of(offer: Offer, next: SamplerPlusTree, leaf: usize, gone: usize) -> UpdateAnswer
+    ensures { λ r. ⌜ r ≡ answerBy offer next leaf gone ⌝ }
+{
+    match offer {
+        Offer::Refused(n) => UpdateAnswer::Refused(n),
+        Offer::Passes => UpdateAnswer::NotAccepted,
+        Offer::Begins => UpdateAnswer::Accepted(next, leaf),
+        Offer::Evicts => UpdateAnswer::Replaced(next, leaf, gone),
+    }
+}
+
 // The add where it is never refused.
 fn add_leaf(
     tree: RCFTree,
@@ -120,9 +134,9 @@ fn add_leaf(
     found: Found,
     words: &[u64],
 ) -> AddedLeaf
-    requires { ⌜ SomeAdmits tree (lent (now nodes) (now cuts) (now copies) (now free) (now boxes)) (now points) (now written) index (length (now words)) ⌝ }
+    requires { ⌜ SomeAdmits tree (lent (now nodes) (now cuts) (now copies) (now free) (now boxes)) (now points) index (now path) found (length (now words)) ⌝ }
     ensures small { λ r. ⌜ r .leaf < pointLimit ⌝ }
-    ensures adds { λ r. ⌜ AddsLeaf tree (lent (now (nodes .entry)) (now (cuts .entry)) (now (copies .entry)) (now (free .entry)) (now (boxes .entry))) (now (points .entry)) (now (written .entry)) index (now (words .entry)) r (lent (now (nodes .exit)) (now (cuts .exit)) (now (copies .exit)) (now (free .exit)) (now (boxes .exit))) ⌝ }
+    ensures adds { λ r. ⌜ AddsLeaf tree (lent (now (nodes .entry)) (now (cuts .entry)) (now (copies .entry)) (now (free .entry)) (now (boxes .entry))) (now (points .entry)) index (now (words .entry)) r (lent (now (nodes .exit)) (now (cuts .exit)) (now (copies .exit)) (now (free .exit)) (now (boxes .exit))) ⌝ }
 {
     match tree.add_found(
         nodes,
@@ -270,31 +284,7 @@ impl SamplerPlusTree {
         Offer::Passes
     }
 
-    // What an offer evicts leaves: the first entry leaves the sample and its index the tree. Nothing leaves for any other offer.
-    pub fn leave(
-        self,
-        offer: Offer,
-        nodes: &mut Nodes,
-        cuts: &mut Cuts,
-        copies: &mut Copies,
-        free: &mut Free,
-        boxes: &mut Boxes,
-        points: &Points,
-        written: &Marks,
-        weights: &mut Weights,
-        held: &mut Held,
-    ) -> Left
-    {
-        match offer {
-            Offer::Refused(_) => Left { tree: self, gone: 0 },
-            Offer::Passes => Left { tree: self, gone: 0 },
-            Offer::Begins => Left { tree: self, gone: 0 },
-            Offer::Evicts => self.evict(
-                nodes, cuts, copies, free, boxes, points, written, weights, held,
-            ),
-        }
-    }
-
+    // The first entry leaves the sample, and its index the tree.
     fn evict(
         self,
         nodes: &mut Nodes,
@@ -307,6 +297,9 @@ impl SamplerPlusTree {
         weights: &mut Weights,
         held: &mut Held,
     ) -> Left
+        requires { ⌜ SomeLeaving self Offer.Evicts (lent (now nodes) (now cuts) (now copies) (now free) (now boxes)) (now points) (now written) (now weights) (now held) ⌝ }
+        ensures { λ r. ⌜ LeaveDone self Offer.Evicts (lent (now (nodes .entry)) (now (cuts .entry)) (now (copies .entry)) (now (free .entry)) (now (boxes .entry))) (now (points .entry)) (now (written .entry)) (now (weights .entry)) (now (held .entry)) r
+            (lent (now (nodes .exit)) (now (cuts .exit)) (now (copies .exit)) (now (free .exit)) (now (boxes .exit))) (now (weights .exit)) (now (held .exit)) ⌝ }
     {
         let evicted = self.sampler.evict_max(weights, held);
         let gone = wide16(evicted.index);
@@ -328,6 +321,100 @@ impl SamplerPlusTree {
             initial_accept_fraction: self.initial_accept_fraction,
         };
         Left { tree, gone }
+    }
+
+    // The first step of an arrival: what its offer evicts leaves. No word of the arrival is needed for it.
+    // Rules out an entry that leaves the sample and whose index stays in the tree, and an eviction for an offer that evicts nothing.
+    pub fn leave(
+        self,
+        offer: Offer,
+        nodes: &mut Nodes,
+        cuts: &mut Cuts,
+        copies: &mut Copies,
+        free: &mut Free,
+        boxes: &mut Boxes,
+        points: &Points,
+        written: &Marks,
+        weights: &mut Weights,
+        held: &mut Held,
+    ) -> Left
+        requires { ⌜ SomeLeaving self offer (lent (now nodes) (now cuts) (now copies) (now free) (now boxes)) (now points) (now written) (now weights) (now held) ⌝ }
+        ensures { λ r. ⌜ LeaveDone self offer (lent (now (nodes .entry)) (now (cuts .entry)) (now (copies .entry)) (now (free .entry)) (now (boxes .entry))) (now (points .entry)) (now (written .entry)) (now (weights .entry)) (now (held .entry)) r
+            (lent (now (nodes .exit)) (now (cuts .exit)) (now (copies .exit)) (now (free .exit)) (now (boxes .exit))) (now (weights .exit)) (now (held .exit)) ⌝ }
+    {
+        match offer {
+            Offer::Refused(_) => Left {
+                tree: self,
+                gone: 0,
+            },
+            Offer::Passes => Left {
+                tree: self,
+                gone: 0,
+            },
+            Offer::Begins => Left {
+                tree: self,
+                gone: 0,
+            },
+            Offer::Evicts => self.evict(
+                nodes,
+                cuts,
+                copies,
+                free,
+                boxes,
+                points,
+                written,
+                weights,
+                held,
+            ),
+        }
+    }
+
+    // The arrival is added to the tree, and the sample keeps the leaf's index.
+    fn admit(
+        self,
+        nodes: &mut Nodes,
+        cuts: &mut Cuts,
+        copies: &mut Copies,
+        free: &mut Free,
+        boxes: &mut Boxes,
+        points: &Points,
+        weights: &mut Weights,
+        held: &mut Held,
+        index: usize,
+        weight: f32,
+        path: &Path,
+        found: Found,
+        words: &[u64],
+    ) -> Admitted
+        requires { ⌜ SomeAdmits (self .tree) (lent (now nodes) (now cuts) (now copies) (now free) (now boxes)) (now points) index (now path) found (length (now words)) × (self .sampler .«current_size» < capacityLimit) ⌝ }
+        ensures { λ r. ⌜ AdmitDone self (lent (now (nodes .entry)) (now (cuts .entry)) (now (copies .entry)) (now (free .entry)) (now (boxes .entry))) (now (points .entry)) (now (weights .entry)) (now (held .entry)) index weight (now (words .entry)) r
+            (lent (now (nodes .exit)) (now (cuts .exit)) (now (copies .exit)) (now (free .exit)) (now (boxes .exit))) (now (weights .exit)) (now (held .exit)) ⌝ }
+    {
+        let added = add_leaf(
+            self.tree,
+            nodes,
+            cuts,
+            copies,
+            free,
+            boxes,
+            points,
+            index,
+            path,
+            found,
+            words,
+        );
+        let sampler = self.sampler
+            .add_point(weight, added.leaf as u16, weights, held);
+        let tree = added.tree;
+        let next = SamplerPlusTree {
+            tree,
+            sampler,
+            initial_accept_fraction: self.initial_accept_fraction,
+        };
+        Admitted {
+            tree: next,
+            leaf: added.leaf,
+        }
     }
 
     // Acts on what the test told of the same state and arrival. It cannot fail.
@@ -426,7 +513,8 @@ impl SamplerPlusTree {
 }
 
 impl Left {
-    // Looks for the reading of an arrival that is taken.
+    // Looks for the reading of an arrival, where it is taken: the walk tells how many of the arrival's words are looked at.
+    // Rules out a walk through the tree before the eviction, and one for an arrival that is refused.
     pub fn find(
         self,
         offer: Offer,
@@ -436,63 +524,18 @@ impl Left {
         index: usize,
         path: &mut Path,
     ) -> Found
+        requires { ⌜ SeeksBy self offer (now nodes) (now cuts) (now points) index ⌝ }
+        ensures { λ r. ⌜ SeesBy self offer (now (nodes .entry)) (now (cuts .entry)) (now (points .entry)) index (now (path .entry)) r (now (path .exit)) ⌝ }
     {
-        let bare = self.tree.tree;
-        if !takes(offer) {
-            return Found {
-                walk: 0,
-                leaf: 0,
-                held: false,
-            };
+        if is_taken(offer) {
+            let bare = self.tree.tree;
+            return bare.find(nodes, cuts, points, index, path);
         }
-        bare.find(nodes, cuts, points, index, path)
+        randomcuttree::no_walk()
     }
 
-    // The arrival is added to the tree, and the sample keeps the leaf's index.
-    fn admit(
-        self,
-        nodes: &mut Nodes,
-        cuts: &mut Cuts,
-        copies: &mut Copies,
-        free: &mut Free,
-        boxes: &mut Boxes,
-        points: &Points,
-        weights: &mut Weights,
-        held: &mut Held,
-        index: usize,
-        weight: f32,
-        path: &Path,
-        found: Found,
-        words: &[u64],
-    ) -> Admitted
-    {
-        let head = self.tree;
-        let added = add_leaf(
-            head.tree,
-            nodes,
-            cuts,
-            copies,
-            free,
-            boxes,
-            points,
-            index,
-            path,
-            found,
-            words,
-        );
-        let sampler = head
-            .sampler
-            .add_point(weight, added.leaf as u16, weights, held);
-        let tree = added.tree;
-        let next = SamplerPlusTree {
-            tree,
-            sampler,
-            initial_accept_fraction: head.initial_accept_fraction,
-        };
-        Admitted { tree: next, leaf: added.leaf }
-    }
-
-    // What the offer was told for enters.
+    // The second step of an arrival: it enters, with what was found of its reading.
+    // Rules out the arrival's own index kept in place of the leaf's, and an evicted index told for a started arrival.
     pub fn enter(
         self,
         offer: Offer,
@@ -510,24 +553,29 @@ impl Left {
         found: Found,
         words: &[u64],
     ) -> UpdateAnswer
+        requires { ⌜ SomeEntering self offer (lent (now nodes) (now cuts) (now copies) (now free) (now boxes)) (now points) (now weights) (now held) index weight (now path) found (length (now words)) ⌝ }
+        ensures { λ r. ⌜ EnterDone self offer (lent (now (nodes .entry)) (now (cuts .entry)) (now (copies .entry)) (now (free .entry)) (now (boxes .entry))) (now (points .entry)) (now (weights .entry)) (now (held .entry)) index weight (now (words .entry)) r
+            (lent (now (nodes .exit)) (now (cuts .exit)) (now (copies .exit)) (now (free .exit)) (now (boxes .exit))) (now (weights .exit)) (now (held .exit)) ⌝ }
     {
-        match offer {
-            Offer::Refused(n) => UpdateAnswer::Refused(n),
-            Offer::Passes => UpdateAnswer::NotAccepted,
-            Offer::Begins => {
-                let new = self.admit(
-                    nodes, cuts, copies, free, boxes, points, weights, held, index, weight, path, found, words,
-                );
-                let next = new.tree;
-                UpdateAnswer::Accepted(next, new.leaf)
-            }
-            Offer::Evicts => {
-                let new = self.admit(
-                    nodes, cuts, copies, free, boxes, points, weights, held, index, weight, path, found, words,
-                );
-                let next = new.tree;
-                UpdateAnswer::Replaced(next, new.leaf, self.gone)
-            }
+        if is_taken(offer) {
+            let admitted = self.tree.admit(
+                nodes,
+                cuts,
+                copies,
+                free,
+                boxes,
+                points,
+                weights,
+                held,
+                index,
+                weight,
+                path,
+                found,
+                words,
+            );
+            let next = admitted.tree;
+            return answer_of(offer, next, admitted.leaf, self.gone);
         }
+        answer_of(offer, self.tree, 0, 0)
     }
 }
