@@ -20,8 +20,8 @@ use Rattle.wholetree.specs.Whole.{whole}
 use Rattle.sampledtree.specs.Sampled.{Offer, passes, begins, evicts, offer, Sampled, SampledAnswer, admitted, taken, refuse, ifWritten, arrive, call}
 use Rattle.samplerplustree.specs.declared.Offer.the-variants as Variants
 use Rattle.samplerplustree.specs.Offers.{said, ifMarked, offered}
+use Rattle.samplerplustree.specs.Entering.{takes}
 use Rattle.calls.proofs.Edits.{add-alike}
-use Rattle.arrivals.specs.Reach.{takes}
 
 -- a list is short of c words where its first 256 are
 short-alike : (c : ℕ) (ws : List ℕ) → c ≤ capacityLimit → ltb (length (take capacityLimit ws)) c ≡ ltb (length ws) c

@@ -1,5 +1,5 @@
 pub mod Alike
 pub mod Enough
-pub mod Reached
+pub mod Used
 pub mod Arrived
 pub mod Sample

@@ -13,11 +13,13 @@ use Rattle.samplerplustree.specs.declared.SamplerPlusTree.{SamplerPlusTree}
 use Rattle.samplerplustree.specs.declared.UpdateAnswer.{UpdateAnswer}
 use Rattle.samplerplustree.specs.declared.UpdateAnswer.the-variants.{Refused, NotAccepted, Accepted, Replaced}
 use Rattle.samplerplustree.specs.declared.Offer.{Offer}
+use Rattle.samplerplustree.specs.declared.Left.{Left}
 use Rattle.samplerplustree.specs.State.{SampledState, headOf}
 use Rattle.samplerplustree.specs.Updates.{updateSays}
 use Rattle.samplerplustree.specs.Offers.{offered}
+use Rattle.samplerplustree.specs.Entering.{LeftState}
 use Rattle.answers.specs.Said.{filled, replyWidth}
-use Rattle.arrivals.specs.Reach.{wordsUsed}
+use Rattle.arrivals.specs.Words.{wordsUsed}
 
 -- 'refusal, what became of it (0 not accepted, 1 accepted, 2 accepted and another evicted), the leaf's point index, the evicted point index'
 abbrev pub arrivalNumbers : UpdateAnswer → List ℕ
@@ -38,13 +40,13 @@ Arrives i w x ws tree a points marks weights held tree′ a′ weights′ held�
     (d : ℕ) (s : Float) (X : Sampled (whole d)) → SampledState d s X tree a points marks weights held
     → Arrived d s (call (whole d) X (arrive i w x ws)) tree′ a′ points marks weights′ held′ reply
 
--- the same of an arrival of n words that the offer o was told for, where those of the list first that may be looked at are its own
-abbrev pub ArrivesBy : Offer → ℕ → ℕ → Float → ℕ → List ℕ → List ℕ → SamplerPlusTree → Lent → List (List Float) → List ℕ → List Float → List ℕ → SamplerPlusTree → Lent → List Float → List ℕ → List ℕ → Type 0
-ArrivesBy o n i w x first ws tree a points marks weights held tree′ a′ weights′ held′ reply =
-    (d : ℕ) (s : Float) (X : Sampled (whole d)) → SampledState d s X tree a points marks weights held → o ≡ offered d X i w x n → take (wordsUsed d X i o) first ≡ take (wordsUsed d X i o) (take capacityLimit ws)
+-- the same from between the steps of an arrival of n words that the offer o was told for, where those of the list first that are looked at are its own
+abbrev pub EntersBy : Offer → ℕ → ℕ → Float → ℕ → List ℕ → List ℕ → Left → Lent → List (List Float) → List ℕ → List Float → List ℕ → SamplerPlusTree → Lent → List Float → List ℕ → List ℕ → Type 0
+EntersBy o n i w x first ws left a points marks weights held tree′ a′ weights′ held′ reply =
+    (d : ℕ) (s : Float) (X : Sampled (whole d)) → LeftState d s X o left a points marks weights held → o ≡ offered d X i w x n → take (wordsUsed d X i o) first ≡ take (wordsUsed d X i o) (take capacityLimit ws)
     → Arrived d s (call (whole d) X (arrive i w x ws)) tree′ a′ points marks weights′ held′ reply
 
--- the room for words after an arrival of the words ws that the offer o is told for: it reads as many as it may look at from the front
+-- the room for words after an arrival of the words ws that the offer o is told for: it reads as many as are looked at to the front
 abbrev pub wordsRead : (d : ℕ) → Sampled (whole d) → ℕ → Offer → List ℕ → List ℕ → List ℕ
 wordsRead d X i o ws words = sets words 0 (take (wordsUsed d X i o) (take capacityLimit ws))
 

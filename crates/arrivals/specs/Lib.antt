@@ -1,3 +1,3 @@
-pub mod Reach
+pub mod Words
 pub mod Arrived
 pub mod Sample

@@ -29,10 +29,10 @@ ghost use Rattle.sampler.specs.Sample.{entriesIn};
 ghost use Rattle.treestore.specs.Arrays.{lent};
 ghost use Rattle.samplerplustree.specs.State.{SomeSampled};
 ghost use Rattle.samplerplustree.specs.Updates.{headUpdated};
-ghost use Rattle.samplerplustree.specs.Offers.{OfferTold, SomeOffered, TakeDone};
+ghost use Rattle.samplerplustree.specs.Offers.{OfferTold};
+ghost use Rattle.samplerplustree.specs.Entering.{SomeEntering, EnterDone};
 ghost use Rattle.answers.specs.Said.{filled, replyWidth};
-ghost use Rattle.arrivals.specs.Arrived.{arrivalNumbers, Arrives, ArrivesBy};
-ghost use Rattle.arrivals.specs.Reach.{SomeReach, ReachIs};
+ghost use Rattle.arrivals.specs.Arrived.{arrivalNumbers, Arrives, EntersBy};
 ghost use Rattle.arrivals.specs.Sample.{entryNumbers, SampleWritten};
 
 // The numbers of an arrival's answer, with 0 after them.
@@ -89,7 +89,7 @@ pub fn test_arrival(
     tree.test_arrival(written, weights, index, weight, chance, &all[..n])
 }
 
-// What the test told carried out with the first n words.
+// The second step of an arrival with the first n words.
 fn enter_first(
     left: Left,
     offer: Offer,
@@ -107,7 +107,12 @@ fn enter_first(
     found: Found,
     words: &Words,
     n: usize,
-) -> UpdateAnswer {
+) -> UpdateAnswer
+    requires { ⌜ (n ≤ capacityLimit) × SomeEntering left offer (lent (now nodes) (now cuts) (now copies) (now free) (now boxes)) (now points) (now weights) (now held) index weight (now path) found n ⌝ }
+    ensures long { λ r. ⌜ length (take n (now (words .entry))) ≡ n ⌝ }
+    ensures done { λ r. ⌜ EnterDone left offer (lent (now (nodes .entry)) (now (cuts .entry)) (now (copies .entry)) (now (free .entry)) (now (boxes .entry))) (now (points .entry)) (now (weights .entry)) (now (held .entry)) index weight (take n (now (words .entry))) r
+        (lent (now (nodes .exit)) (now (cuts .exit)) (now (copies .exit)) (now (free .exit)) (now (boxes .exit))) (now (weights .exit)) (now (held .exit)) ⌝ }
+{
     let all: &[u64] = words;
     left.enter(
         offer,
@@ -127,6 +132,9 @@ fn enter_first(
     )
 }
 
+// The second step of an arrival, by as many of its words as a tree has leaves at most, and the header after it. A list is short if it has fewer than
+// the capacity, and no walk takes more. Of the lent words only those that are looked at have to be the arrival's.
+// Rules out an arrival that is short of words where the list has enough, and the old header given back for one that is accepted.
 pub fn enter(
     left: Left,
     offer: Offer,
@@ -145,7 +153,13 @@ pub fn enter(
     words: &Words,
     n: usize,
     reply: &mut Reply,
-) -> SamplerPlusTree {
+) -> SamplerPlusTree
+    requires { ⌜ (n ≤ capacityLimit) × SomeEntering left offer (lent (now nodes) (now cuts) (now copies) (now free) (now boxes)) (now points) (now weights) (now held) index weight (now path) found n ⌝ }
+    ensures long { λ r. ⌜ length (take n (now (words .entry))) ≡ n ⌝ }
+    ensures done { λ r. ⌜ ((x : ℕ) (ws marks : List ℕ) → length (take capacityLimit ws) ≡ n
+        → EntersBy offer n index weight x (take n (now (words .entry))) ws left (lent (now (nodes .entry)) (now (cuts .entry)) (now (copies .entry)) (now (free .entry)) (now (boxes .entry))) (now (points .entry)) marks (now (weights .entry)) (now (held .entry))
+        r (lent (now (nodes .exit)) (now (cuts .exit)) (now (copies .exit)) (now (free .exit)) (now (boxes .exit))) (now (weights .exit)) (now (held .exit)) (now (reply .exit))) ⌝ }
+{
     let answer = enter_first(
         left,
         offer,
@@ -169,7 +183,7 @@ pub fn enter(
     next
 }
 
-// An arrival with a list by as many of its words as a tree has leaves at most, and the header after it: the test, and what it told carried out.
+// An arrival with a list by as many of its words as a tree has leaves at most, and the header after it: the test, and the two steps.
 // Rules out an arrival told by one list of words and carried out with another, and one that is not accepted that moves the tree.
 pub fn arrive(
     tree: SamplerPlusTree,

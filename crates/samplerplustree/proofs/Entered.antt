@@ -43,7 +43,7 @@ use Rattle.samplerplustree.proofs.Slots.{Pushes, one-more}
 use Rattle.samplerplustree.proofs.Evicted.{popped-length, delete-table, room-after}
 
 -- the evicted index that is answered, if any
-abbrev evictedBy : Offer → List Entry → Option ℕ
+abbrev pub evictedBy : Offer → List Entry → Option ℕ
 evictedBy (Refused r) ks = none
 evictedBy Passes ks = none
 evictedBy Begins ks = none
@@ -51,7 +51,7 @@ evictedBy Evicts ks = some (firstIndex ks)
 
 module _ (d : ℕ) (X : Sampled (whole d)) (i : ℕ) (w : Float) (ws : List ℕ) where
   -- what holds between the steps of an arrival that is taken
-  record Ready (o : Offer) (y : SampledAnswer (whole d) × Sampled (whole d)) : Type 0 where
+  pub record Ready (o : Offer) (y : SampledAnswer (whole d) × Sampled (whole d)) : Type 0 where
     pub point : Reading
     pub is-written : worldLeft d X o .table i ≡ some point
     pub room : totalOf (whole d) (worldLeft d X o .tree) < X .capacity
@@ -74,11 +74,18 @@ module _ (d : ℕ) (X : Sampled (whole d)) (i : ℕ) (w : Float) (ws : List ℕ)
         is-call = F .fit .is-taken ∙ ap (λ (ks : List Entry). taken (whole d) X i w ws (Paper.evicts (firstIndex ks) (popped above beyond ks))) (sym (F .sample-is));
       }
 
-  ready : Agrees (whole d) X → (x : ℕ) (o : Offer) → o ≡ offered d X i w x (length ws) → takes o ≡ true → Ready o (call (whole d) X (arrive i w x ws))
+  pub ready : Agrees (whole d) X → (x : ℕ) (o : Offer) → o ≡ offered d X i w x (length ws) → takes o ≡ true → Ready o (call (whole d) X (arrive i w x ws))
   ready A x (Refused n) e t = clash false t refl
   ready A x Passes e t = clash false t refl
   ready A x Begins e t = begins-ready A _ (call-of d X i w ws (A .room) x Begins e)
   ready A x Evicts e t = evicts-ready A _ (call-of d X i w ws (A .room) x Evicts e)
+
+-- an offer is told by how many words there are: that it takes the arrival tells that its reading is written
+pub written-left : (d : ℕ) (X : Sampled (whole d)) (i : ℕ) (w : Float) (n : ℕ) → Agrees (whole d) X → (x : ℕ) (o : Offer) → o ≡ offered d X i w x n → takes o ≡ true → (p : Reading) × (worldLeft d X o .table i ≡ some p)
+written-left d X i w n A x o e t =
+    let blanks : List ℕ = replicate n 0 in
+    let R = ready d X i w blanks A x o (e ∙ ap (offered d X i w x) (sym (length-replicate n 0))) t in
+    (R .point, R .is-written)
 
 -- ---- the add, and the sample that keeps its leaf's index
 pub admit-done : (h : SamplerPlusTree) (a : Lent) (points : List (List Float)) (weights : List Float) (held : List ℕ) (i : ℕ) (w : Float) (ws : List ℕ) (g : AddedLeaf) (b : Lent) (k : Sampler) (weights′ : List Float) (held′ : List ℕ)
@@ -165,17 +172,12 @@ module _ (l : Left) (a : Lent) (points : List (List Float)) (weights : List Floa
 
 -- ---- what each step is told, from what the test told
 module _ (h : SamplerPlusTree) (o : Offer) (a : Lent) (points : List (List Float)) (marks : List ℕ) (weights : List Float) (held : List ℕ) (i : ℕ) (w : Float) (n : ℕ) (Q : SomeOffered h o a points marks weights held i w n) where
-  -- the offer is told by how many words there are
-  abbrev blanks : List ℕ
-  blanks = replicate n 0
-
-  by-many : o ≡ offered (Q .channels) (Q .world) i w (Q .chance) (length blanks)
-  by-many = Q .offer-is ∙ ap (offered (Q .channels) (Q .world) i w (Q .chance)) (sym (length-replicate n 0))
-
   pub leaving : SomeLeaving h o a points marks weights held
   leaving = record {
     sampled = record { channels = Q .channels; share = Q .share; world = Q .world; state = Q .state };
-    kept = λ e. let F : FitEvicts (Q .channels) (Q .world) i w blanks _ = call-of (Q .channels) (Q .world) i w blanks (Q .state .agrees .room) (Q .chance) Evicts (sym e ∙ by-many) in
+    kept = λ e.
+        let blanks : List ℕ = replicate n 0 in
+        let F : FitEvicts (Q .channels) (Q .world) i w blanks _ = call-of (Q .channels) (Q .world) i w blanks (Q .state .agrees .room) (Q .chance) Evicts (sym e ∙ Q .offer-is ∙ ap (offered (Q .channels) (Q .world) i w (Q .chance)) (sym (length-replicate n 0))) in
         omega (arith, size-is (arrays-of (Q .state)), ap length (F .sample-is));
   }
 
@@ -184,7 +186,7 @@ module _ (h : SamplerPlusTree) (o : Offer) (a : Lent) (points : List (List Float
     left = L (Q .channels) (Q .share) (Q .world) (Q .state)
 
     pub seeking : SeeksBy l o (b .nodes) (b .cuts) points i
-    seeking t = seeks (tree-of (left .arrays)) i (ready (Q .channels) (Q .world) i w blanks (left .agrees) (Q .chance) o by-many t .is-written)
+    seeking t = seeks (tree-of (left .arrays)) i (written-left (Q .channels) (Q .world) i w n (left .agrees) (Q .chance) o (Q .offer-is) t .1)
 
     pub entering : (before path : List (List ℕ)) (f : Found) → SeesBy l o (b .nodes) (b .cuts) points i before f path → SomeEntering l o b points weights′ held′ i w path f n
     entering before path f F = record {

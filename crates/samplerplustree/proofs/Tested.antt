@@ -26,8 +26,8 @@ use Rattle.treestore.specs.Arrays.{Lent}
 use Rattle.samplerplustree.specs.declared.SamplerPlusTree.{SamplerPlusTree}
 use Rattle.samplerplustree.specs.declared.Offer.{Offer}
 use Rattle.samplerplustree.specs.declared.Offer.the-variants.{Refused, Passes, Begins, Evicts}
-use Rattle.samplerplustree.specs.State.{SampledState, headOf, weightsOf}
-use Rattle.samplerplustree.specs.Offers.{refusalRead, startsRead, offerRead, said, offered, OfferTold}
+use Rattle.samplerplustree.specs.State.{SampledState, SomeSampled, headOf, weightsOf}
+use Rattle.samplerplustree.specs.Offers.{refusalRead, startsRead, offerRead, said, offered, OfferTold, SomeOffered}
 
 -- an f32 is a weight if it is a number
 pub weight-is : (x : Float) → T (fits binary32 x) → isWeight x ≡ isNumber x
@@ -135,3 +135,8 @@ offer-told h marks weights i w x n r small e = record {
   read = e;
   told = λ d s X a points held S. e ∙ ap (λ z. offerRead z marks weights i w x n) (S .head-is) ∙ ap (λ z. offerRead (headOf d s X) marks z i w x n) (S .weights-are) ∙ told-state d s X h a points marks weights held S i w x n small;
 }
+
+-- what was told of the lent state is what acting on it asks for
+pub some-offered : (h : SamplerPlusTree) (o : Offer) (a : Lent) (points : List (List Float)) (marks : List ℕ) (weights : List Float) (held : List ℕ) (i : ℕ) (w : Float) (x n : ℕ) → OfferTold h marks weights i w x n o → SomeSampled h a points marks weights held
+    → SomeOffered h o a points marks weights held i w n
+some-offered h o a points marks weights held i w x n told S = record { channels = S .channels; share = S .share; world = S .world; chance = x; state = S .state; offer-is = told .told (S .channels) (S .share) (S .world) a points held (S .state) }

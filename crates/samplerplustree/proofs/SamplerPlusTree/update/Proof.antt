@@ -1,4 +1,5 @@
 -- `SamplerPlusTree::update` meets its contract: what the test tells is carried out. Assumes nothing.
+use Rattle.samplerplustree.proofs.Tested.{some-offered}
 use borrow.Author.Needs.{needs}
 use Rattle.samplerplustree.proofs.SamplerPlusTree.update.Statement.{statement}
 use Rattle.samplerplustree.proofs.SamplerPlusTree.update.Tie as tie
@@ -7,7 +8,7 @@ test-arrival-requires : tie.Need-test-arrival-requires
 test-arrival-requires c κs = search needs
 
 take-arrival-requires : tie.Need-take-arrival-requires
-take-arrival-requires c κs = let q = c .before .before .before .before .before .before .before .before .before .before .pre in record { channels = q .channels; share = q .share; world = q .world; chance = c .before .before .before .before .before .before .before .before .before .before .args .chance; state = q .state; offer-is = c .before .before .before .before .before .before .before .test-arrival .ensures .told (q .channels) (q .share) (q .world) _ _ _ (q .state) }
+take-arrival-requires c κs = some-offered _ _ _ _ _ _ _ _ _ _ _ (c .before .before .before .before .before .before .before .test-arrival .ensures) (c .before .before .before .before .before .before .before .before .before .before .pre)
 
 returns : tie.Need-returns
 returns c = λ d s X S. c .take-arrival .ensures d s X (c .before .before .before .before .before .before .before .before .before .before .before .args .chance) S (c .before .before .before .before .before .before .before .before .test-arrival .ensures .told d s X _ _ _ S)
