@@ -14,14 +14,18 @@ use Rattle.cuttree.proofs.Tests.{by-test}
 use Rattle.wholetree.specs.Whole.{whole, tab}
 use Rattle.wholetree.proofs.Readings.{tab-length}
 use Rattle.sampledtree.specs.Sampled.{Sampled}
+use Rattle.treestore.specs.declared.Found.{Found}
 use Rattle.treestore.specs.Arrays.{Lent}
 use Rattle.samplerplustree.specs.declared.SamplerPlusTree.{SamplerPlusTree}
 use Rattle.samplerplustree.specs.declared.Offer.{Offer}
-use Rattle.samplerplustree.specs.State.{SampledState, SomeSampled}
-use Rattle.samplerplustree.specs.Offers.{offered, OfferTold, SomeOffered}
-use Rattle.arrivals.specs.Reach.{wordsUsed, UsedIs}
-use Rattle.arrivals.specs.Arrived.{Arrives, ArrivesBy, wordsRead, ReadsWords}
+use Rattle.samplerplustree.specs.declared.Left.{Left}
+use Rattle.samplerplustree.specs.State.{SampledState}
+use Rattle.samplerplustree.specs.Offers.{offered, OfferTold}
+use Rattle.samplerplustree.specs.Entering.{LeaveDone, SeesBy}
+use Rattle.arrivals.specs.Words.{wordsUsed}
+use Rattle.arrivals.specs.Arrived.{Arrives, EntersBy, wordsRead, ReadsWords}
 use Rattle.arrivals.proofs.Alike.{offered-alike}
+use Rattle.arrivals.proofs.Used.{used-is}
 use Rattle.runlayout.specs.Layout.{size, number, double, callWidth, standsAt, arrivalWordsAt}
 use Rattle.runlayout.proofs.Rest.{within}
 use Rattle.rungiven.proofs.Taken.{take-tab}
@@ -52,14 +56,13 @@ module _ (bytes : List ℕ) (p : ℕ) where
     long : length (take capacityLimit (arrivalWordsAt bytes p)) ≡ n
     long = ap length first ∙ tab-length n _
 
-    pub arrival-offered : SomeSampled tree a points marks weights held → SomeOffered tree o a points marks weights held i w n
-    arrival-offered S = record { channels = S .channels; share = S .share; world = S .world; chance = x; state = S .state; offer-is = told .told (S .channels) (S .share) (S .world) a points held (S .state) }
-
-    module _ (k : ℕ) (used : UsedIs tree o (a .nodes) (a .cuts) points marks held i n k) (l₀ l : List ℕ)
+    -- what is left of the arrival's first step, and what was found of its reading there
+    module _ (left : Left) (b : Lent) (weights₁ : List Float) (held₁ : List ℕ) (L : LeaveDone tree o a points marks weights held left b weights₁ held₁)
+        (before path : List (List ℕ)) (f : Found) (F : SeesBy left o (b .nodes) (b .cuts) points i before f path) (k : ℕ) (used : k ≡ min n (f .walk)) (l₀ l : List ℕ)
         (read : (l ≡ sets l₀ 0 (tab k (λ (j : ℕ). double bytes (p + 6 + 2 * j)))) × (take k l ≡ tab k (λ (j : ℕ). double bytes (p + 6 + 2 * j)))) where
       module _ (d : ℕ) (s : Float) (X : Sampled (whole d)) (S : SampledState d s X tree a points marks weights held) where
         k-is : k ≡ min n (wordsUsed d X i o)
-        k-is = used (a .copies) (a .free) (a .boxes) weights d s X S
+        k-is = used ∙ ap (min n) (used-is (L d s X S) i w x n (told .told d s X a points held S) F)
 
         own : take (wordsUsed d X i o) (take capacityLimit (arrivalWordsAt bytes p)) ≡ tab k (λ (j : ℕ). double bytes (p + 6 + 2 * j))
         own = ap (take (wordsUsed d X i o)) first ∙ take-tab _ (wordsUsed d X i o) n k k-is
@@ -73,11 +76,11 @@ module _ (bytes : List ℕ) (p : ℕ) where
             let q : o ≡ offered d X i w x (length ws) = told .told d s X a points held S ∙ ap (offered d X i w x) (sym long) ∙ offered-alike d X i w (S .tree-is .limits .3) x ws in
             read .0 ∙ ap (sets l₀ 0) (sym own) ∙ ap (λ (z : Offer). wordsRead d X i z ws l₀) q
 
-      pub arrival-given : (tree′ : SamplerPlusTree) (b : Lent) (weights′ : List Float) (held′ reply : List ℕ)
-          → ((y : ℕ) (ws : List ℕ) → length (take capacityLimit ws) ≡ n → ArrivesBy o n i w y (take n l) ws tree a points marks weights held tree′ b weights′ held′ reply)
-          → Arrives (number bytes (p + 1)) (ofBits binary32 (number bytes (p + 2))) (double bytes (p + 3)) (arrivalWordsAt bytes p) tree a points marks weights held tree′ b weights′ held′ reply
+      pub arrival-given : (tree′ : SamplerPlusTree) (a′ : Lent) (weights′ : List Float) (held′ reply : List ℕ)
+          → ((y : ℕ) (ws marks : List ℕ) → length (take capacityLimit ws) ≡ n → EntersBy o n i w y (take n l) ws left b points marks weights₁ held₁ tree′ a′ weights′ held′ reply)
+          → Arrives (number bytes (p + 1)) (ofBits binary32 (number bytes (p + 2))) (double bytes (p + 3)) (arrivalWordsAt bytes p) tree a points marks weights held tree′ a′ weights′ held′ reply
           × ReadsWords (number bytes (p + 1)) (ofBits binary32 (number bytes (p + 2))) (double bytes (p + 3)) (arrivalWordsAt bytes p) tree a points marks weights held l₀ l
-      arrival-given tree′ b weights′ held′ reply A =
-          let does : Arrives i w x (arrivalWordsAt bytes p) tree a points marks weights held tree′ b weights′ held′ reply = λ d s X S. A x (arrivalWordsAt bytes p) long d s X S (told .told d s X a points held S) (agree d s X S) in
+      arrival-given tree′ a′ weights′ held′ reply A =
+          let does : Arrives i w x (arrivalWordsAt bytes p) tree a points marks weights held tree′ a′ weights′ held′ reply = λ d s X S. A x (arrivalWordsAt bytes p) marks long d s X (L d s X S) (told .told d s X a points held S) (agree d s X S) in
           let words : ReadsWords i w x (arrivalWordsAt bytes p) tree a points marks weights held l₀ l = reads in
           rw (← index, ← pattern, ← weight, ← chance) (does, words)

@@ -11,20 +11,18 @@ use limits::Marks;
 use limits::Nodes;
 use limits::Points;
 use limits::Weights;
-use samplerplustree::Offer;
 use samplerplustree::SamplerPlusTree;
 ghost use mathlib.Core.Path.{_≡_};
 ghost use mathlib.Core.Bool.{true};
-ghost use Prim.Native.Nat.{_+_, _≤_};
+ghost use Prim.Native.Nat.{_+_};
 ghost use lib.Ieee.{binary32, ofBits};
 ghost use Rattle.treestore.specs.Arrays.{lent};
 ghost use Rattle.samplerplustree.specs.State.{SomeSampled};
-ghost use Rattle.arrivals.specs.Reach.{takes, SomeReach, UsedIs};
 ghost use Rattle.arrivals.specs.Arrived.{Arrives, ReadsWords};
 ghost use Rattle.runlayout.specs.Layout.{number, double, standsAt, arrivalWordsAt};
 
-// The arrival at a place of the run: its answer's numbers in the reply, with 0 after them, and the header after it. It reads those
-// of its words that may be looked at into the lent ones, and those beyond them stay.
+// The arrival at a place of the run: its answer's numbers in the reply, with 0 after them, and the header after it. What it evicts is gone before its
+// words are read: those that are looked at go to the front of the lent ones, whose others stay. Of a long run most of the time would go to the rest.
 // Rules out the word for the starting chance read from another place, and the last word of a walk unread.
 pub fn arrival_at(
     tree: SamplerPlusTree,

@@ -1,7 +1,9 @@
 -- `runarrivals::arrival_at` meets its contract. Assumes nothing.
 use native.Mathlib.Omega.{arith}
 use Rattle.treestore.specs.Arrays.{lent}
-use Rattle.runarrivals.proofs.Given.{arrival-inside, arrival-offered, arrival-given}
+use Rattle.samplerplustree.proofs.Tested.{some-offered}
+use Rattle.samplerplustree.proofs.Entered.{leaving, seeking, entering}
+use Rattle.runarrivals.proofs.Given.{arrival-inside, arrival-given}
 use borrow.Author.Needs.{needs}
 use Rattle.runarrivals.proofs.arrival_at.Statement.{statement}
 use Rattle.runarrivals.proofs.arrival_at.Tie as tie
@@ -39,32 +41,43 @@ at-most-requires c κs = search needs
 test-arrival-requires : tie.Need-test-arrival-requires
 test-arrival-requires c κs = omega (arith, c .before .before .at-most .ensures)
 
-words-used-requires : tie.Need-words-used-requires
-words-used-requires c κs = let q = c .before .before .before .before .before .before .before .before .before .before .before .before .before .pre .1 in record { copies = _; free = _; boxes = _; weights = _; channels = q .channels; share = q .share; world = q .world; state = q .state }
+leave-requires : tie.Need-leave-requires
+leave-requires c κs = let s = c .before .before .before .before .before .before .before .before .before .before .before .before .before .before .before .before .before in leaving (s .args .tree) _ _ _ _ _ _ _ _ _ (some-offered _ _ _ _ _ _ _ _ _ _ _ (c .before .before .before .before .before .before .before .test-arrival .ensures) (s .pre .1))
+
+find-requires : tie.Need-find-requires
+find-requires c κs =
+    let s = c .before .before .before .before .before .before .before .before .before .before .before .before .before .before .before .before .before .before .before .before .before in
+    seeking (s .args .tree) _ _ _ _ _ _ _ _ _ (some-offered _ _ _ _ _ _ _ _ _ _ _ (c .before .before .before .before .before .before .before .before .before .before .before .test-arrival .ensures) (s .pre .1)) _ _ _ _ (c .before .before .before .leave .ensures)
+
+at-most-requires-2 : tie.Need-at-most-requires-2
+at-most-requires-2 c κs = search needs
 
 add-read-words : tie.Need-add-read-words
-add-read-words c = let s = c .before .before .before .before .before .before .before .before .before .before .before .before .before .before in omega (arith, arrival-inside (s .args .run .now) _ (s .pre .0), s .good .1 .1 .1 .1 .1 .1 .1 .1 .1 .1 .0)
+add-read-words c = let s = c .before .before .before .before .before .before .before .before .before .before .before .before .before .before .before .before .before .before .before .before .before .before .before in omega (arith, arrival-inside (s .args .run .now) _ (s .pre .0), s .good .1 .1 .1 .1 .1 .1 .1 .1 .1 .1 .0)
 
 read-words-requires : tie.Need-read-words-requires
 read-words-requires c κs =
-    let s = c .before .before .before .before .before .before .before .before .before .before .before .before .before .before .before in
-    let few = c .before .words-used .ensures .0 in
-    let n = c .before .before .before .before .before .before .before .before .at-most .ensures in
-    (omega (arith, few, n), omega (arith, few, n, arrival-inside (s .args .run .now) _ (s .pre .0), c .before .before .before .before .before .before .before .before .before .number-at2 .ensures .0))
+    let r = c .before .before .before .before .before .before .before .before .before .before .before .before .before .before .before .before .before in
+    let s = r .before .before .before .before .before .before .before in
+    let few = c .before .at-most2 .ensures in
+    let n = r .at-most .ensures in
+    (omega (arith, few, n), omega (arith, few, n, arrival-inside (s .args .run .now) _ (s .pre .0), r .before .number-at2 .ensures .0))
 
-take-arrival-requires : tie.Need-take-arrival-requires
-take-arrival-requires c κs =
-    let t = c .before .before .before .before .before .before .before .before .before .before .before .before .before .before .before in
+enter-requires : tie.Need-enter-requires
+enter-requires c κs =
+    let left = c .before .before .before .before .before .before .before .before .before .before .before .before .before .before .before .before .before in
+    let t = left .before .before .before .before .before .before .before .before in
     let r = t .before .before .before in
     let s = r .before .before .before .before .before .before .before in
-    (omega (arith, r .at-most .ensures), arrival-offered (s .args .run .now) _ _ _ _ _ _ _ _ _ _ _ _ _ _ (r .before .before .before .before .before .number-at .ensures .0) (r .before .before .before .before .bits-at .ensures) (r .before .before .before .float-of .ensures) (r .before .before .double-at .ensures) (r .before .number-at2 .ensures .0) (r .at-most .ensures) (t .test-arrival .ensures) (s .pre .1))
+    (omega (arith, r .at-most .ensures), entering (s .args .tree) _ _ _ _ _ _ _ _ _ (some-offered _ _ _ _ _ _ _ _ _ _ _ (t .test-arrival .ensures) (s .pre .1)) _ _ _ _ (left .leave .ensures) _ _ _ (c .before .before .before .before .before .before .before .before .before .before .before .before .before .find .ensures))
 
 returns : tie.Need-returns
 returns c =
-    let t = c .before .before .before .before .before .before .before .before .before .before .before .before .before .before .before .before in
+    let left = c .before .before .before .before .before .before .before .before .before .before .before .before .before .before .before .before .before .before in
+    let t = left .before .before .before .before .before .before .before .before in
     let r = t .before .before .before in
     let s = r .before .before .before .before .before .before .before in
-    arrival-given (s .args .run .now) _ _ (lent (s .args .nodes .now) (s .args .cuts .now) (s .args .copies .now) (s .args .free .now) (s .args .boxes .now)) _ _ _ _ _ _ _ _ _ _ _ (r .before .before .before .before .before .number-at .ensures .0) (r .before .before .before .before .bits-at .ensures) (r .before .before .before .float-of .ensures) (r .before .before .double-at .ensures) (r .before .number-at2 .ensures .0) (r .at-most .ensures) (t .test-arrival .ensures) _ (c .before .before .before .before .before .before .before .before .before .before .before .before .words-used .ensures .1) (s .args .words .now) _ (c .before .before .before .before .before .before .before .before .before .before .read-words .ensures) _ _ _ _ _ (c .take-arrival .ensures .1)
+    arrival-given (s .args .run .now) _ _ (lent (s .args .nodes .now) (s .args .cuts .now) (s .args .copies .now) (s .args .free .now) (s .args .boxes .now)) _ _ _ _ _ _ _ _ _ _ _ (r .before .before .before .before .before .number-at .ensures .0) (r .before .before .before .before .bits-at .ensures) (r .before .before .before .float-of .ensures) (r .before .before .double-at .ensures) (r .before .number-at2 .ensures .0) (r .at-most .ensures) (t .test-arrival .ensures) _ _ _ _ (left .leave .ensures) _ _ _ (c .before .before .before .before .before .before .before .before .before .before .before .before .before .before .find .ensures) _ (c .before .before .before .before .before .before .before .before .before .before .before .before .before .at-most2 .ensures) (s .args .words .now) _ (c .before .before .before .before .before .before .before .before .before .before .before .read-words .ensures) _ _ _ _ _ (c .enter .ensures .1)
 
 pub arrival-at-spec : {M : Type 1} → statement M
 arrival-at-spec =
@@ -81,8 +94,10 @@ arrival-at-spec =
     number-at-requires-2
     at-most-requires
     test-arrival-requires
-    words-used-requires
+    leave-requires
+    find-requires
+    at-most-requires-2
     add-read-words
     read-words-requires
-    take-arrival-requires
+    enter-requires
     returns)
