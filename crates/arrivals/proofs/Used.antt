@@ -1,6 +1,5 @@
 -- That the walk between an arrival's steps tells how many of its words are looked at, and that no others are. Assumes nothing.
 use mathlib.Core.Path.{_≡_, sym, ap, _∙_}
-use mathlib.Core.Bool.{true, false}
 use mathlib.Core.Option.{Option, some}
 use mathlib.Core.List.{List}
 use Prim.Native.Nat.{ℕ, _<_}
@@ -58,11 +57,11 @@ module _ {d : ℕ} {s : Float} {X : Sampled (whole d)} {o : Offer} {l : Left} {a
     pub enough : take (wordsUsed d X i o) first ≡ take (wordsUsed d X i o) ws → call (whole d) X (arrive i w x first) ≡ call (whole d) X (arrive i w x ws)
     enough y = by-test (takes o)
         (λ t.
-          let A : Ready d X i w first o (call (whole d) X (arrive i w x first)) = ready d X i w first (L .agrees) x o (told ∙ ap (offered d X i w x) (sym long)) t in
-          let B : Ready d X i w ws o (call (whole d) X (arrive i w x ws)) = ready d X i w ws (L .agrees) x o (told ∙ ap (offered d X i w x) (sym long′)) t in
-          let m = walkIn (whole d) (W .tree) (W .table i) in
-          let P = A .is-written in
-          A .is-call
-          ∙ ap (admitted (whole d) X (entriesLeft o (X .sample)) (evictedBy o (X .sample)) w) (add-within (whole d) (X .capacity) m first ws (alike-below m (rw t at y)) (long ∙ sym long′) W i (A .point) P (rw P (omega arith)))
-          ∙ sym (B .is-call))
+        let A : Ready d X i w first o (call (whole d) X (arrive i w x first)) = ready d X i w first (L .agrees) x o (told ∙ ap (offered d X i w x) (sym long)) t in
+        let B : Ready d X i w ws o (call (whole d) X (arrive i w x ws)) = ready d X i w ws (L .agrees) x o (told ∙ ap (offered d X i w x) (sym long′)) t in
+        let m = walkIn (whole d) (W .tree) (W .table i) in
+        let P = A .is-written in
+        A .is-call
+        ∙ ap (admitted (whole d) X (entriesLeft o (X .sample)) (evictedBy o (X .sample)) w) (add-within (whole d) (X .capacity) m first ws (alike-below m (rw t at y)) (long ∙ sym long′) W i (A .point) P (rw P (omega arith)))
+        ∙ sym (B .is-call))
         (λ t. untaken-alike d X i w x n first ws (sym (ap takes told) ∙ t) long long′)

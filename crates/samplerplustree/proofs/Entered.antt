@@ -32,13 +32,13 @@ use Rattle.samplerplustree.specs.declared.UpdateAnswer.{UpdateAnswer}
 use Rattle.samplerplustree.specs.declared.UpdateAnswer.the-variants as Answers
 use Rattle.samplerplustree.specs.declared.Offer.{Offer}
 use Rattle.samplerplustree.specs.declared.Offer.the-variants.{Refused, Passes, Begins, Evicts}
-use Rattle.samplerplustree.specs.State.{headOf, samplerOf, SampledState}
+use Rattle.samplerplustree.specs.State.{headOf, samplerOf}
 use Rattle.samplerplustree.specs.Updates.{updateSays, Updated}
 use Rattle.samplerplustree.specs.Offers.{offered, SomeOffered}
 use Rattle.samplerplustree.specs.Leaves.{SomeAdmits, AddsLeaf}
 use Rattle.samplerplustree.specs.Entering.{takes, answerBy, firstIndex, goneBy, worldLeft, entriesLeft, leftBy, SampledArrays, LeftState, SomeLeaving, LeaveDone, SeeksBy, SeesBy, SomeEntering, EnterDone, AdmitDone}
 use Rattle.samplerplustree.proofs.Parts.{arrays-of, tree-of, size-is, small, head-after}
-use Rattle.samplerplustree.proofs.Taken.{FitBegins, FitEvicts, CallOf, call-of, admitted-as, agrees-after}
+use Rattle.samplerplustree.proofs.Taken.{FitBegins, FitEvicts, call-of, admitted-as, agrees-after}
 use Rattle.samplerplustree.proofs.Slots.{Pushes, one-more}
 use Rattle.samplerplustree.proofs.Evicted.{popped-length, delete-table, room-after}
 

@@ -1,11 +1,11 @@
 -- The arrival that an offer is told for: which call it is, and what it leaves. Assumes nothing.
-use mathlib.Core.Path.{_≡_, refl, sym, ap, _∙_, subst}
+use mathlib.Core.Path.{_≡_, refl, sym, ap, subst}
 use mathlib.Core.Bool.{Bool, true, false, cond, not, _&&_}
 use mathlib.Core.Option.{Option, none, some}
 use mathlib.Core.List.{List, [], _∷_}
 use Prim.Native.Nat.{ℕ, _≤_, _<_}
 use native.Mathlib.Omega.{arith}
-use lib.Dec.{T, eqb, leb, ltb}
+use lib.Dec.{eqb, leb, ltb}
 use lib.ListN.{length}
 use lib.Ieee.{Float, lt}
 use borrow.Author.Tests.{ltb-false, eqb-false}
@@ -23,16 +23,9 @@ use Rattle.sampledtree.specs.Sampled as Paper
 use Rattle.sampledtree.specs.Sampled.{Sampled, SampledAnswer, plain, notAccepted, accepted, arrive, call, against, withSample, admitted, taken, refuse, ifWritten}
 use Rattle.sampledtree.specs.Arrivals.{Agrees, Arrives}
 use Rattle.sampledtree.proofs.Arrivals.{every-arrival}
-use Rattle.treestore.specs.Arrays.{Lent}
-use Rattle.randomcuttree.specs.State.{State, headerOf}
-use Rattle.samplerplustree.specs.declared.SamplerPlusTree.{SamplerPlusTree}
-use Rattle.samplerplustree.specs.declared.UpdateAnswer.{UpdateAnswer}
-use Rattle.samplerplustree.specs.declared.UpdateAnswer.the-variants as Answers
 use Rattle.samplerplustree.specs.declared.Offer.{Offer}
 use Rattle.samplerplustree.specs.declared.Offer.the-variants.{Refused, Passes, Begins, Evicts}
-use Rattle.samplerplustree.specs.State.{weightsOf, heldOf, headOf, SampledState}
-use Rattle.samplerplustree.specs.Updates.{updateSays, Updated}
-use Rattle.samplerplustree.specs.Offers.{said, ifMarked, offered, SomeOffered, TakeDone}
+use Rattle.samplerplustree.specs.Offers.{said, ifMarked, offered}
 
 by-both : {A B : Type 0} (P : A → B → Type 0) (b : Bool) (x y : A) (u v : B) → (b ≡ true → P x u) → (b ≡ false → P y v) → P (cond b x y) (cond b u v)
 by-both P true x y u v f g = f refl

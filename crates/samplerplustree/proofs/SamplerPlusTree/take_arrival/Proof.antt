@@ -1,6 +1,5 @@
 -- `SamplerPlusTree::take_arrival` meets its contract: the two steps, and the walk between them. Assumes nothing.
 use Rattle.samplerplustree.proofs.Entered.{leaving, seeking, entering}
-use borrow.Author.Needs.{needs}
 use Rattle.samplerplustree.proofs.SamplerPlusTree.take_arrival.Statement.{statement}
 use Rattle.samplerplustree.proofs.SamplerPlusTree.take_arrival.Tie as tie
 
