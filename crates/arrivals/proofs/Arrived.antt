@@ -16,13 +16,13 @@ use Rattle.sampledtree.proofs.Admits.{add-admits}
 use Rattle.treestore.specs.Arrays.{Lent}
 use Rattle.samplerplustree.specs.declared.SamplerPlusTree.{SamplerPlusTree}
 use Rattle.samplerplustree.specs.declared.UpdateAnswer.{UpdateAnswer}
-use Rattle.samplerplustree.specs.declared.Left.{Left}
+use Rattle.samplerplustree.specs.declared.Remaining.{Remaining}
 use Rattle.samplerplustree.specs.declared.Offer.{Offer}
 use Rattle.samplerplustree.specs.declared.Offer.the-variants.{Refused, Passes, Begins, Evicts}
 use Rattle.samplerplustree.specs.State.{SampledState, headOf}
 use Rattle.samplerplustree.specs.Updates.{updateSays, headUpdated}
 use Rattle.samplerplustree.specs.Offers.{offered}
-use Rattle.samplerplustree.specs.Entering.{takes, worldLeft, entriesLeft, LeftState, EnterDone}
+use Rattle.samplerplustree.specs.Entering.{takes, worldRemaining, entriesRemaining, RemainingState, EnterDone}
 use Rattle.samplerplustree.proofs.Taken.{call-of, admitted-as}
 use Rattle.samplerplustree.proofs.Entered.{evictedBy, ready}
 use Rattle.answers.specs.Said.{filled, replyWidth}
@@ -30,7 +30,7 @@ use Rattle.arrivals.specs.Arrived.{arrivalNumbers, EntersBy}
 use Rattle.arrivals.proofs.Alike.{arrive-alike}
 use Rattle.arrivals.proofs.Used.{enough}
 
-module _ (d : ℕ) (s : Float) (X : Sampled (whole d)) (l : Left) (a : Lent) (points : List (List Float)) (marks : List ℕ) (weights : List Float) (held : List ℕ) (i : ℕ) (w : Float) (x : ℕ) (ws : List ℕ) where
+module _ (d : ℕ) (s : Float) (X : Sampled (whole d)) (l : Remaining) (a : Lent) (points : List (List Float)) (marks : List ℕ) (weights : List Float) (held : List ℕ) (i : ℕ) (w : Float) (x : ℕ) (ws : List ℕ) where
   -- the header after this answer is the sampled world's
   abbrev Headed : SampledAnswer (whole d) × Sampled (whole d) → Type 0
   Headed y = headUpdated (l .tree) (updateSays d (headOf d s (y .1)) (y .0)) ≡ headOf d s (y .1)
@@ -40,21 +40,21 @@ module _ (d : ℕ) (s : Float) (X : Sampled (whole d)) (l : Left) (a : Lent) (po
   headed-new y j (some e) Y E = subst Headed (sym E) refl
 
   -- the add of an arrival that is taken is never refused
-  headed-taken : (o : Offer) → takes o ≡ true → LeftState d s X o l a points marks weights held → o ≡ offered d X i w x (length ws) → Headed (call (whole d) X (arrive i w x ws))
+  headed-taken : (o : Offer) → takes o ≡ true → RemainingState d s X o l a points marks weights held → o ≡ offered d X i w x (length ws) → Headed (call (whole d) X (arrive i w x ws))
   headed-taken o t L told =
       let R = ready d X i w ws (L .agrees) x o told t in
       let S = L .arrays .tree-is in
-      let A = add-admits (whole d) (whole-laws d) (X .capacity) (worldLeft d X o) i (R .point) ws (S .reachable .sound) (R .is-written) (R .room) (omega (arith, S .limits .3)) (R .enough) in
-      headed-new _ (A .leaf-index) (evictedBy o (X .sample)) _ (R .is-call ∙ admitted-as d X i w ws (entriesLeft o (X .sample)) (evictedBy o (X .sample)) (Bare.call (whole d) (X .capacity) (worldLeft d X o) (Bare.add i ws)) (A .leaf-index) (A .words) (A .answer))
+      let A = add-admits (whole d) (whole-laws d) (X .capacity) (worldRemaining d X o) i (R .point) ws (S .reachable .sound) (R .is-written) (R .room) (omega (arith, S .limits .3)) (R .enough) in
+      headed-new _ (A .leaf-index) (evictedBy o (X .sample)) _ (R .is-call ∙ admitted-as d X i w ws (entriesRemaining o (X .sample)) (evictedBy o (X .sample)) (Bare.call (whole d) (X .capacity) (worldRemaining d X o) (Bare.add i ws)) (A .leaf-index) (A .words) (A .answer))
 
   -- any other leaves the header, which the first step left too
-  head-after : (o : Offer) → LeftState d s X o l a points marks weights held → o ≡ offered d X i w x (length ws) → Headed (call (whole d) X (arrive i w x ws))
+  head-after : (o : Offer) → RemainingState d s X o l a points marks weights held → o ≡ offered d X i w x (length ws) → Headed (call (whole d) X (arrive i w x ws))
   head-after (Refused n) L told = let (r, m, E) = call-of d X i w ws (L .agrees .room) x (Refused n) told in subst Headed (sym E) (L .arrays .head-is)
   head-after Passes L told = subst Headed (sym (call-of d X i w ws (L .agrees .room) x Passes told)) (L .arrays .head-is)
   head-after Begins L told = headed-taken Begins refl L told
   head-after Evicts L told = headed-taken Evicts refl L told
 
-pub enter-does : (l : Left) (o : Offer) (a : Lent) (points : List (List Float)) (weights : List Float) (held : List ℕ) (i : ℕ) (w : Float) (first : List ℕ)
+pub enter-does : (l : Remaining) (o : Offer) (a : Lent) (points : List (List Float)) (weights : List Float) (held : List ℕ) (i : ℕ) (w : Float) (first : List ℕ)
     (r : UpdateAnswer) (b : Lent) (weights′ : List Float) (held′ : List ℕ) (next : SamplerPlusTree) (reply : List ℕ) (n : ℕ)
     → (length first ≡ n) × EnterDone l o a points weights held i w first r b weights′ held′ → next ≡ headUpdated (l .tree) r → reply ≡ filled replyWidth (arrivalNumbers r)
     → (x : ℕ) (ws marks : List ℕ) → length (take capacityLimit ws) ≡ n → EntersBy o n i w x first ws l a points marks weights held next b weights′ held′ reply

@@ -19,20 +19,20 @@ use Rattle.treestore.specs.declared.Found.{Found}
 use Rattle.treestore.specs.Arrays.{Lent}
 use Rattle.randomcuttree.specs.Finds.{Sees}
 use Rattle.randomcuttree.proofs.Calls as Calls
-use Rattle.samplerplustree.specs.declared.Left.{Left}
+use Rattle.samplerplustree.specs.declared.Remaining.{Remaining}
 use Rattle.samplerplustree.specs.declared.Offer.{Offer}
 use Rattle.samplerplustree.specs.Offers.{offered}
-use Rattle.samplerplustree.specs.Entering.{takes, worldLeft, entriesLeft, LeftState, SeesBy}
+use Rattle.samplerplustree.specs.Entering.{takes, worldRemaining, entriesRemaining, RemainingState, SeesBy}
 use Rattle.samplerplustree.proofs.Parts.{tree-of}
-use Rattle.samplerplustree.proofs.Entered.{evictedBy, Ready, ready, written-left}
+use Rattle.samplerplustree.proofs.Entered.{evictedBy, Ready, ready, written-remaining}
 use Rattle.arrivals.specs.Words.{walkIn, wordsUsed}
 use Rattle.arrivals.proofs.Enough.{add-within}
 use Rattle.arrivals.proofs.Alike.{untaken-alike}
 
-module _ {d : ℕ} {s : Float} {X : Sampled (whole d)} {o : Offer} {l : Left} {a : Lent} {points : List (List Float)} {marks : List ℕ} {weights : List Float} {held : List ℕ} (L : LeftState d s X o l a points marks weights held)
+module _ {d : ℕ} {s : Float} {X : Sampled (whole d)} {o : Offer} {l : Remaining} {a : Lent} {points : List (List Float)} {marks : List ℕ} {weights : List Float} {held : List ℕ} (L : RemainingState d s X o l a points marks weights held)
     (i : ℕ) (w : Float) (x n : ℕ) (told : o ≡ offered d X i w x n) where
   abbrev W : World (whole d)
-  W = worldLeft d X o
+  W = worldRemaining d X o
 
   -- the walk in the tree that is left, which may be empty
   module _ (p : Reading) (P : W .table i ≡ some p) {before path : List (List ℕ)} {f : Found} (F : Sees (l .tree .tree) (a .nodes) (a .cuts) points i before f path) where
@@ -46,7 +46,7 @@ module _ {d : ℕ} {s : Float} {X : Sampled (whole d)} {o : Offer} {l : Left} {a
 
   pub used-is : {before path : List (List ℕ)} {f : Found} → SeesBy l o (a .nodes) (a .cuts) points i before f path → f .walk ≡ wordsUsed d X i o
   used-is F = by-test (takes o)
-      (λ t. let (p, P) = written-left d X i w n (L .agrees) x o told t in walk-is p P (F .taken t) ∙ sym (cond-true (takes o) _ 0 t))
+      (λ t. let (p, P) = written-remaining d X i w n (L .agrees) x o told t in walk-is p P (F .taken t) ∙ sym (cond-true (takes o) _ 0 t))
       (λ t. ap (λ (r : Found). r .walk) (F .untaken t .0) ∙ sym (cond-false (takes o) _ 0 t))
 
   -- ---- that no others are looked at
@@ -62,6 +62,6 @@ module _ {d : ℕ} {s : Float} {X : Sampled (whole d)} {o : Offer} {l : Left} {a
         let m = walkIn (whole d) (W .tree) (W .table i) in
         let P = A .is-written in
         A .is-call
-        ∙ ap (admitted (whole d) X (entriesLeft o (X .sample)) (evictedBy o (X .sample)) w) (add-within (whole d) (X .capacity) m first ws (alike-below m (rw t at y)) (long ∙ sym long′) W i (A .point) P (rw P (omega arith)))
+        ∙ ap (admitted (whole d) X (entriesRemaining o (X .sample)) (evictedBy o (X .sample)) w) (add-within (whole d) (X .capacity) m first ws (alike-below m (rw t at y)) (long ∙ sym long′) W i (A .point) P (rw P (omega arith)))
         ∙ sym (B .is-call))
         (λ t. untaken-alike d X i w x n first ws (sym (ap takes told) ∙ t) long long′)

@@ -13,11 +13,11 @@ use Rattle.samplerplustree.specs.declared.SamplerPlusTree.{SamplerPlusTree}
 use Rattle.samplerplustree.specs.declared.UpdateAnswer.{UpdateAnswer}
 use Rattle.samplerplustree.specs.declared.UpdateAnswer.the-variants.{Refused, NotAccepted, Accepted, Replaced}
 use Rattle.samplerplustree.specs.declared.Offer.{Offer}
-use Rattle.samplerplustree.specs.declared.Left.{Left}
+use Rattle.samplerplustree.specs.declared.Remaining.{Remaining}
 use Rattle.samplerplustree.specs.State.{SampledState, headOf}
 use Rattle.samplerplustree.specs.Updates.{updateSays}
 use Rattle.samplerplustree.specs.Offers.{offered}
-use Rattle.samplerplustree.specs.Entering.{LeftState}
+use Rattle.samplerplustree.specs.Entering.{RemainingState}
 use Rattle.answers.specs.Said.{filled, replyWidth}
 use Rattle.arrivals.specs.Words.{wordsUsed}
 
@@ -41,9 +41,9 @@ Arrives i w x ws tree a points marks weights held tree′ a′ weights′ held�
     → Arrived d s (call (whole d) X (arrive i w x ws)) tree′ a′ points marks weights′ held′ reply
 
 -- the same from between the steps of an arrival of n words that the offer o was told for, where those of the list first that are looked at are its own
-abbrev pub EntersBy : Offer → ℕ → ℕ → Float → ℕ → List ℕ → List ℕ → Left → Lent → List (List Float) → List ℕ → List Float → List ℕ → SamplerPlusTree → Lent → List Float → List ℕ → List ℕ → Type 0
-EntersBy o n i w x first ws left a points marks weights held tree′ a′ weights′ held′ reply =
-    (d : ℕ) (s : Float) (X : Sampled (whole d)) → LeftState d s X o left a points marks weights held → o ≡ offered d X i w x n → take (wordsUsed d X i o) first ≡ take (wordsUsed d X i o) (take capacityLimit ws)
+abbrev pub EntersBy : Offer → ℕ → ℕ → Float → ℕ → List ℕ → List ℕ → Remaining → Lent → List (List Float) → List ℕ → List Float → List ℕ → SamplerPlusTree → Lent → List Float → List ℕ → List ℕ → Type 0
+EntersBy o n i w x first ws remaining a points marks weights held tree′ a′ weights′ held′ reply =
+    (d : ℕ) (s : Float) (X : Sampled (whole d)) → RemainingState d s X o remaining a points marks weights held → o ≡ offered d X i w x n → take (wordsUsed d X i o) first ≡ take (wordsUsed d X i o) (take capacityLimit ws)
     → Arrived d s (call (whole d) X (arrive i w x ws)) tree′ a′ points marks weights′ held′ reply
 
 -- the room for words after an arrival of the words ws that the offer o is told for: it reads as many as are looked at to the front

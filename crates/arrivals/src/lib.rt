@@ -13,8 +13,8 @@ use limits::Nodes;
 use limits::Path;
 use limits::Points;
 use limits::Weights;
-use samplerplustree::Left;
 use samplerplustree::Offer;
+use samplerplustree::Remaining;
 use samplerplustree::SamplerPlusTree;
 use samplerplustree::UpdateAnswer;
 use treestore::Found;
@@ -36,7 +36,7 @@ ghost use Rattle.arrivals.specs.Arrived.{arrivalNumbers, Arrives, Enters
 ghost use Rattle.arrivals.specs.Sample.{entryNumbers, SampleWritten};
 
 // The numbers of an arrival's answer, with 0 after them.
-// Rules out the evicted index told as the leaf's, and a number left in the reply from the call before.
+// Rules out the evicted index told as the leaf's, and a number remaining in the reply from the call before.
 pub fn tell_update(answer: UpdateAnswer, reply: &mut Reply)
     ensures { λ _. ⌜ now (reply .exit) ≡ filled replyWidth (arrivalNumbers answer) ⌝ }
 {
@@ -91,7 +91,7 @@ pub fn test_arrival(
 
 // The second step of an arrival with the first n words.
 fn enter_first(
-    left: Left,
+    remaining: Remaining,
     offer: Offer,
     nodes: &mut Nodes,
     cuts: &mut Cuts,
@@ -108,13 +108,13 @@ fn enter_first(
     words: &Words,
     n: usize,
 ) -> UpdateAnswer
-    requires { ⌜ (n ≤ capacityLimit) × SomeEntering left offer (lent (now nodes) (now cuts) (now copies) (now free) (now boxes)) (now points) (now weights) (now held) index weight (now path) found n ⌝ }
+    requires { ⌜ (n ≤ capacityLimit) × SomeEntering remaining offer (lent (now nodes) (now cuts) (now copies) (now free) (now boxes)) (now points) (now weights) (now held) index weight (now path) found n ⌝ }
     ensures long { λ r. ⌜ length (take n (now (words .entry))) ≡ n ⌝ }
-    ensures done { λ r. ⌜ EnterDone left offer (lent (now (nodes .entry)) (now (cuts .entry)) (now (copies .entry)) (now (free .entry)) (now (boxes .entry))) (now (points .entry)) (now (weights .entry)) (now (held .entry)) index weight (take n (now (words .entry))) r
+    ensures done { λ r. ⌜ EnterDone remaining offer (lent (now (nodes .entry)) (now (cuts .entry)) (now (copies .entry)) (now (free .entry)) (now (boxes .entry))) (now (points .entry)) (now (weights .entry)) (now (held .entry)) index weight (take n (now (words .entry))) r
         (lent (now (nodes .exit)) (now (cuts .exit)) (now (copies .exit)) (now (free .exit)) (now (boxes .exit))) (now (weights .exit)) (now (held .exit)) ⌝ }
 {
     let all: &[u64] = words;
-    left.enter(
+    remaining.enter(
         offer,
         nodes,
         cuts,
@@ -136,7 +136,7 @@ fn enter_first(
 // the capacity, and no walk takes more. Of the lent words only those that are looked at have to be the arrival's.
 // Rules out an arrival that is short of words where the list has enough, and the old header given back for one that is accepted.
 pub fn enter(
-    left: Left,
+    remaining: Remaining,
     offer: Offer,
     nodes: &mut Nodes,
     cuts: &mut Cuts,
@@ -154,14 +154,14 @@ pub fn enter(
     n: usize,
     reply: &mut Reply,
 ) -> SamplerPlusTree
-    requires { ⌜ (n ≤ capacityLimit) × SomeEntering left offer (lent (now nodes) (now cuts) (now copies) (now free) (now boxes)) (now points) (now weights) (now held) index weight (now path) found n ⌝ }
+    requires { ⌜ (n ≤ capacityLimit) × SomeEntering remaining offer (lent (now nodes) (now cuts) (now copies) (now free) (now boxes)) (now points) (now weights) (now held) index weight (now path) found n ⌝ }
     ensures long { λ r. ⌜ length (take n (now (words .entry))) ≡ n ⌝ }
     ensures done { λ r. ⌜ ((x : ℕ) (ws marks : List ℕ) → length (take capacityLimit ws) ≡ n
-        → EntersBy offer n index weight x (take n (now (words .entry))) ws left (lent (now (nodes .entry)) (now (cuts .entry)) (now (copies .entry)) (now (free .entry)) (now (boxes .entry))) (now (points .entry)) marks (now (weights .entry)) (now (held .entry))
+        → EntersBy offer n index weight x (take n (now (words .entry))) ws remaining (lent (now (nodes .entry)) (now (cuts .entry)) (now (copies .entry)) (now (free .entry)) (now (boxes .entry))) (now (points .entry)) marks (now (weights .entry)) (now (held .entry))
         r (lent (now (nodes .exit)) (now (cuts .exit)) (now (copies .exit)) (now (free .exit)) (now (boxes .exit))) (now (weights .exit)) (now (held .exit)) (now (reply .exit))) ⌝ }
 {
     let answer = enter_first(
-        left,
+        remaining,
         offer,
         nodes,
         cuts,
@@ -178,7 +178,7 @@ pub fn enter(
         words,
         n,
     );
-    let next = head_updated(left.tree, answer);
+    let next = head_updated(remaining.tree, answer);
     tell_update(answer, reply);
     next
 }
@@ -209,7 +209,7 @@ pub fn arrive(
         r (lent (now (nodes .exit)) (now (cuts .exit)) (now (copies .exit)) (now (free .exit)) (now (boxes .exit))) (now (weights .exit)) (now (held .exit)) (now (reply .exit))) ⌝ }
 {
     let offer = test_arrival(tree, written, weights, index, weight, chance, words, n);
-    let left = tree.leave(
+    let remaining = tree.leave(
         offer,
         nodes,
         cuts,
@@ -222,9 +222,9 @@ pub fn arrive(
         held,
     );
     let mut path = [[0u16; 2]; CAPACITY];
-    let found = left.find(offer, nodes, cuts, points, index, &mut path);
+    let found = remaining.find(offer, nodes, cuts, points, index, &mut path);
     enter(
-        left,
+        remaining,
         offer,
         nodes,
         cuts,

@@ -18,7 +18,7 @@ use Rattle.treestore.specs.declared.Found.{Found}
 use Rattle.treestore.specs.Arrays.{Lent}
 use Rattle.samplerplustree.specs.declared.SamplerPlusTree.{SamplerPlusTree}
 use Rattle.samplerplustree.specs.declared.Offer.{Offer}
-use Rattle.samplerplustree.specs.declared.Left.{Left}
+use Rattle.samplerplustree.specs.declared.Remaining.{Remaining}
 use Rattle.samplerplustree.specs.State.{SampledState}
 use Rattle.samplerplustree.specs.Offers.{offered, OfferTold}
 use Rattle.samplerplustree.specs.Entering.{LeaveDone, SeesBy}
@@ -56,9 +56,9 @@ module _ (bytes : List ℕ) (p : ℕ) where
     long : length (take capacityLimit (arrivalWordsAt bytes p)) ≡ n
     long = ap length first ∙ tab-length n _
 
-    -- what is left of the arrival's first step, and what was found of its reading there
-    module _ (left : Left) (b : Lent) (weights₁ : List Float) (held₁ : List ℕ) (L : LeaveDone tree o a points marks weights held left b weights₁ held₁)
-        (before path : List (List ℕ)) (f : Found) (F : SeesBy left o (b .nodes) (b .cuts) points i before f path) (k : ℕ) (used : k ≡ min n (f .walk)) (l₀ l : List ℕ)
+    -- what remains of the arrival's first step, and what was found of its reading there
+    module _ (remaining : Remaining) (b : Lent) (weights₁ : List Float) (held₁ : List ℕ) (L : LeaveDone tree o a points marks weights held remaining b weights₁ held₁)
+        (before path : List (List ℕ)) (f : Found) (F : SeesBy remaining o (b .nodes) (b .cuts) points i before f path) (k : ℕ) (used : k ≡ min n (f .walk)) (l₀ l : List ℕ)
         (read : (l ≡ sets l₀ 0 (tab k (λ (j : ℕ). double bytes (p + 6 + 2 * j)))) × (take k l ≡ tab k (λ (j : ℕ). double bytes (p + 6 + 2 * j)))) where
       module _ (d : ℕ) (s : Float) (X : Sampled (whole d)) (S : SampledState d s X tree a points marks weights held) where
         k-is : k ≡ min n (wordsUsed d X i o)
@@ -77,7 +77,7 @@ module _ (bytes : List ℕ) (p : ℕ) where
             read .0 ∙ ap (sets l₀ 0) (sym own) ∙ ap (λ (z : Offer). wordsRead d X i z ws l₀) q
 
       pub arrival-given : (tree′ : SamplerPlusTree) (a′ : Lent) (weights′ : List Float) (held′ reply : List ℕ)
-          → ((y : ℕ) (ws marks : List ℕ) → length (take capacityLimit ws) ≡ n → EntersBy o n i w y (take n l) ws left b points marks weights₁ held₁ tree′ a′ weights′ held′ reply)
+          → ((y : ℕ) (ws marks : List ℕ) → length (take capacityLimit ws) ≡ n → EntersBy o n i w y (take n l) ws remaining b points marks weights₁ held₁ tree′ a′ weights′ held′ reply)
           → Arrives (number bytes (p + 1)) (ofBits binary32 (number bytes (p + 2))) (double bytes (p + 3)) (arrivalWordsAt bytes p) tree a points marks weights held tree′ a′ weights′ held′ reply
           × ReadsWords (number bytes (p + 1)) (ofBits binary32 (number bytes (p + 2))) (double bytes (p + 3)) (arrivalWordsAt bytes p) tree a points marks weights held l₀ l
       arrival-given tree′ a′ weights′ held′ reply A =

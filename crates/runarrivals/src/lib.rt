@@ -54,7 +54,7 @@ pub fn arrival_at(
     let chance = runlayout::double_at(run, p + 3);
     let n = casts::at_most(runlayout::number_at(run, p + 5), CAPACITY);
     let offer = arrivals::test_arrival(tree, written, weights, index, weight, chance, words, n);
-    let left = tree.leave(
+    let remaining = tree.leave(
         offer,
         nodes,
         cuts,
@@ -67,11 +67,11 @@ pub fn arrival_at(
         held,
     );
     let mut path = [[0u16; 2]; CAPACITY];
-    let found = left.find(offer, nodes, cuts, points, index, &mut path);
+    let found = remaining.find(offer, nodes, cuts, points, index, &mut path);
     let used = casts::at_most(n, found.walk);
     rungiven::read_words(run, p + 6, used, words);
     arrivals::enter(
-        left,
+        remaining,
         offer,
         nodes,
         cuts,

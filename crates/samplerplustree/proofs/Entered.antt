@@ -27,7 +27,7 @@ use Rattle.randomcuttree.proofs.Adds.{seeks, seen-there}
 use Rattle.samplerplustree.specs.declared.SamplerPlusTree.{SamplerPlusTree}
 use Rattle.samplerplustree.specs.declared.AddedLeaf.{AddedLeaf}
 use Rattle.samplerplustree.specs.declared.Admitted.{Admitted}
-use Rattle.samplerplustree.specs.declared.Left.{Left}
+use Rattle.samplerplustree.specs.declared.Remaining.{Remaining}
 use Rattle.samplerplustree.specs.declared.UpdateAnswer.{UpdateAnswer}
 use Rattle.samplerplustree.specs.declared.UpdateAnswer.the-variants as Answers
 use Rattle.samplerplustree.specs.declared.Offer.{Offer}
@@ -36,7 +36,7 @@ use Rattle.samplerplustree.specs.State.{headOf, samplerOf}
 use Rattle.samplerplustree.specs.Updates.{updateSays, Updated}
 use Rattle.samplerplustree.specs.Offers.{offered, SomeOffered}
 use Rattle.samplerplustree.specs.Leaves.{SomeAdmits, AddsLeaf}
-use Rattle.samplerplustree.specs.Entering.{takes, answerBy, firstIndex, goneBy, worldLeft, entriesLeft, leftBy, SampledArrays, LeftState, SomeLeaving, LeaveDone, SeeksBy, SeesBy, SomeEntering, EnterDone, AdmitDone}
+use Rattle.samplerplustree.specs.Entering.{takes, answerBy, firstIndex, goneBy, worldRemaining, entriesRemaining, remainingBy, SampledArrays, RemainingState, SomeLeaving, LeaveDone, SeeksBy, SeesBy, SomeEntering, EnterDone, AdmitDone}
 use Rattle.samplerplustree.proofs.Parts.{arrays-of, tree-of, size-is, small, head-after}
 use Rattle.samplerplustree.proofs.Taken.{FitBegins, FitEvicts, call-of, admitted-as, agrees-after}
 use Rattle.samplerplustree.proofs.Slots.{Pushes, one-more}
@@ -53,11 +53,11 @@ module _ (d : ℕ) (X : Sampled (whole d)) (i : ℕ) (w : Float) (ws : List ℕ)
   -- what holds between the steps of an arrival that is taken
   pub record Ready (o : Offer) (y : SampledAnswer (whole d) × Sampled (whole d)) : Type 0 where
     pub point : Reading
-    pub is-written : worldLeft d X o .table i ≡ some point
-    pub room : totalOf (whole d) (worldLeft d X o .tree) < X .capacity
-    pub fewer : length (entriesLeft o (X .sample)) < X .capacity
+    pub is-written : worldRemaining d X o .table i ≡ some point
+    pub room : totalOf (whole d) (worldRemaining d X o .tree) < X .capacity
+    pub fewer : length (entriesRemaining o (X .sample)) < X .capacity
     pub enough : X .capacity ≤ length ws
-    pub is-call : y ≡ admitted (whole d) X (entriesLeft o (X .sample)) (evictedBy o (X .sample)) w (Bare.call (whole d) (X .capacity) (worldLeft d X o) (add i ws))
+    pub is-call : y ≡ admitted (whole d) X (entriesRemaining o (X .sample)) (evictedBy o (X .sample)) w (Bare.call (whole d) (X .capacity) (worldRemaining d X o) (add i ws))
 
   begins-ready : Agrees (whole d) X → (y : SampledAnswer (whole d) × Sampled (whole d)) → FitBegins d X i w ws y → Ready Begins y
   begins-ready A y F = record { point = F .fit .point; is-written = F .fit .is-written; room = omega (arith, F .room, A .total-is); fewer = F .room; enough = F .fit .enough; is-call = F .fit .is-taken }
@@ -81,8 +81,8 @@ module _ (d : ℕ) (X : Sampled (whole d)) (i : ℕ) (w : Float) (ws : List ℕ)
   ready A x Evicts e t = evicts-ready A _ (call-of d X i w ws (A .room) x Evicts e)
 
 -- an offer is told by how many words there are: that it takes the arrival tells that its reading is written
-pub written-left : (d : ℕ) (X : Sampled (whole d)) (i : ℕ) (w : Float) (n : ℕ) → Agrees (whole d) X → (x : ℕ) (o : Offer) → o ≡ offered d X i w x n → takes o ≡ true → (p : Reading) × (worldLeft d X o .table i ≡ some p)
-written-left d X i w n A x o e t =
+pub written-remaining : (d : ℕ) (X : Sampled (whole d)) (i : ℕ) (w : Float) (n : ℕ) → Agrees (whole d) X → (x : ℕ) (o : Offer) → o ≡ offered d X i w x n → takes o ≡ true → (p : Reading) × (worldRemaining d X o .table i ≡ some p)
+written-remaining d X i w n A x o e t =
     let blanks : List ℕ = replicate n 0 in
     let R = ready d X i w blanks A x o (e ∙ ap (offered d X i w x) (sym (length-replicate n 0))) t in
     (R .point, R .is-written)
@@ -111,7 +111,7 @@ admit-done h a points weights held i w ws g b k weights′ held′ few A K P d s
     }
 
 -- ---- THE STEP
-module _ (l : Left) (o : Offer) (a : Lent) (points : List (List Float)) (weights : List Float) (held : List ℕ) (i : ℕ) (w : Float) (ws : List ℕ) where
+module _ (l : Remaining) (o : Offer) (a : Lent) (points : List (List Float)) (weights : List Float) (held : List ℕ) (i : ℕ) (w : Float) (ws : List ℕ) where
   pub enter-asks : (path : List (List ℕ)) (f : Found) → takes o ≡ true → SomeEntering l o a points weights held i w path f (length ws)
       → SomeAdmits (l .tree .tree) a points i path f (length ws) × (l .tree .sampler .«current_size» < capacityLimit)
   enter-asks path f t Q =
@@ -121,7 +121,7 @@ module _ (l : Left) (o : Offer) (a : Lent) (points : List (List Float)) (weights
           channels = Q .channels;
           capacity = Q .world .capacity;
           share = Q .share;
-          world = worldLeft (Q .channels) (Q .world) o;
+          world = worldRemaining (Q .channels) (Q .world) o;
           marks = Q .marks;
           point = R .point;
           state = tree-of L;
@@ -143,18 +143,18 @@ module _ (l : Left) (o : Offer) (a : Lent) (points : List (List Float)) (weights
       → r ≡ answerBy o (g .tree) (g .leaf) (l .gone) → EnterDone l o a points weights held i w ws r b weights′ held′
   enter-done g b weights′ held′ r t A f d s X marks x L u =
       let R = ready d X i w ws (L .agrees) x o u t in
-      let M = A d s (leftBy d X o) marks (R .point) (L .arrays) (R .is-written) in
-      let y = Bare.call (whole d) (X .capacity) (worldLeft d X o) (add i ws) in
-      let Z = withSample (whole d) X (y .1) (pushed above beyond (entriesLeft o (X .sample)) (record { weight = w; index = g .leaf })) in
+      let M = A d s (remainingBy d X o) marks (R .point) (L .arrays) (R .is-written) in
+      let y = Bare.call (whole d) (X .capacity) (worldRemaining d X o) (add i ws) in
+      let Z = withSample (whole d) X (y .1) (pushed above beyond (entriesRemaining o (X .sample)) (record { weight = w; index = g .leaf })) in
       let e = evictedBy o (X .sample) in
-      let E : call (whole d) X (arrive i w x ws) ≡ (accepted (g .leaf) e, Z) = R .is-call ∙ admitted-as d X i w ws (entriesLeft o (X .sample)) e y (g .leaf) (M .words) (M .answer) in
+      let E : call (whole d) X (arrive i w x ws) ≡ (accepted (g .leaf) e, Z) = R .is-call ∙ admitted-as d X i w ws (entriesRemaining o (X .sample)) e y (g .leaf) (M .words) (M .answer) in
       subst (λ z. Updated d s z r b points marks weights′ held′) (sym E) (record {
         answer = f ∙ answer-is d o (g .tree) (headOf d s Z) (g .leaf) (l .gone) (X .sample) t (M .arrays .head-is) (L .gone-is);
         state = record { head-is = refl; tree-is = M .arrays .tree-is; weights-are = M .arrays .weights-are; held-are = M .arrays .held-are; agrees = agrees-after d X i w ws x (L .agrees) (g .leaf) e Z E; initial-is = L .initial-is };
       })
 
 -- one that is refused or not accepted leaves the world as it is
-module _ (l : Left) (a : Lent) (points : List (List Float)) (weights : List Float) (held : List ℕ) (i : ℕ) (w : Float) (ws : List ℕ) where
+module _ (l : Remaining) (a : Lent) (points : List (List Float)) (weights : List Float) (held : List ℕ) (i : ℕ) (w : Float) (ws : List ℕ) where
   stays : (d : ℕ) (s : Float) (X : Sampled (whole d)) (marks : List ℕ) (x : ℕ) → SampledArrays d s X (l .tree) a points marks weights held → Agrees (whole d) X → isShare (X .initial) ≡ true
       → (y : SampledAnswer (whole d)) (r : UpdateAnswer) → call (whole d) X (arrive i w x ws) ≡ (y, X) → r ≡ updateSays d (headOf d s X) y → Updated d s (call (whole d) X (arrive i w x ws)) r a points marks weights held
   stays d s X marks x L A I y r E R = subst (λ z. Updated d s z r a points marks weights held) (sym E) (record {
@@ -181,12 +181,12 @@ module _ (h : SamplerPlusTree) (o : Offer) (a : Lent) (points : List (List Float
         omega (arith, size-is (arrays-of (Q .state)), ap length (F .sample-is));
   }
 
-  module _ (l : Left) (b : Lent) (weights′ : List Float) (held′ : List ℕ) (L : LeaveDone h o a points marks weights held l b weights′ held′) where
-    left : LeftState (Q .channels) (Q .share) (Q .world) o l b points marks weights′ held′
+  module _ (l : Remaining) (b : Lent) (weights′ : List Float) (held′ : List ℕ) (L : LeaveDone h o a points marks weights held l b weights′ held′) where
+    left : RemainingState (Q .channels) (Q .share) (Q .world) o l b points marks weights′ held′
     left = L (Q .channels) (Q .share) (Q .world) (Q .state)
 
     pub seeking : SeeksBy l o (b .nodes) (b .cuts) points i
-    seeking t = seeks (tree-of (left .arrays)) i (written-left (Q .channels) (Q .world) i w n (left .agrees) (Q .chance) o (Q .offer-is) t .1)
+    seeking t = seeks (tree-of (left .arrays)) i (written-remaining (Q .channels) (Q .world) i w n (left .agrees) (Q .chance) o (Q .offer-is) t .1)
 
     pub entering : (before path : List (List ℕ)) (f : Found) → SeesBy l o (b .nodes) (b .cuts) points i before f path → SomeEntering l o b points weights′ held′ i w path f n
     entering before path f F = record {

@@ -26,11 +26,11 @@ use Rattle.treestore.specs.Arrays.{Lent}
 use Rattle.randomcuttree.specs.declared.RCFTree.{RCFTree}
 use Rattle.samplerplustree.specs.declared.SamplerPlusTree.{SamplerPlusTree}
 use Rattle.samplerplustree.specs.declared.Offer.{Offer}
-use Rattle.samplerplustree.specs.declared.Left.{Left}
+use Rattle.samplerplustree.specs.declared.Remaining.{Remaining}
 use Rattle.samplerplustree.specs.declared.Offer.the-variants as Offered
 use Rattle.samplerplustree.specs.State.{SampledState, heldOf, samplerOf}
 use Rattle.samplerplustree.specs.Leaves.{SomeCopy, LeafDeleted, DeletesLeaf}
-use Rattle.samplerplustree.specs.Entering.{firstIndex, goneBy, worldLeft, entriesLeft, LeftState, SomeLeaving, LeaveDone}
+use Rattle.samplerplustree.specs.Entering.{firstIndex, goneBy, worldRemaining, entriesRemaining, RemainingState, SomeLeaving, LeaveDone}
 use Rattle.samplerplustree.proofs.Parts.{arrays-of, tree-state, size-is, small, head-after}
 use Rattle.samplerplustree.proofs.Slots.{one-less}
 
@@ -55,14 +55,14 @@ module _ (d : ℕ) (X : Sampled (whole d)) (A : Agrees (whole d) X) (some-kept :
   copy : 0 < sumOf (whole d) (λ j q n. cond (eqb j (firstIndex (X .sample))) n 0) (λ b. 0) (X .world .tree)
   copy = omega (arith, A .kept-are (firstIndex (X .sample)), occurs-first (X .sample) some-kept)
 
-  pub room-after : totalOf (whole d) (worldLeft d X Offered.Evicts .tree) < X .capacity
+  pub room-after : totalOf (whole d) (worldRemaining d X Offered.Evicts .tree) < X .capacity
   room-after =
       let D = delete-admits (whole d) (whole-laws d) (X .capacity) (X .world .table) (X .world .tree) (X .world .free) (firstIndex (X .sample)) (A .sound) copy in
       omega (arith, D .total-less, A .total-is, A .room)
 
 module _ (h : SamplerPlusTree) (a : Lent) (points : List (List Float)) (marks : List ℕ) (weights : List Float) (held : List ℕ) where
   -- ---- nothing leaves for an offer that evicts nothing
-  pub none-leaves : (o : Offer) → ((d : ℕ) (X : Sampled (whole d)) → worldLeft d X o ≡ X .world) → ((ks : List Entry) → entriesLeft o ks ≡ ks) → ((ks : List Entry) → 0 ≡ goneBy o ks)
+  pub none-leaves : (o : Offer) → ((d : ℕ) (X : Sampled (whole d)) → worldRemaining d X o ≡ X .world) → ((ks : List Entry) → entriesRemaining o ks ≡ ks) → ((ks : List Entry) → 0 ≡ goneBy o ks)
       → LeaveDone h o a points marks weights held (record { tree = h; gone = 0 }) a weights held
   none-leaves o f g z d s X S = record {
     arrays = rw (f d X, g (X .sample)) (arrays-of S);
@@ -71,8 +71,8 @@ module _ (h : SamplerPlusTree) (a : Lent) (points : List (List Float)) (marks : 
     initial-is = S .initial-is;
   }
 
-  pub evicts-by : (o : Offer) → o ≡ Offered.Evicts → (l : Left) (b : Lent) (weights′ : List Float) (held′ : List ℕ) → LeaveDone h Offered.Evicts a points marks weights held l b weights′ held′ → LeaveDone h o a points marks weights held l b weights′ held′
-  evicts-by o e l b weights′ held′ L d s X S = subst (λ (z : Offer). LeftState d s X z l b points marks weights′ held′) (sym e) (L d s X S)
+  pub evicts-by : (o : Offer) → o ≡ Offered.Evicts → (l : Remaining) (b : Lent) (weights′ : List Float) (held′ : List ℕ) → LeaveDone h Offered.Evicts a points marks weights held l b weights′ held′ → LeaveDone h o a points marks weights held l b weights′ held′
+  evicts-by o e l b weights′ held′ L d s X S = subst (λ (z : Offer). RemainingState d s X z l b points marks weights′ held′) (sym e) (L d s X S)
 
   -- ---- THE EVICTION
   module _ (Q : SomeLeaving h Offered.Evicts a points marks weights held) where
@@ -109,7 +109,7 @@ module _ (h : SamplerPlusTree) (a : Lent) (points : List (List Float)) (marks : 
         ∙ ap (λ (z : SamplerPlusTree). record { capacity = z .sampler .capacity; «current_size» = length (popped above beyond (X .sample)) }) (S .head-is) in
         record {
           arrays = record {
-            head-is = head-after d s X (worldLeft d X Offered.Evicts) (popped above beyond (X .sample)) left (v .sampler) (h .«initial_accept_fraction») (C .tree-is) N (ap (λ (z : SamplerPlusTree). z .«initial_accept_fraction») (S .head-is));
+            head-is = head-after d s X (worldRemaining d X Offered.Evicts) (popped above beyond (X .sample)) left (v .sampler) (h .«initial_accept_fraction») (C .tree-is) N (ap (λ (z : SamplerPlusTree). z .«initial_accept_fraction») (S .head-is));
             tree-is = C .state;
             weights-are = T .0;
             held-are = T .1;

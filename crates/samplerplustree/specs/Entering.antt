@@ -25,7 +25,7 @@ use Rattle.samplerplustree.specs.declared.UpdateAnswer.{UpdateAnswer}
 use Rattle.samplerplustree.specs.declared.UpdateAnswer.the-variants as Answers
 use Rattle.samplerplustree.specs.declared.Offer.{Offer}
 use Rattle.samplerplustree.specs.declared.Offer.the-variants.{Refused, Passes, Begins, Evicts}
-use Rattle.samplerplustree.specs.declared.Left.{Left}
+use Rattle.samplerplustree.specs.declared.Remaining.{Remaining}
 use Rattle.samplerplustree.specs.declared.Admitted.{Admitted}
 use Rattle.samplerplustree.specs.State.{weightsOf, heldOf, headOf, SampledState, SomeSampled}
 use Rattle.samplerplustree.specs.Updates.{Updated}
@@ -58,20 +58,20 @@ goneBy Begins ks = 0
 goneBy Evicts ks = firstIndex ks
 
 -- "an eviction deletes by that index", before the arrival is added: the tree and the entries between the two
-abbrev pub worldLeft : (d : ℕ) → Sampled (whole d) → Offer → World (whole d)
-worldLeft d X (Refused r) = X .world
-worldLeft d X Passes = X .world
-worldLeft d X Begins = X .world
-worldLeft d X Evicts = Bare.call (whole d) (X .capacity) (X .world) (delete (firstIndex (X .sample))) .1
+abbrev pub worldRemaining : (d : ℕ) → Sampled (whole d) → Offer → World (whole d)
+worldRemaining d X (Refused r) = X .world
+worldRemaining d X Passes = X .world
+worldRemaining d X Begins = X .world
+worldRemaining d X Evicts = Bare.call (whole d) (X .capacity) (X .world) (delete (firstIndex (X .sample))) .1
 
-abbrev pub entriesLeft : Offer → List Entry → List Entry
-entriesLeft (Refused r) ks = ks
-entriesLeft Passes ks = ks
-entriesLeft Begins ks = ks
-entriesLeft Evicts ks = popped above beyond ks
+abbrev pub entriesRemaining : Offer → List Entry → List Entry
+entriesRemaining (Refused r) ks = ks
+entriesRemaining Passes ks = ks
+entriesRemaining Begins ks = ks
+entriesRemaining Evicts ks = popped above beyond ks
 
-abbrev pub leftBy : (d : ℕ) → Sampled (whole d) → Offer → Sampled (whole d)
-leftBy d X o = withSample (whole d) X (worldLeft d X o) (entriesLeft o (X .sample))
+abbrev pub remainingBy : (d : ℕ) → Sampled (whole d) → Offer → Sampled (whole d)
+remainingBy d X o = withSample (whole d) X (worldRemaining d X o) (entriesRemaining o (X .sample))
 
 -- d channels, cached share s
 module _ (d : ℕ) (s : Float) where
@@ -83,8 +83,8 @@ module _ (d : ℕ) (s : Float) where
     pub held-are : held ≡ heldOf (X .sample)
 
   -- a state between the steps of the arrival at X that the offer o is told for: tree and sample agreed before it
-  pub record LeftState (X : Sampled (whole d)) (o : Offer) (l : Left) (a : Lent) (points : List (List Float)) (marks : List ℕ) (weights : List Float) (held : List ℕ) : Type 0 where
-    pub arrays : SampledArrays (leftBy d X o) (l .tree) a points marks weights held
+  pub record RemainingState (X : Sampled (whole d)) (o : Offer) (l : Remaining) (a : Lent) (points : List (List Float)) (marks : List ℕ) (weights : List Float) (held : List ℕ) : Type 0 where
+    pub arrays : SampledArrays (remainingBy d X o) (l .tree) a points marks weights held
     pub gone-is : l .gone ≡ goneBy o (X .sample)
     pub agrees : Agrees (whole d) X
     pub initial-is : isShare (X .initial) ≡ true
@@ -94,33 +94,33 @@ pub record SomeLeaving (h : SamplerPlusTree) (o : Offer) (a : Lent) (points : Li
   pub sampled : SomeSampled h a points marks weights held
   pub kept : o ≡ Evicts → 0 < h .sampler .«current_size»
 
-abbrev pub LeaveDone : SamplerPlusTree → Offer → Lent → List (List Float) → List ℕ → List Float → List ℕ → Left → Lent → List Float → List ℕ → Type 0
+abbrev pub LeaveDone : SamplerPlusTree → Offer → Lent → List (List Float) → List ℕ → List Float → List ℕ → Remaining → Lent → List Float → List ℕ → Type 0
 LeaveDone h o before points marks weights held l after weights′ held′ =
-    (d : ℕ) (s : Float) (X : Sampled (whole d)) → SampledState d s X h before points marks weights held → LeftState d s X o l after points marks weights′ held′
+    (d : ℕ) (s : Float) (X : Sampled (whole d)) → SampledState d s X h before points marks weights held → RemainingState d s X o l after points marks weights′ held′
 
 -- ---- what is looked for between them, where the arrival is taken
-abbrev pub SeeksBy : Left → Offer → List (List ℕ) → List Float → List (List Float) → ℕ → Type 0
+abbrev pub SeeksBy : Remaining → Offer → List (List ℕ) → List Float → List (List Float) → ℕ → Type 0
 SeeksBy l o nodes cuts points i = takes o ≡ true → Seeks (l .tree .tree) nodes cuts points i
 
-pub record SeesBy (l : Left) (o : Offer) (nodes : List (List ℕ)) (cuts : List Float) (points : List (List Float)) (i : ℕ) (before : List (List ℕ)) (f : Found) (path : List (List ℕ)) : Type 0 where
+pub record SeesBy (l : Remaining) (o : Offer) (nodes : List (List ℕ)) (cuts : List Float) (points : List (List Float)) (i : ℕ) (before : List (List ℕ)) (f : Found) (path : List (List ℕ)) : Type 0 where
   pub untaken : takes o ≡ false → (f ≡ nowhere) × (path ≡ before)
   pub taken : takes o ≡ true → Sees (l .tree .tree) nodes cuts points i before f path
 
 -- ---- the second step: of the index i, the weight w and n words, with what was found
-pub record SomeEntering (l : Left) (o : Offer) (a : Lent) (points : List (List Float)) (weights : List Float) (held : List ℕ) (i : ℕ) (w : Float) (path : List (List ℕ)) (f : Found) (n : ℕ) : Type 0 where
+pub record SomeEntering (l : Remaining) (o : Offer) (a : Lent) (points : List (List Float)) (weights : List Float) (held : List ℕ) (i : ℕ) (w : Float) (path : List (List ℕ)) (f : Found) (n : ℕ) : Type 0 where
   pub channels : ℕ
   pub share : Float
   pub world : Sampled (whole channels)
   pub marks : List ℕ
   pub chance : ℕ
-  pub state : LeftState channels share world o l a points marks weights held
+  pub state : RemainingState channels share world o l a points marks weights held
   pub offer-is : o ≡ offered channels world i w chance n
   pub seen : SeesBy l o (a .nodes) (a .cuts) points i path f path
 
 -- The two steps are the arrival.
-abbrev pub EnterDone : Left → Offer → Lent → List (List Float) → List Float → List ℕ → ℕ → Float → List ℕ → UpdateAnswer → Lent → List Float → List ℕ → Type 0
+abbrev pub EnterDone : Remaining → Offer → Lent → List (List Float) → List Float → List ℕ → ℕ → Float → List ℕ → UpdateAnswer → Lent → List Float → List ℕ → Type 0
 EnterDone l o before points weights held i w ws r after weights′ held′ =
-    (d : ℕ) (s : Float) (X : Sampled (whole d)) (marks : List ℕ) (x : ℕ) → LeftState d s X o l before points marks weights held → o ≡ offered d X i w x (length ws)
+    (d : ℕ) (s : Float) (X : Sampled (whole d)) (marks : List ℕ) (x : ℕ) → RemainingState d s X o l before points marks weights held → o ≡ offered d X i w x (length ws)
     → Updated d s (call (whole d) X (arrive i w x ws)) r after points marks weights′ held′
 
 -- an add that is done, and its leaf's index kept

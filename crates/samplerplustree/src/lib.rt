@@ -74,8 +74,8 @@ struct Admitted {
     leaf: usize,
 }
 
-// What is left once what an offer evicts is gone: the header, and the index that is gone, 0 where there is none.
-pub struct Left {
+// What remains once what an offer evicts is gone: the header, and the index that is gone, 0 where there is none.
+pub struct Remaining {
     pub tree: SamplerPlusTree,
     pub gone: usize,
 }
@@ -296,7 +296,7 @@ impl SamplerPlusTree {
         written: &Marks,
         weights: &mut Weights,
         held: &mut Held,
-    ) -> Left
+    ) -> Remaining
         requires { ⌜ SomeLeaving self Offer.Evicts (lent (now nodes) (now cuts) (now copies) (now free) (now boxes)) (now points) (now written) (now weights) (now held) ⌝ }
         ensures { λ r. ⌜ LeaveDone self Offer.Evicts (lent (now (nodes .entry)) (now (cuts .entry)) (now (copies .entry)) (now (free .entry)) (now (boxes .entry))) (now (points .entry)) (now (written .entry)) (now (weights .entry)) (now (held .entry)) r
             (lent (now (nodes .exit)) (now (cuts .exit)) (now (copies .exit)) (now (free .exit)) (now (boxes .exit))) (now (weights .exit)) (now (held .exit)) ⌝ }
@@ -320,7 +320,7 @@ impl SamplerPlusTree {
             sampler,
             initial_accept_fraction: self.initial_accept_fraction,
         };
-        Left { tree, gone }
+        Remaining { tree, gone }
     }
 
     // The first step of an arrival: what its offer evicts leaves. No word of the arrival is needed for it.
@@ -337,21 +337,21 @@ impl SamplerPlusTree {
         written: &Marks,
         weights: &mut Weights,
         held: &mut Held,
-    ) -> Left
+    ) -> Remaining
         requires { ⌜ SomeLeaving self offer (lent (now nodes) (now cuts) (now copies) (now free) (now boxes)) (now points) (now written) (now weights) (now held) ⌝ }
         ensures { λ r. ⌜ LeaveDone self offer (lent (now (nodes .entry)) (now (cuts .entry)) (now (copies .entry)) (now (free .entry)) (now (boxes .entry))) (now (points .entry)) (now (written .entry)) (now (weights .entry)) (now (held .entry)) r
             (lent (now (nodes .exit)) (now (cuts .exit)) (now (copies .exit)) (now (free .exit)) (now (boxes .exit))) (now (weights .exit)) (now (held .exit)) ⌝ }
     {
         match offer {
-            Offer::Refused(_) => Left {
+            Offer::Refused(_) => Remaining {
                 tree: self,
                 gone: 0,
             },
-            Offer::Passes => Left {
+            Offer::Passes => Remaining {
                 tree: self,
                 gone: 0,
             },
-            Offer::Begins => Left {
+            Offer::Begins => Remaining {
                 tree: self,
                 gone: 0,
             },
@@ -439,7 +439,7 @@ impl SamplerPlusTree {
         ensures { λ r. ⌜ TakeDone self offer (lent (now (nodes .entry)) (now (cuts .entry)) (now (copies .entry)) (now (free .entry)) (now (boxes .entry))) (now (points .entry)) (now (written .entry)) (now (weights .entry)) (now (held .entry)) index weight (now (words .entry)) r
             (lent (now (nodes .exit)) (now (cuts .exit)) (now (copies .exit)) (now (free .exit)) (now (boxes .exit))) (now (weights .exit)) (now (held .exit)) ⌝ }
     {
-        let left = self.leave(
+        let remaining = self.leave(
             offer,
             nodes,
             cuts,
@@ -452,8 +452,8 @@ impl SamplerPlusTree {
             held,
         );
         let mut path = [[0u16; 2]; CAPACITY];
-        let found = left.find(offer, nodes, cuts, points, index, &mut path);
-        left.enter(
+        let found = remaining.find(offer, nodes, cuts, points, index, &mut path);
+        remaining.enter(
             offer,
             nodes,
             cuts,
@@ -512,7 +512,7 @@ impl SamplerPlusTree {
     }
 }
 
-impl Left {
+impl Remaining {
     // Looks for the reading of an arrival, where it is taken: the walk tells how many of the arrival's words are looked at.
     // Rules out a walk through the tree before the eviction, and one for an arrival that is refused.
     pub fn find(

@@ -1,9 +1,9 @@
--- `Left::enter` meets its contract. Assumes nothing.
+-- `Remaining::enter` meets its contract. Assumes nothing.
 use mathlib.Core.Path.{sym, _∙_}
 use Rattle.samplerplustree.proofs.Entered.{enter-asks, enter-done, untaken-done}
 use borrow.Author.Needs.{needs}
-use Rattle.samplerplustree.proofs.Left.enter.Statement.{statement}
-use Rattle.samplerplustree.proofs.Left.enter.Tie as tie
+use Rattle.samplerplustree.proofs.Remaining.enter.Statement.{statement}
+use Rattle.samplerplustree.proofs.Remaining.enter.Tie as tie
 
 is-taken-requires : tie.Need-is-taken-requires
 is-taken-requires c κs = search needs

@@ -1,9 +1,9 @@
--- `Left::find` meets its contract. Assumes nothing.
+-- `Remaining::find` meets its contract. Assumes nothing.
 use mathlib.Core.Path.{refl, sym, _∙_}
 use Rattle.cuttree.proofs.Tests.{clash}
 use borrow.Author.Needs.{needs}
-use Rattle.samplerplustree.proofs.Left.find.Statement.{statement}
-use Rattle.samplerplustree.proofs.Left.find.Tie as tie
+use Rattle.samplerplustree.proofs.Remaining.find.Statement.{statement}
+use Rattle.samplerplustree.proofs.Remaining.find.Tie as tie
 
 is-taken-requires : tie.Need-is-taken-requires
 is-taken-requires c κs = search needs
