@@ -71,17 +71,17 @@ module _ (c k : ℕ) (nodes : List (List ℕ)) (copies : List ℕ) (points : Lis
     side : {d : ℕ} {t : Tree (whole d)} {p : Reading} → In d t p → node ≡ id (whole d) c (sibling (whole d) t (m - 1) p)
     side {d} {t} {p} w = f ∙ sibling-is d c p t path len (m - 1) (w .walked .count) (w .walked .is-trail) (omega arith)
 
-    pub some-side : {d : ℕ} {t : Tree (whole d)} {p : Reading} → In d t p → SomeBoxed c k node nodes points boxes
-    some-side {d} {t} {p} w = some-sibling d c p k nodes points boxes (m - 1) t (omega (arith, w .walked .count)) (w .boxed) node (side w) (apart-once d c t (w .stored .apart))
+    pub some-side : {d : ℕ} {t : Tree (whole d)} {p : Reading} → In d t p → (c′ : ℕ) → c′ ≡ c → SomeBoxed c′ k node nodes points boxes
+    some-side {d} {t} {p} w c′ e = rw e (some-sibling d c p k nodes points boxes (m - 1) t (omega (arith, w .walked .count)) (w .boxed) node (side w) (apart-once d c t (w .stored .apart)))
 
     grown-box : (b b′ : BoundingBox) → Boxes (m - 1) b → GrownBy c k node nodes points boxes b b′ → Boxes m b′
     grown-box b b′ B g d t p w =
         let e : suc (m - 1) ≡ m = omega arith in
         subst (λ n. At d c p t n b′) e (grow-up d c p k nodes points boxes (m - 1) t (omega (arith, w .walked .count)) (w .boxed) node (side w) b b′ (B d t p w) g)
 
-    -- the same box, as `ends_above` gives it from that of the node below
-    pub box-above : (o : ℕ) → o ≡ field path (len - m) 0 → (b b′ : BoundingBox) → (k ≤ field path (len - m) 0 → Boxes (m - 1) b) → GrownBy c k node nodes points boxes (boxOr o b) b′ → Boxes m b′
-    box-above o g b b′ B q = grown-box (boxOr o b) b′ (read-box (len - m) (m - 1) (omega arith) o g b (λ l. B (omega (arith, g)))) q
+    -- the same box, as `ends_above` gives it from that of the node below; c′ is the capacity too
+    pub box-above : (c′ : ℕ) → c′ ≡ c → (o : ℕ) → o ≡ field path (len - m) 0 → (b b′ : BoundingBox) → (k ≤ field path (len - m) 0 → Boxes (m - 1) b) → GrownBy c′ k node nodes points boxes (boxOr o b) b′ → Boxes m b′
+    box-above c′ e o g b b′ B q = grown-box (boxOr o b) b′ (read-box (len - m) (m - 1) (omega arith) o g b (λ l. B (omega (arith, g)))) (rw e at q)
 
   -- box and query are coordinates
   pub box-readings : (m : ℕ) (b : BoundingBox) → Boxes m b → {d : ℕ} {t : Tree (whole d)} {p : Reading} → In d t p → Readings (b .«min_values») (b .«max_values») point width
@@ -112,18 +112,18 @@ module _ (c k : ℕ) (nodes : List (List ℕ)) (copies : List ℕ) (points : Lis
         ∙ ap (λ y. tab m (numbers d t p) ++ y) (ap (λ n. drop n (set lent 0 x)) l ∙ drop-set-lt len lent 0 x some)
         ∙ ap (λ y. y ++ drop len lent) (ap (λ n. tab n (numbers d t p)) e ∙ sym (map-tab numbersOf (walk (whole d) t p) (rowAt d c t p)))
 
-  -- the way on by the row of the branch of height m, whose id is o and whose box is b′ unless it is cached
-  module _ (chances : List Float) (K : Chanced k boxes point path len chances) (m : ℕ) (b : BoundingBox) (lent rows : List (List ℕ)) (G : Going m b lent rows) (h : m < len) (i : ℕ) (e : i + m + 1 ≡ len) (o : ℕ) (f : o ≡ field path i 0) (b′ : BoundingBox) (B : k ≤ o → Boxes m b′) where
-    chance-is : (v : Float) → v ≡ cond (ltb o k) (getD chances i nan) (probability (b′ .«min_values») (b′ .«max_values») point width) → {d : ℕ} {t : Tree (whole d)} {p : Reading} → In d t p → v ≡ chance d c (sub (whole d) t m p) p
-    chance-is v r {d} {t} {p} w = r ∙ by-test (ltb o k)
+  -- the way on by the row of the branch of height m, whose id is o, o′ too, and whose box is b′ unless it is cached
+  module _ (chances : List Float) (K : Chanced k boxes point path len chances) (m : ℕ) (b : BoundingBox) (lent rows : List (List ℕ)) (G : Going m b lent rows) (h : m < len) (i : ℕ) (e : i + m + 1 ≡ len) (o′ : ℕ) (f′ : o′ ≡ field path i 0) (b′ : BoundingBox) (B : k ≤ o′ → Boxes m b′) where
+    chance-is : (v : Float) → v ≡ cond (ltb o′ k) (getD chances i nan) (probability (b′ .«min_values») (b′ .«max_values») point width) → {d : ℕ} {t : Tree (whole d)} {p : Reading} → In d t p → v ≡ chance d c (sub (whole d) t m p) p
+    chance-is v r {d} {t} {p} w = r ∙ by-test (ltb o′ k)
         (λ x.
-        let l = ltb→lt o k (yes x) in
-        cond-true _ _ _ x ∙ rw (← f) at (K i (omega (arith, G .some)) (omega (arith, f))) ∙ Nodes.chance-at w i m e (G .some) (record { «min_values» = lowIn boxes o; «max_values» = highIn boxes o }) (Nodes.cached-at w i m e o f l _ refl refl))
-        (λ x. cond-false _ _ _ x ∙ Nodes.chance-at w i m e (G .some) b′ (B (nltb→le o k (no x)) d t p w))
+        let l = ltb→lt o′ k (yes x) in
+        cond-true _ _ _ x ∙ rw (← f′) at (K i (omega (arith, G .some)) (omega (arith, f′))) ∙ Nodes.chance-at w i m e (G .some) (record { «min_values» = lowIn boxes o′; «max_values» = highIn boxes o′ }) (Nodes.cached-at w i m e o′ f′ l _ refl refl))
+        (λ x. cond-false _ _ _ x ∙ Nodes.chance-at w i m e (G .some) b′ (B (nltb→le o′ k (no x)) d t p w))
 
-    pub going-on : (y : ℕ) → y ≡ massAt c nodes copies o → (v : Float) → v ≡ cond (ltb o k) (getD chances i nan) (probability (b′ .«min_values») (b′ .«max_values») point width)
+    pub going-on : (o : ℕ) → o ≡ field path i 0 → (y : ℕ) → y ≡ massAt c nodes copies o → (v : Float) → v ≡ cond (ltb o′ k) (getD chances i nan) (probability (b′ .«min_values») (b′ .«max_values») point width)
         → (x : List ℕ) → x ≡ o ∷ i ∷ y ∷ toBits binary64 v ∷ [] → Going (m + 1) b′ lent (set rows m x)
-    going-on y g v q x r =
+    going-on o f y g v q x r =
         let back : m + 1 - 1 ≡ m = omega arith in
         let row : len - (m + 1) ≡ i = omega arith in
         record {
@@ -131,6 +131,6 @@ module _ (c k : ℕ) (nodes : List (List ℕ)) (copies : List ℕ) (points : Lis
           within = omega arith;
           room = G .room;
           long = length-set rows m x ∙ G .long;
-          box = rw (back, row, ← f) B;
+          box = rw (back, row, ← f′) B;
           written = λ d t p w. rw (add-one m, G .written d t p w, r ∙ Nodes.row-is w i m e o f y v g (chance-is v q w)) (front-next [] (numbers d t p) m lent (omega (arith, G .room)));
         }

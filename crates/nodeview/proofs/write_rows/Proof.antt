@@ -98,8 +98,8 @@ ends-above-requires c κs =
     let w = c .before .before .before .before .before .before .before .before .before .before .before .before .before .before .before .before .before .pre .0 .writing in
     let g = c .before .before .before .before .before .before .before .before .loop .inv in
     let h = c .before .before .before .before .before .before .before .loop-test .taken in
-    rw (c .before .wide163 .ensures .0, c .before .before .before .before .before .before .before .before .before .before .before .before .before .before .before .before .wide16 .ensures .0)
-    ((w .stored .small, cached-low w _ (c .before .before .before .before .before .before .before .before .loop .m - 1) (omega (arith, h, g .some)) _ (c .before .before .node-at3 .ensures)), some-side _ _ _ _ _ _ _ _ _ _ (g .some) h _ (c .sibling-at .ensures) w)
+    let e = c .before .before .before .before .before .before .before .before .before .before .before .before .before .before .before .before .wide16 .ensures .0 in
+    ((omega (arith, w .stored .small, e), cached-low w _ (c .before .before .before .before .before .before .before .before .loop .m - 1) (omega (arith, h, g .some)) _ (c .before .wide163 .ensures .0 ∙ c .before .before .node-at3 .ensures)), some-side _ _ _ _ _ _ _ _ _ _ (g .some) h _ (c .sibling-at .ensures) w _ e)
 
 mul-chance-of : tie.Need-mul-chance-of Inv-loop μ-loop
 mul-chance-of c = omega (arith, c .before .before .before .before .before .before .before .before .loop-test .taken, c .before .before .before .before .before .before .before .before .before .before .before .before .before .before .before .before .before .before .pre .0 .writing .walked .most)
@@ -109,11 +109,10 @@ element-copy-out-chance-of c = omega (arith, c .before .before .before .before .
 
 chance-of-requires : tie.Need-chance-of-requires Inv-loop μ-loop
 chance-of-requires c κs =
-    let h = c .before .before .before .before .before .before .before .before .before .before .before .loop-test .taken in
     let g = c .before .before .before .before .before .before .before .before .before .before .before .before .loop .inv in
     let m = c .before .before .before .before .before .before .before .before .before .before .before .before .loop .m in
-    let e = rw (c .before .before .before .before .before .wide163 .ensures .0, c .before .before .before .before .before .before .before .before .before .before .before .before .before .before .before .before .before .before .before .before .wide16 .ensures .0) at (c .before .before .before .ends-above .ensures .1) in
-    λ l. box-readings _ _ _ _ _ _ _ _ _ m _ (box-above _ _ _ _ _ _ _ _ _ m (g .some) h _ (c .before .before .before .before .sibling-at .ensures) _ (c .before .before .before .before .before .before .node-at3 .ensures) _ _ (g .box) (e l)) (c .before .before .before .before .before .before .before .before .before .before .before .before .before .before .before .before .before .before .before .before .before .pre .0 .writing)
+    let below = c .before .before .before .before .before .wide163 .ensures .0 ∙ c .before .before .before .before .before .before .node-at3 .ensures in
+    λ l. box-readings _ _ _ _ _ _ _ _ _ m _ (box-above _ _ _ _ _ _ _ _ _ m (g .some) (c .before .before .before .before .before .before .before .before .before .before .before .loop-test .taken) _ (c .before .before .before .before .sibling-at .ensures) _ (c .before .before .before .before .before .before .before .before .before .before .before .before .before .before .before .before .before .before .before .before .wide16 .ensures .0) _ below _ _ (g .box) (c .before .before .before .ends-above .ensures .1 l)) (c .before .before .before .before .before .before .before .before .before .before .before .before .before .before .before .before .before .before .before .before .before .pre .0 .writing)
 
 mass-of-requires-2 : tie.Need-mass-of-requires-2 Inv-loop μ-loop
 mass-of-requires-2 c κs = mass-asks (c .before .before .before .before .before .before .before .before .before .before .before .before .before .before .before .before .before .before .before .before .before .before .pre .0 .writing) _ (c .before .before .before .before .before .before .before .before .before .before .before .before .before .loop .m) (omega (arith, c .before .before .before .before .before .before .before .before .before .before .before .before .loop-test .taken)) _ (c .before .before .before .before .before .before .before .before .before .before .before .node-at2 .ensures)
@@ -138,11 +137,11 @@ loop-again c =
     let h = c .before .before .before .before .before .before .before .before .before .before .before .before .before .before .loop-test .taken in
     let g = c .before .before .before .before .before .before .before .before .before .before .before .before .before .before .before .loop .inv in
     let m = c .before .before .before .before .before .before .before .before .before .before .before .before .before .before .before .loop .m in
-    let o = c .before .before .before .before .before .before .before .before .before .before .before .before .wide162 .ensures .0 in
-    let e = rw (o, c .before .before .before .before .before .before .before .before .wide163 .ensures .0, c .before .before .before .before .before .before .before .before .before .before .before .before .before .before .before .before .before .before .before .before .before .before .before .wide16 .ensures .0) at (c .before .before .before .before .before .before .ends-above .ensures .1) in
-    going-on _ _ _ _ _ _ _ _ _ (c .before .before .before .before .before .before .before .before .before .before .before .before .before .before .before .before .before .before .before .before .before .before .before .before .args .chances .now) (c .before .before .before .before .before .before .before .before .before .before .before .before .before .before .before .before .before .before .before .before .before .before .before .before .pre .1) m _ _ _ g h _ (omega (arith, h)) _ (c .before .before .before .before .before .before .before .before .before .before .before .before .before .node-at2 .ensures)
-    _ (λ l. box-above _ _ _ _ _ _ _ _ _ m (g .some) h _ (c .before .before .before .before .before .before .before .sibling-at .ensures) _ (c .before .before .before .before .before .before .before .before .before .node-at3 .ensures) _ _ (g .box) (e l))
-    _ (c .before .mass-of2 .ensures) _ (rw o at (c .before .before .chance-of .ensures)) _ (c .numbers-of .ensures)
+    let n = c .before .before .before .before .before .before .before .before .before .before .before .before .before .node-at2 .ensures in
+    let below = c .before .before .before .before .before .before .before .before .wide163 .ensures .0 ∙ c .before .before .before .before .before .before .before .before .before .node-at3 .ensures in
+    going-on _ _ _ _ _ _ _ _ _ (c .before .before .before .before .before .before .before .before .before .before .before .before .before .before .before .before .before .before .before .before .before .before .before .before .args .chances .now) (c .before .before .before .before .before .before .before .before .before .before .before .before .before .before .before .before .before .before .before .before .before .before .before .before .pre .1) m _ _ _ g h _ (omega (arith, h)) _ (c .before .before .before .before .before .before .before .before .before .before .before .before .wide162 .ensures .0 ∙ n)
+    _ (λ l. box-above _ _ _ _ _ _ _ _ _ m (g .some) h _ (c .before .before .before .before .before .before .before .sibling-at .ensures) _ (c .before .before .before .before .before .before .before .before .before .before .before .before .before .before .before .before .before .before .before .before .before .before .before .wide16 .ensures .0) _ below _ _ (g .box) (c .before .before .before .before .before .before .ends-above .ensures .1 l))
+    _ n _ (c .before .mass-of2 .ensures) _ (c .before .before .chance-of .ensures) _ (c .numbers-of .ensures)
 
 same-length : tie.Need-same-length Inv-loop μ-loop
 same-length c = c .before .loop .inv .long ∙ simp length-set
