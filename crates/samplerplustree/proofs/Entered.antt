@@ -1,6 +1,6 @@
 -- The second step of an arrival: what it asks, what was looked for before it, and that the two steps are the arrival. Assumes nothing.
 use mathlib.Core.Path.{_≡_, refl, sym, ap, _∙_, subst}
-use mathlib.Core.Bool.{true, false}
+use mathlib.Core.Bool.{true, false, cond}
 use mathlib.Core.Option.{Option, none, some}
 use mathlib.Core.List.{List}
 use Prim.Native.Nat.{ℕ, _+_, _≤_, _<_}
@@ -36,7 +36,7 @@ use Rattle.samplerplustree.specs.State.{headOf, samplerOf}
 use Rattle.samplerplustree.specs.Updates.{updateSays, Updated}
 use Rattle.samplerplustree.specs.Offers.{offered, SomeOffered}
 use Rattle.samplerplustree.specs.Leaves.{SomeAdmits, AddsLeaf}
-use Rattle.samplerplustree.specs.Entering.{takes, answerBy, firstIndex, goneBy, worldRemaining, entriesRemaining, remainingBy, SampledArrays, RemainingState, SomeLeaving, LeaveDone, SeeksBy, SeesBy, SomeEntering, EnterDone, AdmitDone}
+use Rattle.samplerplustree.specs.Entering.{takes, evicts, answerBy, firstIndex, goneBy, worldRemaining, entriesRemaining, remainingBy, SampledArrays, RemainingState, SomeLeaving, LeaveDone, SeeksBy, SeesBy, SomeEntering, EnterDone, AdmitDone}
 use Rattle.samplerplustree.proofs.Parts.{arrays-of, tree-of, size-is, small, head-after}
 use Rattle.samplerplustree.proofs.Taken.{FitBegins, FitEvicts, call-of, admitted-as, agrees-after}
 use Rattle.samplerplustree.proofs.Slots.{Pushes, one-more}
@@ -44,10 +44,13 @@ use Rattle.samplerplustree.proofs.Evicted.{popped-length, delete-table,
 
 -- the evicted index that is answered, if any
 abbrev pub evictedBy : Offer → List Entry → Option ℕ
-evictedBy (Refused r) ks = none
-evictedBy Passes ks = none
-evictedBy Begins ks = none
-evictedBy Evicts ks = some (firstIndex ks)
+evictedBy o ks = cond (evicts o) (some (firstIndex ks)) none
+
+only-evicts : (o : Offer) → evicts o ≡ true → o ≡ Evicts
+only-evicts (Refused r) e = clash false e refl
+only-evicts Passes e = clash false e refl
+only-evicts Begins e = clash false e refl
+only-evicts Evicts e = refl
 
 module _ (d : ℕ) (X : Sampled (whole d)) (i : ℕ) (w : Float) (ws : List ℕ) where
   -- what holds between the steps of an arrival that is taken
@@ -177,7 +180,7 @@ module _ (h : SamplerPlusTree) (o : Offer) (a : Lent) (points : List (List Float
     sampled = record { channels = Q .channels; share = Q .share; world = Q .world; state = Q .state };
     kept = λ e.
         let blanks : List ℕ = replicate n 0 in
-        let F : FitEvicts (Q .channels) (Q .world) i w blanks _ = call-of (Q .channels) (Q .world) i w blanks (Q .state .agrees .room) (Q .chance) Evicts (sym e ∙ Q .offer-is ∙ ap (offered (Q .channels) (Q .world) i w (Q .chance)) (sym (length-replicate n 0))) in
+        let F : FitEvicts (Q .channels) (Q .world) i w blanks _ = call-of (Q .channels) (Q .world) i w blanks (Q .state .agrees .room) (Q .chance) Evicts (sym (only-evicts o e) ∙ Q .offer-is ∙ ap (offered (Q .channels) (Q .world) i w (Q .chance)) (sym (length-replicate n 0))) in
         omega (arith, size-is (arrays-of (Q .state)), ap length (F .sample-is));
   }
 

@@ -1,6 +1,6 @@
 -- The first step of an arrival: what an eviction asks, and what it leaves. Assumes nothing.
 use mathlib.Core.Path.{_≡_, refl, sym, ap, _∙_, subst}
-use mathlib.Core.Bool.{cond}
+use mathlib.Core.Bool.{true, false, cond}
 use mathlib.Core.List.{List, [], _∷_}
 use Prim.Native.Nat.{ℕ, suc, _-_, _≤_, _<_}
 use native.Mathlib.Omega.{arith}
@@ -15,6 +15,7 @@ use Rattle.sampler.proofs.Counts.{pop-length}
 use Rattle.cuttree.specs.Tree.{sumOf}
 use Rattle.cuttree.specs.Run as Bare
 use Rattle.cuttree.specs.Run.{World, delete, totalOf}
+use Rattle.cuttree.proofs.Tests.{cond-false}
 use Rattle.cuttree.proofs.Refused.{by-delete}
 use Rattle.cuttree.proofs.Intervals.{is-same}
 use Rattle.wholetree.specs.Whole.{whole}
@@ -26,11 +27,10 @@ use Rattle.treestore.specs.Arrays.{Lent}
 use Rattle.randomcuttree.specs.declared.RCFTree.{RCFTree}
 use Rattle.samplerplustree.specs.declared.SamplerPlusTree.{SamplerPlusTree}
 use Rattle.samplerplustree.specs.declared.Offer.{Offer}
-use Rattle.samplerplustree.specs.declared.Remaining.{Remaining}
 use Rattle.samplerplustree.specs.declared.Offer.the-variants as Offered
 use Rattle.samplerplustree.specs.State.{SampledState, heldOf, samplerOf}
 use Rattle.samplerplustree.specs.Leaves.{SomeCopy, LeafDeleted, DeletesLeaf}
-use Rattle.samplerplustree.specs.Entering.{firstIndex, goneBy, worldRemaining, entriesRemaining, RemainingState, SomeLeaving, LeaveDone}
+use Rattle.samplerplustree.specs.Entering.{evicts, firstIndex, worldRemaining, SomeLeaving, LeaveDone}
 use Rattle.samplerplustree.proofs.Parts.{arrays-of, tree-state, size-is, small, head-after}
 use Rattle.samplerplustree.proofs.Slots.{one-less}
 
@@ -62,59 +62,50 @@ module _ (d : ℕ) (X : Sampled (whole d)) (A : Agrees (whole d) X) (some-kept :
 
 module _ (h : SamplerPlusTree) (a : Lent) (points : List (List Float)) (marks : List ℕ) (weights : List Float) (held : List ℕ) where
   -- ---- nothing leaves for an offer that evicts nothing
-  pub none-leaves : (o : Offer) → ((d : ℕ) (X : Sampled (whole d)) → worldRemaining d X o ≡ X .world) → ((ks : List Entry) → entriesRemaining o ks ≡ ks) → ((ks : List Entry) → 0 ≡ goneBy o ks)
-      → LeaveDone h o a points marks weights held (record { tree = h; gone = 0 }) a weights held
-  none-leaves o f g z d s X S = record {
-    arrays = rw (f d X, g (X .sample)) (arrays-of S);
-    gone-is = z (X .sample);
-    agrees = S .agrees;
-    initial-is = S .initial-is;
-  }
-
-  pub evicts-by : (o : Offer) → o ≡ Offered.Evicts → (l : Remaining) (b : Lent) (weights′ : List Float) (held′ : List ℕ) → LeaveDone h Offered.Evicts a points marks weights held l b weights′ held′ → LeaveDone h o a points marks weights held l b weights′ held′
-  evicts-by o e l b weights′ held′ L d s X S = subst (λ (z : Offer). RemainingState d s X z l b points marks weights′ held′) (sym e) (L d s X S)
+  pub none-leaves : (o : Offer) → evicts o ≡ false → LeaveDone h o a points marks weights held (record { tree = h; gone = 0 }) a weights held
+  none-leaves o e d s X S = record { arrays = rw e (arrays-of S); gone-is = sym (cond-false (evicts o) _ 0 e); agrees = S .agrees; initial-is = S .initial-is }
 
   -- ---- THE EVICTION
-  module _ (Q : SomeLeaving h Offered.Evicts a points marks weights held) where
+  module _ (o : Offer) (evicting : evicts o ≡ true) (Q : SomeLeaving h o a points marks weights held) where
     kept-size : 0 < length (Q .sampled .world .sample)
-    kept-size = omega (arith, Q .kept refl, size-is (arrays-of (Q .sampled .state)))
+    kept-size = omega (arith, Q .kept evicting, size-is (arrays-of (Q .sampled .state)))
 
     pub evict-some : (0 < h .sampler .«current_size») × (h .sampler .«current_size» ≤ capacityLimit)
-    evict-some = let S = Q .sampled .state in (Q .kept refl, omega (arith, size-is (arrays-of S), S .agrees .room, small (arrays-of S)))
+    evict-some = let S = Q .sampled .state in (Q .kept evicting, omega (arith, size-is (arrays-of S), S .agrees .room, small (arrays-of S)))
 
   module _ (v : Evicted) (e : v ≡ evictedOf (h .sampler) weights held) (gone : ℕ) (g : gone ≡ v .index) where
     gone-first : (d : ℕ) (s : Float) (X : Sampled (whole d)) → SampledState d s X h a points marks weights held → gone ≡ firstIndex (X .sample)
     gone-first d s X S = g ∙ ap (λ (z : Evicted). z .index) e ∙ ap (λ (l : List ℕ). getD l 0 0) (S .held-are) ∙ first-held (X .sample)
 
-    pub evict-copy : SomeLeaving h Offered.Evicts a points marks weights held → SomeCopy (h .tree) a points marks gone
-    evict-copy Q = let S = Q .sampled in record {
+    pub evict-copy : (o : Offer) → evicts o ≡ true → SomeLeaving h o a points marks weights held → SomeCopy (h .tree) a points marks gone
+    evict-copy o evicting Q = let S = Q .sampled in record {
       channels = S .channels;
       capacity = S .world .capacity;
       share = S .share;
       world = S .world .world;
       state = tree-state (S .state);
-      copy = rw (gone-first (S .channels) (S .share) (S .world) (S .state)) (copy (S .channels) (S .world) (S .state .agrees) (kept-size Q));
+      copy = rw (gone-first (S .channels) (S .share) (S .world) (S .state)) (copy (S .channels) (S .world) (S .state .agrees) (kept-size o evicting Q));
     }
 
-    pub evict-done : SomeLeaving h Offered.Evicts a points marks weights held → (weights′ : List Float) (held′ : List ℕ) (left : RCFTree) (b : Lent)
+    pub evict-done : (o : Offer) → evicts o ≡ true → SomeLeaving h o a points marks weights held → (weights′ : List Float) (held′ : List ℕ) (left : RCFTree) (b : Lent)
         → Evicts (h .sampler .«current_size») weights held weights′ held′ → DeletesLeaf (h .tree) a points marks gone left b
-        → LeaveDone h Offered.Evicts a points marks weights held (record { tree = record { tree = left; sampler = v .sampler; «initial_accept_fraction» = h .«initial_accept_fraction» }; gone = gone }) b weights′ held′
-    evict-done Q weights′ held′ left b slots D d s X S =
+        → LeaveDone h o a points marks weights held (record { tree = record { tree = left; sampler = v .sampler; «initial_accept_fraction» = h .«initial_accept_fraction» }; gone = gone }) b weights′ held′
+    evict-done o evicting Q weights′ held′ left b slots D d s X S =
         let L = arrays-of S in
-        let some-kept : 0 < length (X .sample) = omega (arith, Q .kept refl, size-is L) in
+        let some-kept : 0 < length (X .sample) = omega (arith, Q .kept evicting, size-is L) in
         let C = subst (λ (j : ℕ). LeafDeleted d (X .capacity) s (Bare.call (whole d) (X .capacity) (X .world) (delete j) .1) left b points marks) (gone-first d s X S) (D d (X .capacity) s (X .world) (tree-state S)) in
         let T = one-less (X .sample) weights held (S .weights-are) (S .held-are) weights′ held′ some-kept (omega (arith, S .agrees .room, small L)) (subst (λ (n : ℕ). Evicts n weights held weights′ held′) (size-is L) slots) in
         let size : h .sampler .«current_size» - 1 ≡ length (popped above beyond (X .sample)) = omega (arith, size-is L, popped-length (X .sample) some-kept) in
         let N : v .sampler ≡ samplerOf (X .capacity) (popped above beyond (X .sample)) = ap (λ (z : Evicted). z .sampler) e ∙ ap (λ (n : ℕ). record { capacity = h .sampler .capacity; «current_size» = n }) size
         ∙ ap (λ (z : SamplerPlusTree). record { capacity = z .sampler .capacity; «current_size» = length (popped above beyond (X .sample)) }) (S .head-is) in
         record {
-          arrays = record {
+          arrays = rw evicting (record {
             head-is = head-after d s X (worldRemaining d X Offered.Evicts) (popped above beyond (X .sample)) left (v .sampler) (h .«initial_accept_fraction») (C .tree-is) N (ap (λ (z : SamplerPlusTree). z .«initial_accept_fraction») (S .head-is));
             tree-is = C .state;
             weights-are = T .0;
             held-are = T .1;
-          };
-          gone-is = gone-first d s X S;
+          });
+          gone-is = rw evicting (gone-first d s X S);
           agrees = S .agrees;
           initial-is = S .initial-is;
         }

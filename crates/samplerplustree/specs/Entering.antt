@@ -1,7 +1,7 @@
 -- An arrival in two steps: what its offer evicts leaves, and then it enters. Between them its reading is looked for, which tells how many of its
 -- words are looked at. Definitions.
 use mathlib.Core.Path.{_≡_}
-use mathlib.Core.Bool.{Bool, true, false}
+use mathlib.Core.Bool.{Bool, true, false, cond}
 use mathlib.Core.Option.{some}
 use mathlib.Core.List.{List, [], _∷_}
 use Prim.Native.Nat.{ℕ, _<_}
@@ -38,6 +38,13 @@ takes Passes = false
 takes Begins = true
 takes Evicts = true
 
+-- whether it evicts
+abbrev pub evicts : Offer → Bool
+evicts (Refused r) = false
+evicts Passes = false
+evicts Begins = false
+evicts Evicts = true
+
 -- what an offer has answered: of an arrival that is taken with the header after it, the leaf's index and the index that is gone
 abbrev pub answerBy : Offer → SamplerPlusTree → ℕ → ℕ → UpdateAnswer
 answerBy (Refused n) h j e = Answers.Refused n
@@ -52,23 +59,14 @@ firstIndex (k ∷ ks) = k .index
 
 -- the index that an offer evicts, 0 where it evicts none
 abbrev pub goneBy : Offer → List Entry → ℕ
-goneBy (Refused r) ks = 0
-goneBy Passes ks = 0
-goneBy Begins ks = 0
-goneBy Evicts ks = firstIndex ks
+goneBy o ks = cond (evicts o) (firstIndex ks) 0
 
 -- "an eviction deletes by that index", before the arrival is added: the tree and the entries between the two
 abbrev pub worldRemaining : (d : ℕ) → Sampled (whole d) → Offer → World (whole d)
-worldRemaining d X (Refused r) = X .world
-worldRemaining d X Passes = X .world
-worldRemaining d X Begins = X .world
-worldRemaining d X Evicts = Bare.call (whole d) (X .capacity) (X .world) (delete (firstIndex (X .sample))) .1
+worldRemaining d X o = cond (evicts o) (Bare.call (whole d) (X .capacity) (X .world) (delete (firstIndex (X .sample))) .1) (X .world)
 
 abbrev pub entriesRemaining : Offer → List Entry → List Entry
-entriesRemaining (Refused r) ks = ks
-entriesRemaining Passes ks = ks
-entriesRemaining Begins ks = ks
-entriesRemaining Evicts ks = popped above beyond ks
+entriesRemaining o ks = cond (evicts o) (popped above beyond ks) ks
 
 abbrev pub remainingBy : (d : ℕ) → Sampled (whole d) → Offer → Sampled (whole d)
 remainingBy d X o = withSample (whole d) X (worldRemaining d X o) (entriesRemaining o (X .sample))
@@ -92,7 +90,7 @@ module _ (d : ℕ) (s : Float) where
 -- ---- the first step: an offer evicts only where something is kept
 pub record SomeLeaving (h : SamplerPlusTree) (o : Offer) (a : Lent) (points : List (List Float)) (marks : List ℕ) (weights : List Float) (held : List ℕ) : Type 0 where
   pub sampled : SomeSampled h a points marks weights held
-  pub kept : o ≡ Evicts → 0 < h .sampler .«current_size»
+  pub kept : evicts o ≡ true → 0 < h .sampler .«current_size»
 
 abbrev pub LeaveDone : SamplerPlusTree → Offer → Lent → List (List Float) → List ℕ → List Float → List ℕ → Remaining → Lent → List Float → List ℕ → Type 0
 LeaveDone h o before points marks weights held l after weights′ held′ =

@@ -30,7 +30,7 @@ ghost use Rattle.samplerplustree.specs.Making.{refusalBy, SampledMade};
 ghost use Rattle.samplerplustree.specs.Updates.{UpdateDone};
 ghost use Rattle.samplerplustree.specs.Offers.{refusalRead, startsRead, OfferTold, SomeOffered, TakeDone};
 ghost use Rattle.samplerplustree.specs.Leaves.{SomeAdmits, AddsLeaf, SomeCopy, DeletesLeaf};
-ghost use Rattle.samplerplustree.specs.Entering.{takes, answerBy, SomeLeaving, LeaveDone, SeeksBy, SeesBy, SomeEntering, EnterDone, AdmitDone};
+ghost use Rattle.samplerplustree.specs.Entering.{takes, evicts, answerBy, SomeLeaving, LeaveDone, SeeksBy, SeesBy, SomeEntering, EnterDone, AdmitDone};
 
 // The header: the tree's, the sample's, and the initial share.
 pub struct SamplerPlusTree {
@@ -104,6 +104,18 @@ fn is_taken(offer: Offer) -> bool
         Offer::Refused(_) => false,
         Offer::Passes => false,
         Offer::Begins => true,
+        Offer::Evicts => true,
+    }
+}
+
+// Whether it evicts.
+fn is_evicting(offer: Offer) -> bool
+    ensures { λ r. ⌜ r ≡ evicts offer ⌝ }
+{
+    match offer {
+        Offer::Refused(_) => false,
+        Offer::Passes => false,
+        Offer::Begins => false,
         Offer::Evicts => true,
     }
 }
@@ -284,9 +296,12 @@ impl SamplerPlusTree {
         Offer::Passes
     }
 
-    // The first entry leaves the sample, and its index the tree.
-    fn evict(
+    // The first step of an arrival: where its offer evicts, the first entry leaves the sample, and its index the tree. No word of the arrival is needed
+    // for it.
+    // Rules out an entry that leaves the sample and whose index stays in the tree, and an eviction for an offer that evicts nothing.
+    pub fn leave(
         self,
+        offer: Offer,
         nodes: &mut Nodes,
         cuts: &mut Cuts,
         copies: &mut Copies,
@@ -297,10 +312,16 @@ impl SamplerPlusTree {
         weights: &mut Weights,
         held: &mut Held,
     ) -> Remaining
-        requires { ⌜ SomeLeaving self Offer.Evicts (lent (now nodes) (now cuts) (now copies) (now free) (now boxes)) (now points) (now written) (now weights) (now held) ⌝ }
-        ensures { λ r. ⌜ LeaveDone self Offer.Evicts (lent (now (nodes .entry)) (now (cuts .entry)) (now (copies .entry)) (now (free .entry)) (now (boxes .entry))) (now (points .entry)) (now (written .entry)) (now (weights .entry)) (now (held .entry)) r
+        requires { ⌜ SomeLeaving self offer (lent (now nodes) (now cuts) (now copies) (now free) (now boxes)) (now points) (now written) (now weights) (now held) ⌝ }
+        ensures { λ r. ⌜ LeaveDone self offer (lent (now (nodes .entry)) (now (cuts .entry)) (now (copies .entry)) (now (free .entry)) (now (boxes .entry))) (now (points .entry)) (now (written .entry)) (now (weights .entry)) (now (held .entry)) r
             (lent (now (nodes .exit)) (now (cuts .exit)) (now (copies .exit)) (now (free .exit)) (now (boxes .exit))) (now (weights .exit)) (now (held .exit)) ⌝ }
     {
+        if !is_evicting(offer) {
+            return Remaining {
+                tree: self,
+                gone: 0,
+            };
+        }
         let evicted = self.sampler.evict_max(weights, held);
         let gone = wide16(evicted.index);
         let left = delete_leaf(
@@ -321,52 +342,6 @@ impl SamplerPlusTree {
             initial_accept_fraction: self.initial_accept_fraction,
         };
         Remaining { tree, gone }
-    }
-
-    // The first step of an arrival: what its offer evicts leaves. No word of the arrival is needed for it.
-    // Rules out an entry that leaves the sample and whose index stays in the tree, and an eviction for an offer that evicts nothing.
-    pub fn leave(
-        self,
-        offer: Offer,
-        nodes: &mut Nodes,
-        cuts: &mut Cuts,
-        copies: &mut Copies,
-        free: &mut Free,
-        boxes: &mut Boxes,
-        points: &Points,
-        written: &Marks,
-        weights: &mut Weights,
-        held: &mut Held,
-    ) -> Remaining
-        requires { ⌜ SomeLeaving self offer (lent (now nodes) (now cuts) (now copies) (now free) (now boxes)) (now points) (now written) (now weights) (now held) ⌝ }
-        ensures { λ r. ⌜ LeaveDone self offer (lent (now (nodes .entry)) (now (cuts .entry)) (now (copies .entry)) (now (free .entry)) (now (boxes .entry))) (now (points .entry)) (now (written .entry)) (now (weights .entry)) (now (held .entry)) r
-            (lent (now (nodes .exit)) (now (cuts .exit)) (now (copies .exit)) (now (free .exit)) (now (boxes .exit))) (now (weights .exit)) (now (held .exit)) ⌝ }
-    {
-        match offer {
-            Offer::Refused(_) => Remaining {
-                tree: self,
-                gone: 0,
-            },
-            Offer::Passes => Remaining {
-                tree: self,
-                gone: 0,
-            },
-            Offer::Begins => Remaining {
-                tree: self,
-                gone: 0,
-            },
-            Offer::Evicts => self.evict(
-                nodes,
-                cuts,
-                copies,
-                free,
-                boxes,
-                points,
-                written,
-                weights,
-                held,
-            ),
-        }
     }
 
     // The arrival is added to the tree, and the sample keeps the leaf's index.
