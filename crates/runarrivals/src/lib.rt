@@ -9,6 +9,7 @@ use limits::Free;
 use limits::Held;
 use limits::Marks;
 use limits::Nodes;
+use limits::Path;
 use limits::Points;
 use limits::Weights;
 use samplerplustree::SamplerPlusTree;
@@ -22,7 +23,8 @@ ghost use Rattle.arrivals.specs.Arrived.{Arrives, ReadsWords};
 ghost use Rattle.runlayout.specs.Layout.{number, double, standsAt, arrivalWordsAt};
 
 // The arrival at a place of the run: its answer's numbers in the reply, with 0 after them, and the header after it. What it evicts is gone before its
-// words are read: those that are looked at go to the front of the lent ones, whose others stay. Of a long run most of the time would go to the rest.
+// words are read: those that are looked at go to the front of the lent ones, whose others stay. Of a long run most of the time would go to the rest. The
+// path is working memory: whatever it holds before, and what it holds after is free.
 // Rules out the word for the starting chance read from another place, and the last word of a walk unread.
 pub fn arrival_at(
     tree: SamplerPlusTree,
@@ -38,6 +40,7 @@ pub fn arrival_at(
     run: &[u8],
     p: usize,
     words: &mut Words,
+    path: &mut Path,
     reply: &mut Reply,
 ) -> SamplerPlusTree
     requires there { ⌜ (number (now run) p ≡ 6) × (standsAt (now run) p ≡ true) ⌝ }
@@ -66,8 +69,7 @@ pub fn arrival_at(
         weights,
         held,
     );
-    let mut path = [[0u16; 2]; CAPACITY];
-    let found = remaining.find(offer, nodes, cuts, points, index, &mut path);
+    let found = remaining.find(offer, nodes, cuts, points, index, path);
     let used = casts::at_most(n, found.walk);
     rungiven::read_words(run, p + 6, used, words);
     arrivals::enter(
@@ -83,7 +85,7 @@ pub fn arrival_at(
         held,
         index,
         weight,
-        &path,
+        path,
         found,
         words,
         n,

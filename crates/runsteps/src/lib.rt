@@ -102,6 +102,7 @@ fn arrival_step(
     run: &[u8],
     p: usize,
     words: &mut Words,
+    path: &mut Path,
     reply: &mut Reply,
     answers: &mut [u8],
     out: usize,
@@ -126,6 +127,7 @@ fn arrival_step(
         run,
         p,
         words,
+        path,
         reply,
     );
     write_reply(answers, out, reply, 4);
@@ -133,7 +135,7 @@ fn arrival_step(
 }
 
 // The call at a place of the run, of the kind that stands there, answered from the answer number `out` on; its answer has `width` numbers.
-// Gives the header after it. The path and the chances are a report's working memory: whatever they hold before, and what they hold after is free.
+// Gives the header after it. The path and the chances are working memory of arrivals and reports: whatever they hold before, and what they hold after is free.
 // Rules out the sample's arrays written by a put, and an answer that begins where the one before it does.
 pub fn step(
     current: SamplerPlusTree,
@@ -179,6 +181,7 @@ pub fn step(
             run,
             p,
             words,
+            path,
             reply,
             answers,
             out,

@@ -11,8 +11,8 @@ use Rattle.runsteps.proofs.step.Tie as tie
 
 arrival-step-requires : tie.Need-arrival-step-requires
 arrival-step-requires c κs =
-    let s = c .before .before .before .before .before .before .before .before .before .before .before .before .before .before .before in
-    let six = sym (s .pre .0 .1) ∙ c .before .before .before .before .before .before .before .before .before .before .before .before .if1 .taken in
+    let s = c .before .before .before .before .before .before .before .before .before .before .before .before .before .before .before .before in
+    let six = sym (s .pre .0 .1) ∙ c .before .before .before .before .before .before .before .before .before .before .before .before .before .if1 .taken in
     ((six, s .pre .0 .0), (s .pre .1 .0, arrival-room (s .args .run .now) (s .args .p) six (s .args .width) (s .args .out) (s .args .answers .now) (s .pre .1 .1 .0) (s .pre .1 .1 .1)))
 
 same-length : tie.Need-same-length
@@ -20,7 +20,7 @@ same-length c = search needs
 
 returns : tie.Need-returns
 returns c =
-    let s = c .before .before .before .before .before .before .before .before .before .before .before .before .before .before .before .before .before .before in
+    let s = c .before .before .before .before .before .before .before .before .before .before .before .before .before .before .before .before .before .before .before in
     c .before .before .arrival-step .ensures (s .args .rows .now)
 
 report-at-requires : tie.Need-report-at-requires
