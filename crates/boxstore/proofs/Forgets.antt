@@ -51,7 +51,7 @@ module _ (d c : ℕ) (t : Tree (whole d)) (p : Reading) (o : Once d c t) (e : 1 
   pub forget-start : (k : ℕ) → k ≤ branchLimit → Partly d c k t after p (written k (at d c t p 1) noBoxEnds (tab branchLimit (boxIn d c k (some t)))) 1
   forget-start k few =
       partly-start d c p k t o few after 1 (at d c t p 1) noBoxEnds (λ n a l. at-apart d c 1 n t p (omega arith) a l o) (slot-none d c (boxEnds d c) noBoxEnds after (at d c t p 1) (omega (arith, after-uses (at d c t p 1), o (at d c t p 1), is-same (at d c t p 1))))
-      (λ j n none. slot-kept d c (boxEnds d c) noBoxEnds 1 p rest t rest j o forget-once e (in-sibling d p t e) here (none-above d c 1 p j t e none) (λ z. (sym (other j n) ∙ z, z)))
+      (λ j n none. slot-kept d c (boxEnds d c) noBoxEnds 1 p rest t rest j o forget-once e (in-sibling d 0 p t e) here (none-above d c 1 p j t e none) (λ z. (sym (other j n) ∙ z, z)))
     where
       other : (j : ℕ) → (at d c t p 1 ≡ j → ⊥) → uses d c rest j ≡ uses d c (sub (whole d) t 1 p) j
       other j n = let z : is (at d c t p 1) j ≡ 0 = rw (ne-eqb (at d c t p 1) j n) in omega (arith, parent-uses j)

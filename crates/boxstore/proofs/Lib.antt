@@ -11,3 +11,4 @@ pub mod Forgets
 pub mod Repairs
 pub mod Copies
 pub mod Siblings
+pub mod Above

@@ -20,7 +20,7 @@ use Rattle.wholetree.specs.Whole.{whole}
 use Rattle.layout.specs.Slots.{lowOf, highOf, boxEnds}
 use Rattle.layout.specs.Stands.{Once}
 use Rattle.boxstore.specs.Boxed.{sideIn, Boxed, SomeBoxed}
-use Rattle.boxstore.specs.Grown.{lowWith, highWith, EndsGrownBy, Numbers, GrownBy, SidesBox, BoxOf}
+use Rattle.boxstore.specs.Grown.{lowWith, highWith, EndsGrownBy, GrownBy, SidesBox, BoxOf}
 use Rattle.boxstore.proofs.Ends.{tab-same, both, least-end, most-end, least-ends, most-ends, row-ends}
 use Rattle.boxstore.proofs.Depths.{deep, depth, depth-few, deep-is}
 
@@ -70,12 +70,6 @@ module _ (c k node : ℕ) (nodes : List (List ℕ)) (points : List (List Float))
 
   pub at-cached : node < c → node < k → HasBox (getD boxes node [])
   at-cached h m = has-box _ (cached-is h m)
-
-  -- the box of a node that stands has numbers for ends
-  pub box-numbers : (r : BoundingBox) → SomeBoxed c k node nodes points boxes → BoxOf c k node nodes points boxes r → Numbers r
-  box-numbers r s F =
-      let w = F (s .channels) (s .tree) (s .at-node) (s .boxed) in
-      record { lower = lo (whole (s .channels)) (s .tree); upper = hi (whole (s .channels)) (s .tree); low = w .0; high = w .1 }
 
   -- a leaf's point is in the table, and a branch's number below the capacity
   pub in-table : c ≤ node → SomeBoxed c k node nodes points boxes → node - c < pointLimit

@@ -22,13 +22,6 @@ lowWith d f t = ends (λ (i : ℕ). least (whole d) (f i) (lo (whole d) t i))
 abbrev pub highWith : (d : ℕ) → (ℕ → Number) → Tree (whole d) → List Float
 highWith d f t = ends (λ (i : ℕ). most (whole d) (f i) (hi (whole d) t i))
 
--- the ends of a box are numbers
-pub record Numbers (b : BoundingBox) : Type 0 where
-  pub lower : ℕ → Number
-  pub upper : ℕ → Number
-  pub low : b .«min_values» ≡ ends lower
-  pub high : b .«max_values» ≡ ends upper
-
 -- capacity c, k cached branches, and a node's id
 module _ (c k node : ℕ) (nodes : List (List ℕ)) (points : List (List Float)) (boxes : List (List (List Float))) where
   -- low′ and high′ are the ends low and high moved out to hold the box of the tree below the node, whichever tree stands there, if low and high are numbers

@@ -1,4 +1,5 @@
 pub mod Boxed
 pub mod Written
 pub mod Grown
+pub mod Above
 pub mod Edited

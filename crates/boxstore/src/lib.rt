@@ -9,7 +9,7 @@ use limits::Row;
 ghost use mathlib.Core.Path.{_≡_};
 ghost use mathlib.Core.Bool.{_&&_};
 ghost use mathlib.Core.List.{[], _∷_};
-ghost use Prim.Native.Nat.{_-_, _≤_, _<_};
+ghost use Prim.Native.Nat.{_+_, _-_, _≤_, _<_};
 ghost use lib.Dec.{ltb};
 ghost use lib.ListN.{getD};
 ghost use Rattle.limits.specs.Limits.{width, capacityLimit, branchLimit, pointLimit};
@@ -18,7 +18,8 @@ ghost use Rattle.layout.specs.Layout.{noBoxEnds};
 ghost use Rattle.boxstore.specs.Boxed.{sideIn, SomeBoxed};
 ghost use Rattle.boundingbox.specs.Contained.{contains};
 ghost use Rattle.boxstore.specs.Written.{lowIn, highIn, boxWith, written};
-ghost use Rattle.boxstore.specs.Grown.{EndsGrownBy, Numbers, GrownBy, BoxOf, SomeSides, SidesBox, Rebuilt};
+ghost use Rattle.boxstore.specs.Grown.{EndsGrownBy, GrownBy, BoxOf, SomeSides, SidesBox, Rebuilt};
+ghost use Rattle.boxstore.specs.Above.{SomeRising, BoxAbove};
 ghost use Rattle.boxstore.specs.Edited.{SomeGrafted, GrownAbove, SomeForgotten, RepairedAbove};
 
 // The id of a branch's side: 0 is the left one, 1 the right one.
@@ -126,9 +127,8 @@ pub fn grow_ends(
     grow_ends(low, high, right, nodes, points, boxes, capacity, cached);
 }
 
-// The box grown by that of a node.
-// Rules out one side grown by twice, and a branch that is not cached left out.
-pub fn grow_node_box(
+// The box grown by that of a branch that is not cached.
+fn grow_branch_box(
     b: BoundingBox,
     node: usize,
     nodes: &Nodes,
@@ -139,15 +139,8 @@ pub fn grow_node_box(
 ) -> BoundingBox
     requires few { ⌜ capacity ≤ capacityLimit ⌝ }
     requires stands { ⌜ SomeBoxed capacity cached node (now nodes) (now points) (now boxes) ⌝ }
-    requires numbers { ⌜ Numbers b ⌝ }
     ensures { λ r. ⌜ GrownBy capacity cached node (now (nodes .entry)) (now (points .entry)) (now (boxes .entry)) b r ⌝ }
 {
-    if capacity <= node {
-        return grown(b, leaf_box(points, node - capacity));
-    }
-    if node < cached {
-        return grown(b, box_from_data(boxes, node));
-    }
     let mut low = b.min_values;
     let mut high = b.max_values;
     grow_ends(
@@ -164,6 +157,29 @@ pub fn grow_node_box(
         min_values: low,
         max_values: high,
     }
+}
+
+// The box grown by that of a node.
+fn grow_node_box(
+    b: BoundingBox,
+    node: usize,
+    nodes: &Nodes,
+    points: &Points,
+    boxes: &Boxes,
+    capacity: usize,
+    cached: usize,
+) -> BoundingBox
+    requires few { ⌜ capacity ≤ capacityLimit ⌝ }
+    requires stands { ⌜ SomeBoxed capacity cached node (now nodes) (now points) (now boxes) ⌝ }
+    ensures { λ r. ⌜ GrownBy capacity cached node (now (nodes .entry)) (now (points .entry)) (now (boxes .entry)) b r ⌝ }
+{
+    if capacity <= node {
+        return grown(b, leaf_box(points, node - capacity));
+    }
+    if node < cached {
+        return grown(b, box_from_data(boxes, node));
+    }
+    grow_branch_box(b, node, nodes, points, boxes, capacity, cached)
 }
 
 // The box of a node. That of a branch that is not cached is its left side's, grown by its right side.
@@ -288,6 +304,38 @@ pub fn sibling_at(path: &Path, len: usize, m: usize) -> usize
 {
     let row = len - 1 - m;
     casts::wide16(path[row][1])
+}
+
+// The box of a walk's node of height m + 1, from that of the node below it: grown by the sibling's box; or the node's own, where that is cached and the
+// sibling's would have to be worked out.
+// Rules out a box grown by the node below in place of its sibling, and the slot of a node that is not cached taken for its box.
+pub fn box_above(
+    b: BoundingBox,
+    path: &Path,
+    len: usize,
+    m: usize,
+    nodes: &Nodes,
+    points: &Points,
+    boxes: &Boxes,
+    capacity: usize,
+    cached: usize,
+) -> BoundingBox
+    requires few { ⌜ (capacity ≤ capacityLimit) × (len ≤ capacityLimit) × (m + 1 < len) ⌝ }
+    requires stands { ⌜ SomeRising capacity cached (now nodes) (now points) (now boxes) (now path) len m b ⌝ }
+    ensures { λ r. ⌜ BoxAbove capacity cached (now (nodes .entry)) (now (points .entry)) (now (boxes .entry)) (now (path .entry)) len m b r ⌝ }
+{
+    let sibling = sibling_at(path, len, m);
+    if capacity <= sibling {
+        return grown(b, leaf_box(points, sibling - capacity));
+    }
+    if sibling < cached {
+        return grown(b, box_from_data(boxes, sibling));
+    }
+    let node = node_of(path, len - 2 - m);
+    if node < cached {
+        return box_from_data(boxes, node);
+    }
+    grow_branch_box(b, sibling, nodes, points, boxes, capacity, cached)
 }
 
 // The boxes of the first `n` nodes of a path grown by a point, from the lowest up. Ends at a cached box that held the point, as then do all above it.

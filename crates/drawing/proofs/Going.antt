@@ -24,9 +24,7 @@ use Rattle.wholetree.specs.Reading.{Reading}
 use Rattle.wholetree.specs.Whole.{whole}
 use Rattle.wholetree.proofs.Boxes.{tree-box}
 use Rattle.wholetree.proofs.Draws.{are-readings}
-use Rattle.boxstore.specs.Boxed.{SomeBoxed}
-use Rattle.boxstore.specs.Grown.{Numbers, GrownBy}
-use Rattle.boxstore.proofs.Siblings.{sibling-is, At, at-numbers, some-sibling, grow-up}
+use Rattle.boxstore.specs.Above.{At, Rising, SomeRising, BoxAbove}
 use Rattle.drawing.specs.declared.Highest.{Highest}
 use Rattle.drawing.specs.Drawing.{Drawing, SomeDrawing, Kept}
 use Rattle.drawing.proofs.Keeping.{keeps-nothing, keeps-held, keeps-drawn}
@@ -59,13 +57,11 @@ module _ (c k : ℕ) (nodes : List (List ℕ)) (points : List (List Float)) (box
         let A = G .keeps (s .channels) (s .tree) (s .reading) D .1 in
         rw (A .low, A .high, D .row) (are-readings (tree-box (s .channels) (sub (whole (s .channels)) (s .tree) m (s .reading))) (s .reading))
 
-    pub going-numbers : SomeDrawing c k nodes points boxes path len leaf words point → Numbers b
-    going-numbers s = at-numbers (s .channels) c (s .reading) (s .tree) m b (G .keeps (s .channels) (s .tree) (s .reading) (s .drawing) .1)
+    rising : {d : ℕ} {t : Tree (whole d)} {p : Reading} → In d t p → Rising c k nodes points boxes path len m b d t p
+    rising {d} {t} {p} D = record { boxed = D .boxed; once = D .once; count = D .count; is-trail = D .is-trail; box-is = G .keeps d t p D .1 }
 
-    pub some-side : SomeDrawing c k nodes points boxes path len leaf words point → m + 1 < len → (node : ℕ) → node ≡ getD (getD path (len - 1 - m) []) 1 0 → SomeBoxed c k node nodes points boxes
-    some-side s h node e =
-        let D = s .drawing in
-        some-sibling (s .channels) c (s .reading) k nodes points boxes m (s .tree) (omega (arith, D .count)) (D .boxed) node (e ∙ sibling-is (s .channels) c (s .reading) (s .tree) path len m (D .count) (D .is-trail) h) (D .once)
+    pub some-rising : SomeDrawing c k nodes points boxes path len leaf words point → SomeRising c k nodes points boxes path len m b
+    some-rising s = record { channels = s .channels; tree = s .tree; reading = s .reading; rising = rising (s .drawing) }
 
     -- its draw
     module _ (W : getD words m 0 < 2 ^ 64) (s : Separation) (X : s ≡ separation width (b .«min_values») (b .«max_values») point (getD words m 0)) where
@@ -90,8 +86,5 @@ module _ (c k : ℕ) (nodes : List (List ℕ)) (points : List (List Float)) (box
             let last : len ≡ suc m = omega (arith, G .within) in
             rw last (kept-on d t p D)
 
-        pub going-on : m + 1 < len → (node : ℕ) → node ≡ getD (getD path (len - 1 - m) []) 1 0 → (b′ : BoundingBox) → GrownBy c k node nodes points boxes b b′ → Going (m + 1) b′ y
-        going-on h node f b′ g = record {
-          within = h;
-          keeps = λ d t p D. rw (add-one m) (kept-on d t p D, grow-up d c p k nodes points boxes m t (omega (arith, D .count)) (D .boxed) node (f ∙ sibling-is d c p t path len m (D .count) (D .is-trail) h) b b′ (G .keeps d t p D .1) g);
-        }
+        pub going-on : m + 1 < len → (b′ : BoundingBox) → BoxAbove c k nodes points boxes path len m b b′ → Going (m + 1) b′ y
+        going-on h b′ g = record { within = h; keeps = λ d t p D. (rw (add-one m) (kept-on d t p D), g d t p (rising D)) }

@@ -67,8 +67,17 @@ pub fn highest_cut(
                 }
             }
         }
-        let sibling = boxstore::sibling_at(path, len, m);
-        current = boxstore::grow_node_box(current, sibling, nodes, points, boxes, capacity, cached);
+        current = boxstore::box_above(
+            current,
+            path,
+            len,
+            m,
+            nodes,
+            points,
+            boxes,
+            capacity,
+            cached,
+        );
         m += 1;
     }
     let last = Cut::whole_cut_and_separation(current, words[m], point);

@@ -1,4 +1,4 @@
--- The branch next above a walk's leaf: the leaf on one side, the leaf's sibling on the other.
+-- The branch next above a walk's leaf: the leaf on one side, the leaf's sibling on the other. Siblings are nodes of the tree.
 use mathlib.Core.Path.{_≡_, sym, ap, _∙_}
 use mathlib.Core.Bool.{Bool}
 use Prim.Native.Nat.{ℕ, suc, _+_, _<_}
@@ -10,7 +10,7 @@ use Rattle.cuttree.specs.Tree.{Tree, leaf, branch, id, ending, height, sum}
 use Rattle.cuttree.specs.Walk.{sub, sibling}
 use Rattle.cuttree.proofs.Tests.{by-cond, by-test}
 use Rattle.cuttree.proofs.Steps.{toward, aside, along, ending-step, height-step}
-use Rattle.cuttree.proofs.Heights.{sub-top, sub-down, sibling-top, sibling-down, sub-leaf}
+use Rattle.cuttree.proofs.Heights.{by-height, sub-top, sub-down, sibling-top, sibling-down, sub-leaf}
 use Rattle.cuttree.proofs.Nodes.{In, here, left, right}
 use Rattle.wholetree.specs.Reading.{Reading}
 use Rattle.wholetree.specs.Whole.{whole}
@@ -41,9 +41,11 @@ module _ (d : ℕ) where
           (λ y. let w : sum (whole d) f g l ≡ e = rw y at h in rw (y, w))
           (λ y. let w : sum (whole d) f g r ≡ e = rw y at h in rw (y, w) (omega arith))
 
-  pub in-sibling : (p : Reading) (t : Tree (whole d)) → 0 < height (whole d) t p → In (whole d) (sibling (whole d) t 0 p) t
-  in-sibling p = along (whole d) (λ t. 0 < height (whole d) t p → In (whole d) (sibling (whole d) t 0 p) t) p (λ i q n m. absurd (omega arith))
-      (λ b k x l r ih m. let t = branch b k x l r in by-one b k x l r p
-      (λ z o. let other : sibling (whole d) t 0 p ≡ aside (whole d) k p l r = ap (λ y. sibling (whole d) t y p) (sym z) ∙ sibling-top (whole d) b k x l r p in
+  -- the sibling of a walk's node is a node of the tree
+  pub in-sibling : (m : ℕ) (p : Reading) (t : Tree (whole d)) → m < height (whole d) t p → In (whole d) (sibling (whole d) t m p) t
+  in-sibling m p = along (whole d) (λ t. m < height (whole d) t p → In (whole d) (sibling (whole d) t m p) t) p (λ i q n h. absurd (omega arith))
+      (λ b k x l r ih h. let t = branch b k x l r in by-height (whole d) b k x l r p (suc m) h
+      (λ e. let z : m ≡ height (whole d) (toward (whole d) k p l r) p = omega (arith, height-step (whole d) b k x l r p) in
+      let other : sibling (whole d) t m p ≡ aside (whole d) k p l r = ap (λ y. sibling (whole d) t y p) z ∙ sibling-top (whole d) b k x l r p in
       rw other (by-cond (λ y. In (whole d) y t) (below (whole d) k p) r l (λ _. right here) (λ _. left here)))
-      (λ n. rw (sibling-down (whole d) b k x l r p 0 n) (by-cond (λ y. In (whole d) (sibling (whole d) y 0 p) y → In (whole d) (sibling (whole d) y 0 p) t) (below (whole d) k p) l r (λ _ i. left i) (λ _ i. right i) (ih n))))
+      (λ n. rw (sibling-down (whole d) b k x l r p m n) (by-cond (λ y. In (whole d) (sibling (whole d) y m p) y → In (whole d) (sibling (whole d) y m p) t) (below (whole d) k p) l r (λ _ i. left i) (λ _ i. right i) (ih n))))

@@ -61,7 +61,7 @@ module _ (d c : ℕ) (t : Tree (whole d)) (p : Reading) (N : List (List ℕ)) (C
     within = deep;
     small = gone-small;
     off-walk = omega (arith, once gone, fork-uses gone, is-same gone, upper-uses d c 1 p gone t deep);
-    in-old = in-sibling d p t deep;
+    in-old = in-sibling d 0 p t deep;
     in-new = here;
     no-other = λ j n e. (omega (arith, fork-uses j, is-other gone j (λ x. n (sym x))), e);
     once = once;
@@ -90,7 +90,7 @@ module _ (d c : ℕ) (t : Tree (whole d)) (p : Reading) (N : List (List ℕ)) (C
     pub gone-arrays : Arrays d c (massOver lighter (take k path) (relink (set N gone noRow) path k gone (id S c other))) (set C gone nought) (set K (ending S t p .index) 0) (some (replace S t 1 p other))
     gone-arrays = record {
       rows = weighed d c t other p 1 k path k-is _ linked (w .small) once (w .in-range) (w .filled) walked lighter once-new
-          (filled-total d c other (all-in S (λ i q n. 0 < n) (in-sibling d p t deep) (w .filled)))
+          (filled-total d c other (all-in S (λ i q n. 0 < n) (in-sibling d 0 p t deep) (w .filled)))
           (λ x m. omega (arith, sum-fork d (λ i q n. n) (λ b. 0) c p t deep));
       values = ap (set C gone) (sym (empty (cutOf d c) nought)) ∙ cuts-placed d c t other other p 1 gone spot C (w .arrays .values);
       counts = gone-counts;

@@ -30,7 +30,8 @@ use Rattle.nodestore.specs.Rows.{massAt}
 use Rattle.boxstore.specs.Boxed.{SomeBoxed}
 use Rattle.boxstore.specs.Grown.{GrownBy}
 use Rattle.boxstore.specs.Written.{lowIn, highIn}
-use Rattle.boxstore.proofs.Siblings.{sibling-is, At, some-sibling, grow-up}
+use Rattle.boxstore.specs.Above.{At}
+use Rattle.boxstore.proofs.Siblings.{sibling-is, some-sibling, grow-up}
 use Rattle.nodeview.specs.Report.{chance, rowAt}
 use Rattle.nodeview.specs.Told.{numbersOf}
 use Rattle.nodeview.specs.Walking.{Chanced}

@@ -25,12 +25,10 @@ use Rattle.layout.proofs.Trails.{path-node}
 use Rattle.walk.proofs.Ends.{walk-is}
 use Rattle.nodestore.specs.Rows.{massAt}
 use Rattle.nodestore.proofs.Grafts.{mass-at, id-low}
-use Rattle.boxstore.specs.Grown.{BoxOf}
 use Rattle.boxstore.specs.Written.{lowIn, highIn}
+use Rattle.boxstore.specs.Above.{At}
 use Rattle.boxstore.proofs.Ends.{row-ends}
-use Rattle.boxstore.proofs.Parts.{at-cached}
-use Rattle.boxstore.proofs.Siblings.{At}
-use Rattle.randomcuttree.proofs.Told.{boxed-in}
+use Rattle.boxstore.proofs.Above.{cached-box}
 use Rattle.nodeview.specs.Report.{chance, rowAt}
 use Rattle.nodeview.specs.Told.{numbersOf}
 use Rattle.nodeview.specs.Writing.{Writing}
@@ -82,10 +80,7 @@ module _ {d c k : ℕ} {nodes : List (List ℕ)} {copies : List ℕ} {points : L
         cached-low = mass-asks .0 (omega (arith, w .few))
 
         pub cached-at : (b : BoundingBox) → b .«min_values» ≡ lowIn boxes o → b .«max_values» ≡ highIn boxes o → At d c p t m b
-        cached-at b x y =
-            let r : BoxOf c k o nodes points boxes b = at-cached c k o nodes points boxes (omega (arith, w .few)) l .whole-box b x y in
-            let v = r d u (sym is-node) (boxed-in d c k nodes points boxes inside (w .boxed)) in
-            record { low = v .0; high = v .1 }
+        cached-at = cached-box p (w .boxed) m within o is-node (omega (arith, w .few)) l
 
       pub row-is : (x : ℕ) (y : Float) → x ≡ massAt c nodes copies o → y ≡ chance d c u p → o ∷ i ∷ x ∷ toBits binary64 y ∷ [] ≡ numbersOf (rowAt d c t p m)
       row-is x y g h =

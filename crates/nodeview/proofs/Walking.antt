@@ -26,14 +26,14 @@ use Rattle.walk.proofs.Paths.{Reaching, Turn, start, turn, arrived}
 use Rattle.boxstore.specs.Boxed.{Boxed}
 use Rattle.boxstore.specs.Written.{lowIn, highIn}
 use Rattle.boxstore.proofs.Parts.{at-cached}
-use Rattle.randomcuttree.proofs.Told.{boxed-in}
+use Rattle.boxstore.proofs.Standing.{boxed-in}
 use Rattle.nodeview.specs.Walking.{keptChance, Chanced, SomeWalking}
 
 -- the box kept for a node of a tree and the point are coordinates
 kept-readings : {d c k node : ℕ} {nodes : List (List ℕ)} {points : List (List Float)} {boxes : List (List (List Float))} {point : List Float} {u t : Tree (whole d)} (p : Reading) → node < c → node < k → node ≡ id (whole d) c u → In (whole d) u t → Boxed d c k nodes points boxes t → point ≡ p .row
     → Readings (lowIn boxes node) (highIn boxes node) point width
 kept-readings {d} {c} {k} {node} {nodes} {points} {boxes} {point} {u} p h l e i B q =
-    let v = at-cached c k node nodes points boxes h l .whole-box (record { «min_values» = lowIn boxes node; «max_values» = highIn boxes node }) refl refl d u (sym e) (boxed-in d c k nodes points boxes i B) in
+    let v = at-cached c k node nodes points boxes h l .whole-box (record { «min_values» = lowIn boxes node; «max_values» = highIn boxes node }) refl refl d u (sym e) (boxed-in d c i B) in
     rw (v .0, v .1, q) (are-readings (tree-box d u) p)
 
 module _ (c k : ℕ) (nodes : List (List ℕ)) (cuts : List Float) (boxes : List (List (List Float))) (point : List Float) (root : ℕ) where

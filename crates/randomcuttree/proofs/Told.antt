@@ -17,7 +17,6 @@ use Rattle.cuttree.specs.Tree.{Tree, branch}
 use Rattle.cuttree.specs.Sound.{Sound}
 use Rattle.cuttree.specs.Run.{World, lookIn, copiesFound, branchFound, boxFound}
 use Rattle.cuttree.proofs.Tests.{by-test}
-use Rattle.cuttree.proofs.Nodes.{In, here, left, right}
 use Rattle.wholetree.specs.Reading.{Reading}
 use Rattle.wholetree.specs.Whole.{whole, tab}
 use Rattle.layout.specs.Slots.{uses, slot, rowOf, cutOf}
@@ -27,8 +26,7 @@ use Rattle.layout.proofs.Tabs.{entry-of}
 use Rattle.layout.proofs.Slots.{Branch, branch-of, slot-in}
 use Rattle.boxstore.specs.Boxed.{Boxed, SomeBoxed}
 use Rattle.boxstore.specs.Grown.{BoxOf}
-use Rattle.boxstore.proofs.Parts.{left-boxed, right-boxed}
-use Rattle.boxstore.proofs.Standing.{once-in}
+use Rattle.boxstore.proofs.Standing.{once-in, boxed-in}
 use Rattle.treestore.specs.Arrays.{Lent}
 use Rattle.randomcuttree.specs.declared.RCFTree.{RCFTree}
 use Rattle.randomcuttree.specs.declared.BranchRow.{BranchRow}
@@ -166,12 +164,6 @@ branches-are-told tree nodes cuts x = by-test (leb branchLimit x)
     Told = BranchTold tree nodes cuts x
 
 -- ---- boxes
--- boxes that stand below a tree stand below each of its nodes
-pub boxed-in : (d c k : ℕ) (nodes : List (List ℕ)) (points : List (List Float)) (boxes : List (List (List Float))) {v t : Tree (whole d)} → In (whole d) v t → Boxed d c k nodes points boxes t → Boxed d c k nodes points boxes v
-boxed-in d c k nodes points boxes here B = B
-boxed-in d c k nodes points boxes (left i) B = boxed-in d c k nodes points boxes i (left-boxed d c k nodes points boxes B)
-boxed-in d c k nodes points boxes (right i) B = boxed-in d c k nodes points boxes i (right-boxed d c k nodes points boxes B)
-
 module _ (tree : RCFTree) (nodes : List (List ℕ)) (points : List (List Float)) (boxes : List (List (List Float))) (x : ℕ) where
   pub box-refused : (x < branchLimit → massRead nodes x ≡ 0) → BoxTold tree nodes points boxes x (noBox 16)
   box-refused h d c s W a marks S e = go (W .tree) (S .reachable .sound) (sym (e .nodes-are) ∙ nodes-are S)
@@ -204,7 +196,7 @@ module _ (tree : RCFTree) (nodes : List (List ℕ)) (points : List (List Float))
               node = (B .cut, B .lag, B .low, B .high);
               found = branch-found d c (W .table) t (W .free) H x B;
               singly = once-in d c (B .inside) (once d c (W .table) t (W .free) H);
-              boxed-there = boxed-in d c (cachedBy s c) nodes points boxes (B .inside) b;
+              boxed-there = boxed-in d c (B .inside) b;
             }
 
     pub some-boxed : SomeBoxRead tree nodes points boxes → (tree .capacity ≤ capacityLimit) × SomeBoxed (tree .capacity) (tree .cached) x nodes points boxes

@@ -2,7 +2,7 @@
 use native.Mathlib.Omega.{arith}
 use Rattle.limits.specs.Limits.{capacityLimit}
 use Rattle.boxstore.proofs.Depths.{deep}
-use Rattle.boxstore.proofs.Parts.{at-leaf, at-cached, box-numbers, in-table, Parts, parts, sides-given, sides-box}
+use Rattle.boxstore.proofs.Parts.{at-leaf, at-cached, in-table, Parts, parts, sides-given, sides-box}
 use Prim.Native.Nat.{ℕ, _<_}
 use borrow.Fn.Kinds.{In}
 use borrow.Fn.PlainCycle.{Measures, is, falls, and}
@@ -63,7 +63,7 @@ bounding-box-bounding-box-requires t c κs = let w = branch-at t (c .before .bef
 
 bounding-box-grow-node-box-requires : (t : ℕ) → bounding-box-lts.Need-grow-node-box-requires (calls t) (bounding-box-at t) bounding-box.Post
 bounding-box-grow-node-box-requires t c κs = let w = branch-at t (c .before .before .before .before .before) (c .before .before .before .before .if1 .left) in
-    (c .before .before .before .before .before .pre .1 .0, (rw (c .before .side-of2 .ensures) (w .right-some), box-numbers _ _ _ _ _ _ _ (w .left-some) (rw (c .before .before .side-of .ensures) at (c .bounding-box .ensures))))
+    (c .before .before .before .before .before .pre .1 .0, rw (c .before .side-of2 .ensures) (w .right-some))
 
 bounding-box-returns-3 : (t : ℕ) → bounding-box-lts.Need-returns-3 (calls t) (bounding-box-at t) bounding-box.Post
 bounding-box-returns-3 t c = let a = c .before .before .before .before .before .before .args in

@@ -1,6 +1,6 @@
 -- `reconstruct_box` meets its contract: the left side's box, grown by the right side. Assumes nothing.
 use borrow.Author.Needs.{needs}
-use Rattle.boxstore.proofs.Parts.{box-numbers, sides-given}
+use Rattle.boxstore.proofs.Parts.{sides-given}
 use Rattle.boxstore.proofs.reconstruct_box.Statement.{statement}
 use Rattle.boxstore.proofs.reconstruct_box.Tie as tie
 
@@ -16,7 +16,7 @@ bounding-box-requires c κs = rw (c .before .side-of .ensures) (c .before .befor
 grow-node-box-requires : tie.Need-grow-node-box-requires
 grow-node-box-requires c κs =
     let p = c .before .before .before .pre in
-    (p .0, (rw (c .before .side-of2 .ensures) (p .1 .right-some), box-numbers _ _ _ _ _ _ _ (p .1 .left-some) (rw (c .before .before .side-of .ensures) at (c .bounding-box .ensures))))
+    (p .0, rw (c .before .side-of2 .ensures) (p .1 .right-some))
 
 returns : tie.Need-returns
 returns c =

@@ -5,7 +5,7 @@ use mathlib.Core.Logic.{⊎-elim}
 use Prim.Native.Nat.{_-_}
 use lib.Ieee.{ofBits}
 use Rattle.readings.specs.Number.{zero}
-use Rattle.drawing.proofs.Going.{Going, going-starts, going-readings, going-numbers, kept-held, kept-last, some-side, going-on}
+use Rattle.drawing.proofs.Going.{Going, going-starts, going-readings, some-rising, kept-held, kept-last, going-on}
 use borrow.Author.Needs.{needs}
 use Rattle.drawing.proofs.highest_cut.Statement.{statement}
 use Rattle.drawing.proofs.highest_cut.Tie as tie
@@ -56,26 +56,22 @@ returns c = kept-held _ _ _ _ _ _ _ _ _ _ _ _ _ (c .before .before .before .befo
 enum-known-drawn : tie.Need-enum-known-drawn Inv-loop μ-loop
 enum-known-drawn c = search needs
 
-sibling-at-requires : tie.Need-sibling-at-requires Inv-loop μ-loop
-sibling-at-requires c κs = (omega arith, c .before .before .before .before .before .before .before .before .before .before .before .before .pre .1 .drawing .most)
-
-grow-node-box-requires : tie.Need-grow-node-box-requires Inv-loop μ-loop
-grow-node-box-requires c κs =
-    let p = c .before .before .before .before .before .before .before .before .before .before .before .before .before .pre in
-    let g = c .before .before .before .before .before .before .before .before .loop .inv in
-    (p .0, (some-side _ _ _ _ _ _ _ _ _ _ _ _ _ g (p .1) (c .before .before .before .before .before .before .before .loop-test .taken) _ (c .sibling-at .ensures), going-numbers _ _ _ _ _ _ _ _ _ _ _ _ _ g (p .1)))
+box-above-requires : tie.Need-box-above-requires Inv-loop μ-loop
+box-above-requires c κs =
+    let p = c .before .before .before .before .before .before .before .before .before .before .before .before .pre in
+    ((p .0, p .1 .drawing .most, c .before .before .before .before .before .before .loop-test .taken), some-rising _ _ _ _ _ _ _ _ _ _ _ _ _ (c .before .before .before .before .before .before .before .loop .inv) (p .1))
 
 add-m : tie.Need-add-m Inv-loop μ-loop
-add-m c = omega (arith, c .before .before .before .before .before .before .before .before .loop-test .taken, c .before .before .before .before .before .before .before .before .before .before .before .before .before .before .pre .1 .drawing .most)
+add-m c = omega (arith, c .before .before .before .before .before .before .before .loop-test .taken, c .before .before .before .before .before .before .before .before .before .before .before .before .before .pre .1 .drawing .most)
 
 loop-less : tie.Need-loop-less Inv-loop μ-loop
-loop-less c = omega (arith, c .before .before .before .before .before .before .before .before .loop-test .taken)
+loop-less c = omega (arith, c .before .before .before .before .before .before .before .loop-test .taken)
 
 loop-again : tie.Need-loop-again Inv-loop μ-loop
 loop-again c =
-    going-on _ _ _ _ _ _ _ _ _ _ _ _ _ (c .before .before .before .before .before .before .before .before .before .loop .inv) (omega (arith, c .before .before .before .before .before .before .before .shared-slice-known2 .given (c .before .before .before .before .before .before .before .before .before .loop .m))) _ (c .before .before .before .before .before .before .whole-cut-and-separation .ensures)
-    _ _ (c .before .before .before .before .drawn .given .1) _ (⊎-elim (λ w. rw (w .0 .taken) (w .1)) (λ w. rw (w .0 .left) (w .1)) (c .before .before .if1 .came))
-    (c .before .before .before .before .before .before .before .before .loop-test .taken) _ (c .before .sibling-at .ensures) _ (c .grow-node-box .ensures)
+    going-on _ _ _ _ _ _ _ _ _ _ _ _ _ (c .before .before .before .before .before .before .before .before .loop .inv) (omega (arith, c .before .before .before .before .before .before .shared-slice-known2 .given (c .before .before .before .before .before .before .before .before .loop .m))) _ (c .before .before .before .before .before .whole-cut-and-separation .ensures)
+    _ _ (c .before .before .before .drawn .given .1) _ (⊎-elim (λ w. rw (w .0 .taken) (w .1)) (λ w. rw (w .0 .left) (w .1)) (c .before .if1 .came))
+    (c .before .before .before .before .before .before .before .loop-test .taken) _ (c .box-above .ensures)
 
 mul-whole-cut-and-separation-2 : tie.Need-mul-whole-cut-and-separation-2 Inv-loop μ-loop
 mul-whole-cut-and-separation-2 c = search needs
@@ -124,8 +120,7 @@ highest-cut-spec =
     enum-told
     returns
     enum-known-drawn
-    sibling-at-requires
-    grow-node-box-requires
+    box-above-requires
     add-m
     loop-less
     loop-again
