@@ -30,6 +30,8 @@ pub fn tell_put(answer: PutAnswer, reply: &mut Reply)
     }
 }
 
+// The same of an add: the leaf's point index, then the words taken.
+// Rules out the words before the index, and a number remaining in the reply from the call before.
 pub fn tell_add(answer: AddAnswer, reply: &mut Reply)
     ensures { λ _. ⌜ now (reply .exit) ≡ filled replyWidth (addNumbers answer) ⌝ }
 {
@@ -45,6 +47,8 @@ pub fn tell_add(answer: AddAnswer, reply: &mut Reply)
     }
 }
 
+// Of a delete: the leaf's point index.
+// Rules out the refusal's number in the index's place, and the index where the refusal's number stands.
 pub fn tell_delete(answer: DeleteAnswer, reply: &mut Reply)
     ensures { λ _. ⌜ now (reply .exit) ≡ filled replyWidth (deleteNumbers answer) ⌝ }
 {
@@ -59,6 +63,8 @@ pub fn tell_delete(answer: DeleteAnswer, reply: &mut Reply)
     }
 }
 
+// Of a query for copies.
+// Rules out the copies where the refusal's number stands, and 0 copies for an id of no leaf.
 pub fn tell_copies(answer: CopiesAnswer, reply: &mut Reply)
     ensures { λ _. ⌜ now (reply .exit) ≡ filled replyWidth (copiesNumbers answer) ⌝ }
 {
@@ -73,6 +79,8 @@ pub fn tell_copies(answer: CopiesAnswer, reply: &mut Reply)
     }
 }
 
+// Of a query for a branch: the cut's channel, its value as bits, the sides and the mass.
+// Rules out the sides swapped, and a cut's value as a whole number in place of its bits.
 pub fn tell_branch(answer: BranchAnswer, reply: &mut Reply)
     ensures { λ _. ⌜ now (reply .exit) ≡ filled replyWidth (branchNumbers answer) ⌝ }
 {

@@ -145,18 +145,23 @@ pub fn rise(a: f32, b: f32) -> f32
 }
 
 // The same as an f64.
+// Rules out the difference taken in f64, which in f32 may be rounded, and a negative one.
 pub fn gap(a: f32, b: f32) -> f64
     ensures { λ r. ⌜ r ≡ gapOf a b ⌝ }
 {
     rise(a, b) as f64
 }
 
+// The lower of two.
+// Rules out the greater, and the first whichever is lower.
 pub fn least_of(x: f32, y: f32) -> f32
     ensures { λ r. ⌜ r ≡ least x y ⌝ }
 {
     if x < y { x } else { y }
 }
 
+// The greater of two.
+// Rules out the lower, and the second whichever is greater.
 pub fn greatest_of(x: f32, y: f32) -> f32
     ensures { λ r. ⌜ r ≡ greatest x y ⌝ }
 {

@@ -4,7 +4,7 @@ ghost use mathlib.Core.Bool.{_&&_};
 ghost use Prim.Native.Nat.{_<_, min};
 ghost use lib.Dec.{leb};
 
-// Rules out the lower bits alone, and any bound that a number of the narrower type breaks.
+// Each to `usize`. Each of these rules out the lower bits alone, and any bound that a number of the narrower type breaks.
 pub fn wide8(x: u8) -> usize
     ensures { λ r. ⌜ (r ≡ x) × (x < 256) ⌝ }
 {
@@ -29,7 +29,7 @@ pub fn wide64(x: u64) -> usize
     x as usize
 }
 
-// To the next wider type, not to `usize`.
+// To the next wider type, not to `usize`. Each rules out the same.
 pub fn u16_of_u8(x: u8) -> u16
     ensures { λ r. ⌜ (r ≡ x) × (x < 256) ⌝ }
 {

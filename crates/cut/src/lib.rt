@@ -144,6 +144,7 @@ fn separates(x: f32, low: f32, high: f32, cut: f32) -> bool
 
 impl Cut {
     // The cut that the word draws for the box and the point, and whether it parts them; no cut where the box holds the point.
+    // Rules out a cut drawn for a box that holds the point, and the first side taken where only a later one reaches the range.
     pub fn random_cut_and_separation(
         bounding_box: BoundingBox,
         word: u64,

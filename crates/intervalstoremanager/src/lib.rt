@@ -59,7 +59,7 @@ fn put(rows: &mut Free, k: usize, start: u16, end: u16)
 impl IntervalStoreManager {
     // The manager of the numbers 0 to size − 1, all free, and every row but theirs cleared. The Rust underflows at size 0; here no
     // number is free then.
-    // Ruled out: numbers that end at `size`; rows above the first left as they were lent.
+    // Rules out numbers that end at `size`, and rows above the first left as they were lent.
     pub fn new(size: u16, rows: &mut Free) -> Self
         ensures { λ r. ⌜ r ≡ record { capacity = size; «last_in_use» = length (fresh size) } ⌝ ∗ ⌜ now (rows .exit) ≡ layout (fresh size) ⌝ }
     {
@@ -77,14 +77,14 @@ impl IntervalStoreManager {
         }
     }
 
-    // Ruled out: the rows in use for the capacity; a number of its own choosing.
+    // Rules out the rows in use for the capacity, and a number of its own choosing.
     pub fn get_capacity(self) -> u16
         ensures { λ r. ⌜ r ≡ self .capacity ⌝ }
     {
         self.capacity
     }
 
-    // Ruled out: the test turned round; true while one interval is left.
+    // Rules out the test turned round, and true while one interval is left.
     pub fn is_empty(self) -> bool
         ensures { λ r. ⌜ r ≡ eqb (self .«last_in_use») 0 ⌝ }
     {
@@ -93,7 +93,7 @@ impl IntervalStoreManager {
 
     // The start of the top interval is handed out. The test is "below" where the Rust's is "not the same", so that one more than the
     // start fits in whatever rows are lent. On the rows of a stack this is `GetOnStack`, in specs/Rows.antt.
-    // Ruled out: handing out the end; leaving the row of a spent interval uncleared.
+    // Rules out the end handed out, and the row of a spent interval left uncleared.
     pub fn get(self, rows: &mut Free) -> Got
         ensures { λ r. ⌜ r ≡ gotOf self (now (rows .entry)) ⌝ ∗ ⌜ now (rows .exit) ≡ rowsGot self (now (rows .entry)) ⌝ }
     {
@@ -136,7 +136,7 @@ impl IntervalStoreManager {
 
     // The number joins the top interval at either end, else becomes a new top. On the rows of a stack this is `ReleaseOnStack`, and
     // `NeverFull` says when it is not refused, both in specs/Rows.antt.
-    // Ruled out: joining an interval below the top; a new top for a number that touches it.
+    // Rules out an interval below the top joined, and a new top for a number that touches it.
     pub fn release(self, rows: &mut Free, index: u16) -> Released
         ensures { λ r. ⌜ r ≡ releasedOf self (now (rows .entry)) index ⌝ ∗ ⌜ now (rows .exit) ≡ rowsReleased self (now (rows .entry)) index ⌝ }
     {

@@ -14,6 +14,7 @@ ghost use Rattle.boundingbox.specs.Ends.{least, greatest, joined};
 ghost use Rattle.boundingbox.specs.Sides.{rangeSum};
 ghost use Rattle.boundingbox.specs.Contained.{contains, strictlyContains};
 
+// Rules out a half taken, and −0.0.
 #[no_mangle]
 pub extern "C" fn sicklephlox_is_coordinate(x: f32) -> bool
     ensures { λ r. ⌜ r ≡ isCoordinate x ⌝ }
@@ -21,6 +22,7 @@ pub extern "C" fn sicklephlox_is_coordinate(x: f32) -> bool
     readings::is_coordinate(x)
 }
 
+// Rules out an infinity taken, and −0.0.
 #[no_mangle]
 pub extern "C" fn sicklephlox_is_weight(x: f32) -> bool
     ensures { λ r. ⌜ r ≡ isWeight x ⌝ }
@@ -28,6 +30,7 @@ pub extern "C" fn sicklephlox_is_weight(x: f32) -> bool
     readings::is_weight(x)
 }
 
+// Rules out a share of 1 refused, and NaN taken.
 #[no_mangle]
 pub extern "C" fn sicklephlox_is_share(x: f64) -> bool
     ensures { λ r. ⌜ r ≡ isShare x ⌝ }
@@ -35,6 +38,7 @@ pub extern "C" fn sicklephlox_is_share(x: f64) -> bool
     readings::is_share(x)
 }
 
+// Rules out the lower bits of the word, and a factor of 1.
 #[no_mangle]
 pub extern "C" fn sicklephlox_factor(w: u64) -> f64
     ensures { λ r. ⌜ r ≡ factorOf w ⌝ }
@@ -42,6 +46,7 @@ pub extern "C" fn sicklephlox_factor(w: u64) -> f64
     readings::factor(w)
 }
 
+// Rules out a tie that goes up whatever is next to it, and digits cut off.
 #[no_mangle]
 pub extern "C" fn sicklephlox_narrow(x: f64) -> f32
     ensures { λ r. ⌜ r ≡ narrowed x ⌝ }
@@ -49,6 +54,7 @@ pub extern "C" fn sicklephlox_narrow(x: f64) -> f32
     readings::narrow(x)
 }
 
+// Rules out the product's nearest number, and the capacity less 1 in the capacity's place.
 #[no_mangle]
 pub extern "C" fn sicklephlox_cached_part(share: f64, capacity: u16) -> usize
     ensures { λ r. ⌜ r ≡ cachedPart share capacity ⌝ }
@@ -57,6 +63,7 @@ pub extern "C" fn sicklephlox_cached_part(share: f64, capacity: u16) -> usize
 }
 
 // Writes the ends of the smallest box around two points.
+// Rules out the ends of one point for both, and the lower ends written as the upper.
 #[no_mangle]
 pub extern "C" fn sicklephlox_box_around(
     lower: &mut Row,
@@ -75,6 +82,7 @@ pub extern "C" fn sicklephlox_box_around(
 }
 
 // Grows a box by a point, and gives whether it held the point.
+// Rules out whether the grown box holds the point, which it always does, and ends left as they were.
 #[no_mangle]
 pub extern "C" fn sicklephlox_add_point(lower: &mut Row, upper: &mut Row, values: &Row) -> bool
     ensures lower { λ _. ⌜ now (lower .exit) ≡ joined least (now (lower .entry)) (now (values .entry)) ⌝ }
@@ -95,6 +103,7 @@ pub extern "C" fn sicklephlox_add_point(lower: &mut Row, upper: &mut Row, values
 }
 
 // Grows a box by another, and gives whether it held the other.
+// Rules out growth by the other's lower ends alone, and whether the other held this one.
 #[no_mangle]
 pub extern "C" fn sicklephlox_add_box(
     lower: &mut Row,
@@ -123,6 +132,8 @@ pub extern "C" fn sicklephlox_add_box(
     grown.contained
 }
 
+// Whether a box holds a point.
+// Rules out a point on a face refused, and one channel alone looked at.
 #[no_mangle]
 pub extern "C" fn sicklephlox_contains(lower: &Row, upper: &Row, point: &Row) -> bool
     ensures { λ r. ⌜ r ≡ contains (now (lower .entry)) (now (upper .entry)) (now (point .entry)) (now (point .entry)) width ⌝ }
@@ -134,6 +145,8 @@ pub extern "C" fn sicklephlox_contains(lower: &Row, upper: &Row, point: &Row) ->
     bounding_box.contains(point)
 }
 
+// Whether a box holds a point strictly inside, in the first channels.
+// Rules out a point on a face taken, and the channels beyond those asked for looked at.
 #[no_mangle]
 pub extern "C" fn sicklephlox_strictly_contains(
     lower: &Row,
@@ -150,6 +163,8 @@ pub extern "C" fn sicklephlox_strictly_contains(
     bounding_box.strictly_contains(point, dimensions)
 }
 
+// The sum of a box's sides, in channel order.
+// Rules out sums in f32, which round, and a side taken twice.
 #[no_mangle]
 pub extern "C" fn sicklephlox_range_sum(lower: &Row, upper: &Row) -> f64
     ensures { λ r. ⌜ r ≡ rangeSum (now (lower .entry)) (now (upper .entry)) width ⌝ }

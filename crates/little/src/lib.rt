@@ -25,7 +25,7 @@ const NOT_A_NUMBER: u32 = 2143289344;
 const NOT_A_NUMBER64: u64 = 9221120237041090560;
 
 // The number in two bytes, from `at` on, the lowest byte first; and so in four and in eight.
-// Wrong here: the highest byte first; halves that overlap.
+// Each rules out the highest byte first, and halves that overlap.
 pub fn u16_at(bytes: &[u8], at: usize) -> u16
     requires { ⌜ at + 2 ≤ length (now bytes) ⌝ }
     ensures { λ r. ⌜ r ≡ little16 (now (bytes .entry)) at ⌝ }
@@ -48,7 +48,7 @@ pub fn u64_at(bytes: &[u8], at: usize) -> u64
 }
 
 // The f32 of any pattern. `from_bits` is not defined at those of NaN, which stand above infinity's.
-// Wrong here: NaN for every pattern above infinity's, which those with the sign are too.
+// Rules out NaN for every pattern above infinity's, which those with the sign are too, and 0 for one of NaN's.
 pub fn float_of(bits: u32) -> f32
     ensures { λ r. ⌜ r ≡ ofBits binary32 bits ⌝ }
 {
@@ -59,7 +59,7 @@ pub fn float_of(bits: u32) -> f32
 }
 
 // The pattern of any f32. `to_bits` is not defined at NaN.
-// Wrong here: 0 for NaN, which is a number's.
+// Rules out 0 for NaN, which is a number's, and the sign of −0.0 lost.
 pub fn pattern_of(x: f32) -> u32
     ensures { λ r. ⌜ r ≡ toBits binary32 x ⌝ }
 {
@@ -70,7 +70,7 @@ pub fn pattern_of(x: f32) -> u32
 }
 
 // The f64 of any pattern.
-// Wrong here: NaN for every pattern above infinity's, which those with the sign are too.
+// Rules out NaN for every pattern above infinity's, which those with the sign are too, and 0 for one of NaN's.
 pub fn double_of(bits: u64) -> f64
     ensures { λ r. ⌜ r ≡ ofBits binary64 bits ⌝ }
 {
@@ -81,7 +81,7 @@ pub fn double_of(bits: u64) -> f64
 }
 
 // The pattern of any f64.
-// Wrong here: 0 for NaN, which is a number's.
+// Rules out 0 for NaN, which is a number's, and the sign of −0.0 lost.
 pub fn pattern_of_double(x: f64) -> u64
     ensures { λ r. ⌜ r ≡ toBits binary64 x ⌝ }
 {
@@ -100,7 +100,7 @@ fn put_byte(bytes: &mut [u8], at: usize, x: usize)
 }
 
 // Writes the lowest 32 bits of a number to four bytes, from `at` on.
-// Wrong here: the highest byte first; a byte written beyond the four.
+// Rules out the highest byte first, and a byte written beyond the four.
 pub fn put_u32(bytes: &mut [u8], at: usize, x: usize)
     requires { ⌜ at + 4 ≤ length (now bytes) ⌝ }
     ensures { λ _. ⌜ now (bytes .exit) ≡ sets (now (bytes .entry)) at (bytes32 x) ⌝ }

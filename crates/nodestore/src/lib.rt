@@ -166,6 +166,7 @@ fn one_less(copies: &mut Copies, index: usize)
 }
 
 // One copy more of the leaf that the path ends in.
+// Rules out masses above that stay as they were, and a copy of the leaf beside it.
 pub fn add_copy(nodes: &mut Nodes, copies: &mut Copies, path: &Path, n: usize, index: usize)
     requires { ⌜ SomeReached (now nodes) (now copies) (now path) n index (totalLimit - 1) ⌝ }
     ensures { λ _. ⌜ ((d c : ℕ) (cuts : List Float) (t : Tree (whole d)) (p : Reading) → Reached d c (now (nodes .entry)) cuts (now (copies .entry)) (now (path .entry)) n index t p
@@ -176,6 +177,7 @@ pub fn add_copy(nodes: &mut Nodes, copies: &mut Copies, path: &Path, n: usize, i
 }
 
 // One copy less of that leaf, where copies are left.
+// Rules out masses above that still count the copy, and the branch above freed while a copy is left.
 pub fn drop_copy(nodes: &mut Nodes, copies: &mut Copies, path: &Path, n: usize, index: usize)
     requires { ⌜ SomeReached (now nodes) (now copies) (now path) n index totalLimit ⌝ }
     requires { ⌜ 2 ≤ getD (now copies) index 0 ⌝ }
@@ -187,6 +189,7 @@ pub fn drop_copy(nodes: &mut Nodes, copies: &mut Copies, path: &Path, n: usize, 
 }
 
 // The first leaf of an empty tree.
+// Rules out a copy added to those of before, and one of another index.
 pub fn add_root(copies: &mut Copies, index: usize)
     requires { ⌜ index < pointLimit ⌝ }
     ensures put { λ _. ⌜ now (copies .exit) ≡ set (now (copies .entry)) index 1 ⌝ }
@@ -197,6 +200,7 @@ pub fn add_root(copies: &mut Copies, index: usize)
 }
 
 // The last copy of a lone leaf.
+// Rules out a copy left, and the other leaves' copies cleared.
 pub fn remove_root(copies: &mut Copies, index: usize)
     requires { ⌜ index < pointLimit ⌝ }
     requires { ⌜ getD (now copies) index 0 ≡ 1 ⌝ }
@@ -208,6 +212,7 @@ pub fn remove_root(copies: &mut Copies, index: usize)
 }
 
 // The last copy of a leaf below a branch: the sibling takes the branch's place. The number of that branch, which is free again.
+// Rules out the leaf's parent left in its place, and another branch's number answered.
 pub fn remove_leaf(
     nodes: &mut Nodes,
     cuts: &mut Cuts,
@@ -240,6 +245,7 @@ fn root_of(root: u16, k: usize, new: u16) -> u16
 }
 
 // The id of the root after that: the sibling's where the branch was the root.
+// Rules out the branch that is gone, and the sibling's id where the branch was below another.
 pub fn lifted_root(root: u16, path: &Path, n: usize) -> u16
     requires { ⌜ 2 ≤ n ⌝ }
     requires { ⌜ n ≤ capacityLimit ⌝ }
@@ -296,6 +302,7 @@ fn row_for(left: bool, new: u16, old: u16, mass: u16, dimension: usize) -> [u16;
 }
 
 // A new value: its leaf, and the branch b above the node below the first k of the path, with the cut given.
+// Rules out the new leaf on the other side of the cut, and masses above that do not count it.
 pub fn place_branch(
     nodes: &mut Nodes,
     cuts: &mut Cuts,
@@ -320,6 +327,7 @@ pub fn place_branch(
 }
 
 // The id of the root after that: the new branch's where nothing is above it.
+// Rules out the old root's id where the new branch is above it, and the new branch's where it is below.
 pub fn placed_root(root: u16, k: usize, b: u16) -> u16
     ensures is { λ r. ⌜ r ≡ cond (eqb k 0) b root ⌝ }
     ensures root { λ r. ⌜ ((d c : ℕ) (nodes : List (List ℕ)) (cuts : List Float) (copies : List ℕ) (path : List (List ℕ)) (index : ℕ) (cut : Cut) (left : Bool) (n : ℕ) (t : Tree (whole d)) (p : Reading) (h : ℕ) (x : CutOf (whole d))

@@ -26,7 +26,7 @@ const SIGN_64: u64 = 9223372036854775808;
 const LEAD_64: u64 = 4503599627370496;
 
 // Whether x is a coordinate: a whole number from -2^20 to 2^20, and not -0.
-// Wrong here: 0.5 taken, as its digits end in zeros too; 2^20 refused.
+// Rules out 0.5 taken, as its digits end in zeros too, and 2^20 refused.
 pub fn is_coordinate(x: f32) -> bool
     ensures { λ r. ⌜ r ≡ isCoordinate x ⌝ }
 {
@@ -49,7 +49,7 @@ pub fn is_coordinate(x: f32) -> bool
 }
 
 // Whether x is a weight: finite, and not -0.
-// Wrong here: -0 taken, as 0 is; an infinity taken, as it equals itself.
+// Rules out −0 taken, as 0 is, and an infinity taken, as it equals itself.
 pub fn is_weight(x: f32) -> bool
     ensures { λ r. ⌜ r ≡ isWeight x ⌝ }
 {
@@ -64,7 +64,7 @@ pub fn is_weight(x: f32) -> bool
 }
 
 // Whether x is a share: from 0 to 1. A NaN passes no comparison, and -0 is 0.
-// Wrong here: 1 refused; a test for what is outside, which a NaN passes.
+// Rules out 1 refused, and a test for what is outside, which a NaN passes.
 pub fn is_share(x: f64) -> bool
     ensures { λ r. ⌜ r ≡ isShare x ⌝ }
 {
@@ -75,7 +75,7 @@ pub fn is_share(x: f64) -> bool
 }
 
 // The factor of a random word: its upper 53 bits, times 2^-53. Nothing is rounded.
-// Wrong here: the lower 53 bits; the word times 2^-64, which rounds up to 1.
+// Rules out the lower 53 bits, and the word times 2^-64, which rounds up to 1.
 pub fn factor(w: u64) -> f64
     ensures { λ r. ⌜ r ≡ factorOf w ⌝ }
 {
@@ -125,7 +125,7 @@ fn narrow_size(bits: u64) -> f32
 }
 
 // x to the nearest f32, a tie to the even one: the Rust's `as f32`.
-// Wrong here: a tie always up; digits cut off, which is never above x.
+// Rules out a tie always up, and digits cut off, which is never above x.
 pub fn narrow(x: f64) -> f32
     ensures { λ r. ⌜ r ≡ narrowed x ⌝ }
 {
@@ -141,7 +141,7 @@ pub fn narrow(x: f64) -> f32
 
 // How many of `capacity` branches are cached at a share: the whole part of the product, rounded once as an f64.
 // For a number that is no share too: 0 where the product is below 0 or a NaN, and 2^64 - 1 where it is no less than 2^64.
-// Wrong here: the product rounded to the nearest number, or up; 1/49 of 49 worked out as 1, which the rounded product does not reach.
+// Rules out the product rounded to the nearest number, or up, and 1/49 of 49 worked out as 1, which the rounded product does not reach.
 pub fn cached_part(share: f64, capacity: u16) -> usize
     ensures { λ r. ⌜ r ≡ cachedPart share capacity ⌝ }
 {

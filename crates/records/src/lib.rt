@@ -115,7 +115,7 @@ fn is_head(head: Record) -> bool
 
 // Reads a record, what is given and what was recorded to the start of two buffers; or tells why there is none. Which bytes come is free; of a record that
 // is read whole, the bytes beyond what is given and what was recorded stay as they were. Where there is none, so is what stands in the buffers.
-// Wrong here: a kind or a length taken that has no room.
+// Rules out a kind taken that there is not, and a length that has no room.
 pub fn read(number: usize, given: &mut [u8; ROOM], expected: &mut [u8; ROOM]) -> Record
     ensures whole { λ r. ⌜ (r .whole ≡ true → Read r (now (given .entry)) (now (given .exit)) (now (expected .entry)) (now (expected .exit))) ⌝ }
     ensures none { λ r. ⌜ (r .whole ≡ false → r ≡ noRecord (r .why)) ⌝ }
@@ -138,7 +138,7 @@ pub fn read(number: usize, given: &mut [u8; ROOM], expected: &mut [u8; ROOM]) ->
 }
 
 // How many bytes at the start of both are the same.
-// Wrong here: the bytes that are the same anywhere; an end of the shorter taken for a difference in it.
+// Rules out the bytes that are the same anywhere, and an end of the shorter taken for a difference in it.
 fn agreeing_bytes(x: &[u8], y: &[u8]) -> usize
     ensures { λ r. ⌜ r ≡ agreeing (now (x .entry)) (now (y .entry)) ⌝ }
 {
@@ -156,7 +156,7 @@ fn agreeing_bytes(x: &[u8], y: &[u8]) -> usize
 }
 
 // Whether the port returned the same number, and every byte lent is the same, those beyond the answer too.
-// Wrong here: only the bytes of the answer looked at.
+// Rules out the bytes of the answer alone looked at, and its length alone.
 fn agrees(returned: usize, got: usize, same: usize) -> bool
     ensures { λ r. ⌜ r ≡ eqb returned got && eqb same room ⌝ }
 {
@@ -164,7 +164,7 @@ fn agrees(returned: usize, got: usize, same: usize) -> bool
 }
 
 // One record more is compared, and counted as one that agrees only if it does. No input has so many records that a count starts again at 0.
-// Wrong here: a difference counted as agreement.
+// Rules out a difference counted as agreement, and one that is not counted as compared.
 fn count(counts: [usize; 2], same: bool) -> [usize; 2]
     ensures { λ r. ⌜ r ≡ counted counts same ⌝ }
 {
@@ -184,7 +184,7 @@ fn tally(counts: &mut Counts, kind: usize, same: bool)
 }
 
 // Holds what the port returned and wrote to what was recorded, and counts it.
-// Wrong here: a record counted under another kind.
+// Rules out a record counted under another kind, and one counted twice.
 pub fn judge(
     head: Record,
     got: usize,

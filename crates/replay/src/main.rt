@@ -24,7 +24,7 @@ struct State {
 }
 
 // What the port answers to what is given by a record of a kind.
-// Wrong here: one kind's answer for another's.
+// Rules out one kind's answer for another's, and an answer of none.
 fn answer(kind: usize, given: &[u8], out: &mut [u8]) -> usize
     requires { ⌜ length (now given) ≤ room ⌝ }
     ensures { λ r. ⌜ (r, now (out .exit)) ≡ answered kind (now (given .entry)) (now (out .entry)) ⌝ }

@@ -15,6 +15,7 @@ pub enum Checked {
 }
 
 // How many whole numbers a run has.
+// Rules out the number of bytes, and a number begun and not ended counted.
 pub fn size_of(run: &[u8]) -> usize
     ensures { λ r. ⌜ r ≡ size (now (run .entry)) ⌝ }
 {
@@ -22,6 +23,7 @@ pub fn size_of(run: &[u8]) -> usize
 }
 
 // The number at a place, as 32 bits.
+// Rules out a place counted in bytes, and the highest byte first.
 pub fn bits_at(run: &[u8], p: usize) -> u32
     requires { ⌜ p < size (now run) ⌝ }
     ensures { λ r. ⌜ r ≡ number (now (run .entry)) p ⌝ }
@@ -30,6 +32,7 @@ pub fn bits_at(run: &[u8], p: usize) -> u32
 }
 
 // The number at a place.
+// Rules out the same, and a number above 32 bits.
 pub fn number_at(run: &[u8], p: usize) -> usize
     requires { ⌜ p < size (now run) ⌝ }
     ensures { λ r. ⌜ (r ≡ number (now (run .entry)) p) × (r < 4294967296) ⌝ }
@@ -38,6 +41,7 @@ pub fn number_at(run: &[u8], p: usize) -> usize
 }
 
 // The number of 64 bits at a place.
+// Rules out the second number as the lower half, and a place counted in eights.
 pub fn double_at(run: &[u8], p: usize) -> u64
     requires { ⌜ p + 1 < size (now run) ⌝ }
     ensures { λ r. ⌜ r ≡ double (now (run .entry)) p ⌝ }
@@ -55,6 +59,7 @@ pub fn is_sampled(run: &[u8]) -> bool
 }
 
 // How many numbers the making has.
+// Rules out a bare tree's width for a sampled one, and a width in bytes.
 pub fn making_width(run: &[u8]) -> usize
     requires { ⌜ 0 < size (now run) ⌝ }
     ensures { λ r. ⌜ (r ≡ makingWidth (now (run .entry))) × (5 ≤ r) ⌝ }
@@ -118,6 +123,7 @@ fn call_width(kind: usize, third: usize, sixth: usize) -> usize
 }
 
 // How many numbers the call at a place has.
+// Rules out an arrival's words counted by its third number, and a width of 0, at which a run would never end.
 pub fn width_at(run: &[u8], p: usize) -> usize
     requires { ⌜ (p < size (now run)) × (length (now run) ≡ 4 * size (now run)) ⌝ }
     ensures { λ r. ⌜ (r ≡ widthAt (now (run .entry)) p) × (1 ≤ r) × (r < 8589934600) ⌝ }

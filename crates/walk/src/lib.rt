@@ -76,6 +76,7 @@ pub fn begin(path: &mut Path, root: u16)
 }
 
 // The nodes from the root to the leaf, each with its sibling; the root has none. The rows after the walk's stay as they are.
+// Rules out a walk that ends one node early, and rows after the walk's cleared.
 pub fn set_path(
     nodes: &Nodes,
     cuts: &Cuts,
@@ -102,6 +103,7 @@ pub fn set_path(
 }
 
 // The id of a node of the path.
+// Rules out the sibling in its place, and the node of another row.
 pub fn node_at(path: &Path, i: usize) -> u16
     requires { ⌜ i < capacityLimit ⌝ }
     ensures { λ r. ⌜ r ≡ field (now (path .entry)) i 0 ⌝ }
@@ -110,6 +112,7 @@ pub fn node_at(path: &Path, i: usize) -> u16
 }
 
 // The id of its sibling.
+// Rules out the node itself, and the sibling of another row.
 pub fn sibling_at(path: &Path, i: usize) -> u16
     requires { ⌜ i < capacityLimit ⌝ }
     ensures { λ r. ⌜ r ≡ field (now (path .entry)) i 1 ⌝ }
@@ -118,6 +121,7 @@ pub fn sibling_at(path: &Path, i: usize) -> u16
 }
 
 // The point index of the leaf that the path ends in.
+// Rules out the leaf's id in place of its point index, and the index of the node above.
 pub fn leaf_at(path: &Path, n: usize, capacity: u16) -> usize
     requires { ⌜ SomeWalked capacity (now path) n ⌝ }
     ensures { λ r. ⌜ ((d : ℕ) (t : Tree (whole d)) (p : Reading) → Walked d capacity (now (path .entry)) n t p → r ≡ ending (whole d) t p .index) ⌝ }
@@ -126,6 +130,7 @@ pub fn leaf_at(path: &Path, n: usize, capacity: u16) -> usize
 }
 
 // Equal coordinates in every channel.
+// Rules out one equal channel that is enough, and channels beyond the tree's left out.
 pub fn same_point(a: &Row, b: &Row) -> bool
     ensures { λ r. ⌜ r ≡ sameRow (now (a .entry)) (now (b .entry)) ⌝ }
 {
