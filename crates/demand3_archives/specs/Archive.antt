@@ -73,7 +73,7 @@ pub record RowsAnswered (d c : ℕ) (s f : Float) (rows : List ArchiveRow) : Typ
   pub end-is : endLines d (rowsLeave d (fresh (whole d) c f) rows) ≡ sampleNames ++ entryLines entries ++ (namesLine ++ listing)
 
 -- For every making line in form whose making is accepted, and for all lines after it, carried out up to the first that is out of form. `printed` and `endLines`
--- are what the promises of `carry_line` and `print_end` say of these lines.
+-- are what the promises of `carry_line` and `print_end` say of these lines; OfCode.antt joins the promises.
 abbrev pub ArchivesAnswer : Type 0
 ArchivesAnswer = (line : List ℕ) (m : ArchiveMaking) (h : SamplerPlusTree) → makingOfLine line ≡ some m → sampledBy (m .channels) (m .capacity) (sixteenthsOf (m .cached)) (sixteenthsOf (m .initial)) ≡ Tree h
     → (lines : List (List ℕ)) → RowsAnswered (m .channels) (m .capacity) (sixteenthsOf (m .cached)) (sixteenthsOf (m .initial)) (rowsOf lines)
