@@ -209,6 +209,7 @@ pub fn arrive(
         r (lent (now (nodes .exit)) (now (cuts .exit)) (now (copies .exit)) (now (free .exit)) (now (boxes .exit))) (now (weights .exit)) (now (held .exit)) (now (reply .exit))) ⌝ }
 {
     let offer = test_arrival(tree, written, weights, index, weight, chance, words, n);
+    let mut path = [[0u16; 2]; CAPACITY];
     let remaining = tree.leave(
         offer,
         nodes,
@@ -217,11 +218,10 @@ pub fn arrive(
         free,
         boxes,
         points,
-        written,
         weights,
         held,
+        &mut path,
     );
-    let mut path = [[0u16; 2]; CAPACITY];
     let found = remaining.find(offer, nodes, cuts, points, index, &mut path);
     enter(
         remaining,

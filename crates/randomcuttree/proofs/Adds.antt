@@ -36,7 +36,6 @@ use Rattle.randomcuttree.specs.declared.AddAnswer.{AddAnswer}
 use Rattle.randomcuttree.specs.declared.AddAnswer.the-variants.{Added, NotAdded}
 use Rattle.randomcuttree.specs.State.{cachedBy, State, headerOf, headed}
 use Rattle.randomcuttree.specs.Answers.{Called, addSays}
-use Rattle.randomcuttree.specs.Finds.{Seeks, Sees}
 use Rattle.randomcuttree.proofs.Reaches.{reachable-call}
 use Rattle.randomcuttree.proofs.Parts as Parts
 use Rattle.randomcuttree.proofs.Given.{sound}
@@ -46,13 +45,6 @@ use Rattle.randomcuttree.proofs.Calls as Calls
 copy-root : (d c : ℕ) (p : Reading) (t : Tree (whole d)) → id (whole d) c (addCopy (whole d) p t) ≡ id (whole d) c t
 copy-root d c p (leaf i q n) = refl
 copy-root d c p (branch b x g l r) = by-cond (λ s. id (whole d) c s ≡ b) (below (whole d) x p) _ _ (λ _. refl) (λ _. refl)
-
--- what was found, of the path as it is left
-pub seen-there : {tree : RCFTree} {nodes : List (List ℕ)} {cuts : List Float} {points : List (List Float)} {i : ℕ} {before path : List (List ℕ)} {f : Found} → Sees tree nodes cuts points i before f path → Sees tree nodes cuts points i path f path
-seen-there S = record {
-  empty = λ z. (S .empty z .0, refl);
-  walked = λ n d t p Q. let F = S .walked n d t p Q in record { walked = F .walked; leaf-is = F .leaf-is; held-is = F .held-is; rest = refl };
-}
 
 module _ {d c : ℕ} {s : Float} {W : World (whole d)} {tree : RCFTree} {a : Lent} {points : List (List Float)} {marks : List ℕ} (H : State d c s W tree a points marks) (i : ℕ) where
   abbrev k : ℕ
@@ -89,10 +81,6 @@ module _ {d c : ℕ} {s : Float} {W : World (whole d)} {tree : RCFTree} {a : Len
 
     pub at-limit : (ws : List ℕ) → tree .total ≡ totalLimit → Done ws (NotAdded 10) a
     at-limit ws e = not-done ws (refused full) (NotAdded 10) (pointed m ws (some p) P ∙ cond-true _ _ _ (eq-eqb (totalOf (whole d) (W .tree)) totalLimit (sym (Parts.total-is H) ∙ e))) refl
-
-    -- what looking for it is told, in a tree that may be empty
-    pub seeks : Seeks tree (a .nodes) (a .cuts) points i
-    seeks n = Calls.some-sought H (Calls.a-tree H n .1) m P
 
     module _ (room : tree .total ≡ totalLimit → ⊥) where
       entered : (ws : List ℕ) (o : Option (Tree (whole d))) → W .tree ≡ o → call (whole d) c W (add i ws) ≡ enter (whole d) c W o i p ws

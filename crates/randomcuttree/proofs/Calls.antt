@@ -25,12 +25,20 @@ use Rattle.treestore.specs.Edits.{Walking}
 use Rattle.randomcuttree.specs.declared.RCFTree.{RCFTree}
 use Rattle.randomcuttree.specs.State.{cachedBy, State, Reachable, headerOf, headed}
 use Rattle.randomcuttree.specs.Answers.{Called}
+use Rattle.randomcuttree.specs.Finds.{Seeks, Sees, SomeSeen}
 use Rattle.randomcuttree.proofs.Parts.{cached-few, total-is}
 use Rattle.randomcuttree.proofs.Given.{sound, once, narrow, point-at, leaves-stand, stored, walks, boxed}
 
 at-most-one : (b : Bool) → cond {A = ℕ} b 1 0 ≤ 1
 at-most-one true = omega arith
 at-most-one false = omega arith
+
+-- what was found, of the path as it is left
+pub seen-there : {tree : RCFTree} {nodes : List (List ℕ)} {cuts : List Float} {points : List (List Float)} {i : ℕ} {before path : List (List ℕ)} {f : Found} → Sees tree nodes cuts points i before f path → Sees tree nodes cuts points i path f path
+seen-there S = record {
+  empty = λ z. (S .empty z .0, refl);
+  walked = λ n d t p Q. let F = S .walked n d t p Q in record { walked = F .walked; leaf-is = F .leaf-is; held-is = F .held-is; rest = refl };
+}
 
 module _ {d c : ℕ} {s : Float} {W : World (whole d)} {tree : RCFTree} {a : Lent} {points : List (List Float)} {marks : List ℕ} (H : State d c s W tree a points marks) where
   abbrev k : ℕ
@@ -124,3 +132,11 @@ module _ {d c : ℕ} {s : Float} {W : World (whole d)} {tree : RCFTree} {a : Len
             row = point-at (H .reachable) T (H .table-is) i p P;
             freeable = λ b e. (freed-below (whole d) p t b (c - 1) _ e (S .numbers b), omega (arith, S .numbers b, freed-used (whole d) p t b e, at-most-one (ltb b (c - 1))));
           }
+
+  -- ---- an index that is written, in a tree that may be empty: what looking for it asks, and what is asked once it was looked for
+  module _ {i : ℕ} {p : Reading} (P : W .table i ≡ some p) where
+    pub seeks : Seeks tree (a .nodes) (a .cuts) points i
+    seeks n = some-sought (a-tree n .1) (H .reachable .sound .inside i p P) P
+
+    pub some-seen : {before path : List (List ℕ)} {f : Found} → Sees tree (a .nodes) (a .cuts) points i before f path → SomeSeen tree a points i path f
+    some-seen S = record { channels = d; capacity = c; share = s; world = W; marks = marks; point = p; state = H; is-written = P; seen = seen-there S }

@@ -18,7 +18,7 @@ use Rattle.wholetree.specs.Whole.{whole}
 use Rattle.treestore.specs.declared.Edited.{Edited}
 use Rattle.treestore.specs.declared.Found.{Found}
 use Rattle.treestore.specs.Arrays.{Lent}
-use Rattle.treestore.specs.Finds.{SomeSought, Finds, FoundIn}
+use Rattle.treestore.specs.Finds.{Finds, FoundIn}
 use Rattle.treestore.specs.Edits.{Walking, SomeHeld, Forgets}
 use Rattle.randomcuttree.specs.declared.RCFTree.{RCFTree}
 use Rattle.randomcuttree.specs.declared.DeleteAnswer.{DeleteAnswer}
@@ -48,54 +48,46 @@ module _ {d c : ℕ} {s : Float} {W : World (whole d)} {tree : RCFTree} {a : Len
     pub blank : getD marks i 0 ≡ 0 → Done (NotDeleted 9) a
     blank m = refusing (refused neverWritten) _ (asked none (Calls.unwritten H i l m)) refl
 
-    module _ (m : getD marks i 0 ≡ 0 → ⊥) where
-      abbrev p : Reading
-      p = Calls.is-written H i l m .0
+  -- ---- an index that is written
+  module _ {p : Reading} (P : W .table i ≡ some p) where
+    m : i < pointLimit
+    m = H .reachable .sound .inside i p P
 
-      P : W .table i ≡ some p
-      P = Calls.is-written H i l m .1
+    leaving : (o : Option (Tree (whole d))) → W .tree ≡ o → call (whole d) c W (delete i) ≡ leave (whole d) W o p
+    leaving o T = asked m (some p) P ∙ ap (λ x. leave (whole d) W x p) T
 
-      leaving : (o : Option (Tree (whole d))) → W .tree ≡ o → call (whole d) c W (delete i) ≡ leave (whole d) W o p
-      leaving o T = asked (some p) P ∙ ap (λ x. leave (whole d) W x p) T
+    pub empty : tree .total ≡ 0 → Done (NotDeleted 12) a
+    empty n = refusing (refused treeEmpty) _ (leaving none (Calls.no-tree H n)) refl
 
-      pub empty : tree .total ≡ 0 → Done (NotDeleted 12) a
-      empty n = refusing (refused treeEmpty) _ (leaving none (Calls.no-tree H n)) refl
+    -- ---- the walk, in a tree that holds something
+    module _ (some-held : tree .total ≡ 0 → ⊥) where
+      abbrev t : Tree (whole d)
+      t = Calls.a-tree H some-held .0
 
-      -- ---- the walk, in a tree that holds something
-      module _ (some-held : tree .total ≡ 0 → ⊥) where
-        abbrev t : Tree (whole d)
-        t = Calls.a-tree H some-held .0
+      T : W .tree ≡ some t
+      T = Calls.a-tree H some-held .1
 
-        T : W .tree ≡ some t
-        T = Calls.a-tree H some-held .1
+      module _ {before path : List (List ℕ)} {f : Found} (F : Finds (tree .capacity) (tree .root) (a .nodes) (a .cuts) points i before f path) where
+        found-in : FoundIn d c t p before f path
+        found-in = Calls.found-in H T m P F
 
-        pub sought : SomeSought (tree .capacity) (tree .root) (a .nodes) (a .cuts) points i
-        sought = Calls.some-sought H T l P
+        walking : Walking d c (cachedBy s c) t (W .free) p (headerOf d c s W .root) (headerOf d c s W .manager) a points path (f .walk) (f .leaf) (getD points i [])
+        walking = Calls.walking H T m P F
 
-        module _ {before path : List (List ℕ)} {f : Found} (F : Finds (tree .capacity) (tree .root) (a .nodes) (a .cuts) points i before f path) where
-          found-in : FoundIn d c t p before f path
-          found-in = Calls.found-in H T l P F
+        fewer : tree .total ≡ totalOf (whole d) (forget (whole d) p t) + 1
+        fewer = omega (arith, total-is H ∙ ap (totalOf (whole d)) T, total-forget (whole d) p t (walking .stored .filled))
 
-          walking : Walking d c (cachedBy s c) t (W .free) p (headerOf d c s W .root) (headerOf d c s W .manager) a points path (f .walk) (f .leaf) (getD points i [])
-          walking = Calls.walking H T l P F
+        pub not-held : f .held ≡ false → Done (NotDeleted 13) a
+        not-held g = refusing (refused notHeld) _ (leaving (some t) T ∙ cond-true _ _ _ (ap not (sym (found-in .held-is) ∙ g))) refl
 
-          fewer : tree .total ≡ totalOf (whole d) (forget (whole d) p t) + 1
-          fewer = omega (arith, total-is H ∙ ap (totalOf (whole d)) T, total-forget (whole d) p t (walking .stored .filled))
+        module _ (g : f .held ≡ true) where
+          pub held : SomeHeld (tree .dimensions) (tree .capacity) (tree .cached) (tree .root) (tree .manager) a points path (f .walk) (f .leaf) (getD points i [])
+          held = subst (λ (x : RCFTree). SomeHeld (x .dimensions) (x .capacity) (x .cached) (x .root) (x .manager) a points path (f .walk) (f .leaf) (getD points i [])) (sym (H .header-is))
+              (record { tree = t; free = W .free; reading = p; walking = walking; held = sym (found-in .held-is) ∙ g })
 
-          pub some-total : 1 ≤ tree .total
-          some-total = omega (arith, fewer)
-
-          pub not-held : f .held ≡ false → Done (NotDeleted 13) a
-          not-held g = refusing (refused notHeld) _ (leaving (some t) T ∙ cond-true _ _ _ (ap not (sym (found-in .held-is) ∙ g))) refl
-
-          module _ (g : f .held ≡ true) where
-            pub held : SomeHeld (tree .dimensions) (tree .capacity) (tree .cached) (tree .root) (tree .manager) a points path (f .walk) (f .leaf) (getD points i [])
-            held = subst (λ (x : RCFTree). SomeHeld (x .dimensions) (x .capacity) (x .cached) (x .root) (x .manager) a points path (f .walk) (f .leaf) (getD points i [])) (sym (H .header-is))
-                (record { tree = t; free = W .free; reading = p; walking = walking; held = sym (found-in .held-is) ∙ g })
-
-            pub one-less : (e : Edited) (b : Lent) → Forgets (tree .dimensions) (tree .capacity) (tree .cached) (tree .root) (tree .manager) a points path (f .walk) (f .leaf) (getD points i []) e b
-                → (header : RCFTree) → header ≡ headed tree (e .root) (tree .total - 1) (e .manager) → Done (Deleted header (f .leaf)) b
-            one-less e b G header h =
-                let left = subst (λ (x : RCFTree). Forgets (x .dimensions) (x .capacity) (x .cached) (x .root) (x .manager) a points path (f .walk) (f .leaf) (getD points i []) e b) (H .header-is) G t (W .free) p walking (sym (found-in .held-is) ∙ g) in
-                Calls.changed H (deleteSays d) (call (whole d) c W (delete i)) (deleted (ending (whole d) t p .index)) _ e (tree .total - 1) header b (Deleted header (f .leaf))
-                (leaving (some t) T ∙ cond-false _ _ _ (ap not (sym (found-in .held-is) ∙ g))) (ap (Deleted header) (found-in .leaf-is)) h (omega (arith, fewer)) left refl (reachable-call d c (H .limits .0) (H .limits .1) W (delete i) (H .reachable))
+          pub one-less : (e : Edited) (b : Lent) → Forgets (tree .dimensions) (tree .capacity) (tree .cached) (tree .root) (tree .manager) a points path (f .walk) (f .leaf) (getD points i []) e b
+              → (header : RCFTree) → header ≡ headed tree (e .root) (tree .total - 1) (e .manager) → Done (Deleted header (f .leaf)) b
+          one-less e b G header h =
+              let left = subst (λ (x : RCFTree). Forgets (x .dimensions) (x .capacity) (x .cached) (x .root) (x .manager) a points path (f .walk) (f .leaf) (getD points i []) e b) (H .header-is) G t (W .free) p walking (sym (found-in .held-is) ∙ g) in
+              Calls.changed H (deleteSays d) (call (whole d) c W (delete i)) (deleted (ending (whole d) t p .index)) _ e (tree .total - 1) header b (Deleted header (f .leaf))
+              (leaving (some t) T ∙ cond-false _ _ _ (ap not (sym (found-in .held-is) ∙ g))) (ap (Deleted header) (found-in .leaf-is)) h (omega (arith, fewer)) left refl (reachable-call d c (H .limits .0) (H .limits .1) W (delete i) (H .reachable))

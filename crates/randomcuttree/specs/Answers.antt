@@ -61,3 +61,8 @@ SeenAdded tree before points i words r after = (d c : ℕ) (s : Float) (W : Worl
 abbrev pub DeleteDone : RCFTree → Lent → List (List Float) → List ℕ → ℕ → DeleteAnswer → Lent → Type 0
 DeleteDone tree before points marks i r after = (d c : ℕ) (s : Float) (W : World (whole d)) → State d c s W tree before points marks
     → Called d c s (deleteSays d) (call (whole d) c W (delete i)) r after points marks
+
+-- the same of a reading that was looked for: the index is written
+abbrev pub SeenDeleted : RCFTree → Lent → List (List Float) → ℕ → DeleteAnswer → Lent → Type 0
+SeenDeleted tree before points i r after = (d c : ℕ) (s : Float) (W : World (whole d)) (marks : List ℕ) (p : Reading) → State d c s W tree before points marks → W .table i ≡ some p
+    → Called d c s (deleteSays d) (call (whole d) c W (delete i)) r after points marks

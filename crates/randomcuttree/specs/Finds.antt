@@ -1,11 +1,10 @@
--- Looking for the reading of an index in a tree that may be empty, and what is asked where one was looked for and is added. Definitions.
+-- Looking for the reading of an index in a tree that may be empty, and what is asked where one was looked for. Definitions.
 use mathlib.Core.Path.{_≡_}
 use mathlib.Core.Bool.{false}
 use mathlib.Core.Option.{some}
 use mathlib.Core.List.{List}
 use Prim.Native.Nat.{ℕ}
 use lib.Ieee.{Float}
-use Rattle.limits.specs.Limits.{totalLimit}
 use Rattle.cuttree.specs.Run.{World}
 use Rattle.wholetree.specs.Reading.{Reading}
 use Rattle.wholetree.specs.Whole.{whole}
@@ -28,8 +27,7 @@ pub record Sees (tree : RCFTree) (nodes : List (List ℕ)) (cuts : List Float) (
   pub empty : tree .total ≡ 0 → (r ≡ nowhere) × (path ≡ before)
   pub walked : (tree .total ≡ 0 → ⊥) → Finds (tree .capacity) (tree .root) nodes cuts points i before r path
 
--- What the add of a reading that was looked for asks: a state of a tree that is below its total, in which the index is written, and what was
--- found there.
+-- What the add or the delete of a reading that was looked for asks: a state in which the index is written, and what was found there.
 pub record SomeSeen (tree : RCFTree) (a : Lent) (points : List (List Float)) (i : ℕ) (path : List (List ℕ)) (f : Found) : Type 0 where
   pub channels : ℕ
   pub capacity : ℕ
@@ -39,5 +37,4 @@ pub record SomeSeen (tree : RCFTree) (a : Lent) (points : List (List Float)) (i 
   pub point : Reading
   pub state : State channels capacity share world tree a points marks
   pub is-written : world .table i ≡ some point
-  pub room : tree .total ≡ totalLimit → ⊥
   pub seen : Sees tree (a .nodes) (a .cuts) points i path f path

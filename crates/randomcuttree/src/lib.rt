@@ -22,13 +22,13 @@ ghost use mathlib.Core.Path.{_≡_};
 ghost use mathlib.Core.List.{[]};
 ghost use Prim.Native.Nat.{_<_};
 ghost use lib.ListN.{getD, replicate};
-ghost use Rattle.limits.specs.Limits.{branchLimit, pointLimit};
+ghost use Rattle.limits.specs.Limits.{branchLimit, pointLimit, totalLimit};
 ghost use Rattle.readings.specs.Number.{nought};
 ghost use Rattle.layout.specs.Layout.{noRow, noBoxEnds};
 ghost use Rattle.pointstore.specs.Puts.{Puts};
 ghost use Rattle.treestore.specs.Arrays.{lent};
 ghost use Rattle.randomcuttree.specs.State.{headed, SomeState};
-ghost use Rattle.randomcuttree.specs.Answers.{AddDone, SeenAdded, DeleteDone};
+ghost use Rattle.randomcuttree.specs.Answers.{AddDone, SeenAdded, DeleteDone, SeenDeleted};
 ghost use Rattle.randomcuttree.specs.Finds.{nowhere, Seeks, Sees, SomeSeen};
 ghost use Rattle.randomcuttree.specs.Making.{MakeDone};
 ghost use Rattle.randomcuttree.specs.Queries.{copiesRead, branchRead, BoxTold, SomeBoxRead, noBox};
@@ -321,7 +321,8 @@ impl RCFTree {
         found: Found,
         words: &[u64],
     ) -> AddAnswer
-        requires { ⌜ SomeSeen self (lent (now nodes) (now cuts) (now copies) (now free) (now boxes)) (now points) index (now path) found ⌝ }
+        requires seen { ⌜ SomeSeen self (lent (now nodes) (now cuts) (now copies) (now free) (now boxes)) (now points) index (now path) found ⌝ }
+        requires room { ⌜ (self .total ≡ totalLimit → ⊥) ⌝ }
         ensures { λ r. ⌜ SeenAdded self (lent (now (nodes .entry)) (now (cuts .entry)) (now (copies .entry)) (now (free .entry)) (now (boxes .entry))) (now (points .entry)) index (now (words .entry)) r (lent (now (nodes .exit)) (now (cuts .exit)) (now (copies .exit)) (now (free .exit)) (now (boxes .exit))) ⌝ }
     {
         let total = self.total;
@@ -409,8 +410,54 @@ impl RCFTree {
         )
     }
 
+    // The delete of a reading that was looked for; or a refusal, in document 01's order, and nothing written.
+    // Rules out a value told as not held where the tree is empty, and a delete that leaves the last copy's branch.
+    pub fn delete_found(
+        self,
+        nodes: &mut Nodes,
+        cuts: &mut Cuts,
+        copies: &mut Copies,
+        free: &mut Free,
+        boxes: &mut Boxes,
+        points: &Points,
+        index: usize,
+        path: &Path,
+        found: Found,
+    ) -> DeleteAnswer
+        requires { ⌜ SomeSeen self (lent (now nodes) (now cuts) (now copies) (now free) (now boxes)) (now points) index (now path) found ⌝ }
+        ensures { λ r. ⌜ SeenDeleted self (lent (now (nodes .entry)) (now (cuts .entry)) (now (copies .entry)) (now (free .entry)) (now (boxes .entry))) (now (points .entry)) index r (lent (now (nodes .exit)) (now (cuts .exit)) (now (copies .exit)) (now (free .exit)) (now (boxes .exit))) ⌝ }
+    {
+        let total = self.total;
+        if total == 0 {
+            return DeleteAnswer::NotDeleted(12);
+        }
+        let leaf = found.leaf;
+        if !found.held {
+            return DeleteAnswer::NotDeleted(13);
+        }
+        let edited = treestore::remove_copy(
+            self.root,
+            self.manager,
+            self.dimensions,
+            self.capacity,
+            self.cached,
+            nodes,
+            cuts,
+            copies,
+            free,
+            boxes,
+            points,
+            path,
+            found.walk,
+            leaf,
+            &points[index],
+        );
+        let tree = headed_by(self, edited.root, total - 1, edited.manager);
+        DeleteAnswer::Deleted(tree, leaf)
+    }
+
     // One copy less of the reading written for an index; or a refusal, in document 01's order, and nothing written.
-    // Rules out the index asked for answered in place of the leaf's, and a delete that leaves the last copy's branch.
+    // Rules out the index asked for answered in place of the leaf's, and an empty tree told before the index is looked at.
     pub fn delete(
         self,
         nodes: &mut Nodes,
@@ -431,43 +478,18 @@ impl RCFTree {
         if written[index] == 0 {
             return DeleteAnswer::NotDeleted(9);
         }
-        let total = self.total;
-        if total == 0 {
-            return DeleteAnswer::NotDeleted(12);
-        }
         let mut path = [[0u16; 2]; CAPACITY];
-        let found = treestore::find(
-            self.root,
-            self.capacity,
-            nodes,
-            cuts,
-            points,
-            index,
-            &mut path,
-        );
-        let n = found.walk;
-        let leaf = found.leaf;
-        if !found.held {
-            return DeleteAnswer::NotDeleted(13);
-        }
-        let edited = treestore::remove_copy(
-            self.root,
-            self.manager,
-            self.dimensions,
-            self.capacity,
-            self.cached,
+        let found = self.find(nodes, cuts, points, index, &mut path);
+        self.delete_found(
             nodes,
             cuts,
             copies,
             free,
             boxes,
             points,
+            index,
             &path,
-            n,
-            leaf,
-            &points[index],
-        );
-        let tree = headed_by(self, edited.root, total - 1, edited.manager);
-        DeleteAnswer::Deleted(tree, leaf)
+            found,
+        )
     }
 }

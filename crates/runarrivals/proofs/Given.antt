@@ -57,12 +57,12 @@ module _ (bytes : List ℕ) (p : ℕ) where
     long = ap length first ∙ tab-length n _
 
     -- what remains of the arrival's first step, and what was found of its reading there
-    module _ (remaining : Remaining) (b : Lent) (weights₁ : List Float) (held₁ : List ℕ) (L : LeaveDone tree o a points marks weights held remaining b weights₁ held₁)
+    module _ (remaining : Remaining) (b : Lent) (weights₁ : List Float) (held₁ : List ℕ) (L : LeaveDone tree o a points weights held remaining b weights₁ held₁)
         (before path : List (List ℕ)) (f : Found) (F : SeesBy remaining o (b .nodes) (b .cuts) points i before f path) (k : ℕ) (used : k ≡ min n (f .walk)) (l₀ l : List ℕ)
         (read : (l ≡ sets l₀ 0 (tab k (λ (j : ℕ). double bytes (p + 6 + 2 * j)))) × (take k l ≡ tab k (λ (j : ℕ). double bytes (p + 6 + 2 * j)))) where
       module _ (d : ℕ) (s : Float) (X : Sampled (whole d)) (S : SampledState d s X tree a points marks weights held) where
         k-is : k ≡ min n (wordsUsed d X i o)
-        k-is = used ∙ ap (min n) (used-is (L d s X S) i w x n (told .told d s X a points held S) F)
+        k-is = used ∙ ap (min n) (used-is (L d s X marks S) i w x n (told .told d s X a points held S) F)
 
         own : take (wordsUsed d X i o) (take capacityLimit (arrivalWordsAt bytes p)) ≡ tab k (λ (j : ℕ). double bytes (p + 6 + 2 * j))
         own = ap (take (wordsUsed d X i o)) first ∙ take-tab _ (wordsUsed d X i o) n k k-is
@@ -81,6 +81,6 @@ module _ (bytes : List ℕ) (p : ℕ) where
           → Arrives (number bytes (p + 1)) (ofBits binary32 (number bytes (p + 2))) (double bytes (p + 3)) (arrivalWordsAt bytes p) tree a points marks weights held tree′ a′ weights′ held′ reply
           × ReadsWords (number bytes (p + 1)) (ofBits binary32 (number bytes (p + 2))) (double bytes (p + 3)) (arrivalWordsAt bytes p) tree a points marks weights held l₀ l
       arrival-given tree′ a′ weights′ held′ reply A =
-          let does : Arrives i w x (arrivalWordsAt bytes p) tree a points marks weights held tree′ a′ weights′ held′ reply = λ d s X S. A x (arrivalWordsAt bytes p) marks long d s X (L d s X S) (told .told d s X a points held S) (agree d s X S) in
+          let does : Arrives i w x (arrivalWordsAt bytes p) tree a points marks weights held tree′ a′ weights′ held′ reply = λ d s X S. A x (arrivalWordsAt bytes p) marks long d s X (L d s X marks S) (told .told d s X a points held S) (agree d s X S) in
           let words : ReadsWords i w x (arrivalWordsAt bytes p) tree a points marks weights held l₀ l = reads in
           rw (← index, ← pattern, ← weight, ← chance) (does, words)

@@ -65,9 +65,9 @@ pub fn arrival_at(
         free,
         boxes,
         points,
-        written,
         weights,
         held,
+        path,
     );
     let found = remaining.find(offer, nodes, cuts, points, index, path);
     let used = casts::at_most(n, found.walk);

@@ -23,7 +23,7 @@ use Rattle.sampledtree.specs.Sampled.{Sampled, SampledAnswer, plain, notAccepte
 use Rattle.sampledtree.specs.Arrivals.{Agrees}
 use Rattle.treestore.specs.declared.Found.{Found}
 use Rattle.treestore.specs.Arrays.{Lent}
-use Rattle.randomcuttree.proofs.Adds.{seeks, seen-there}
+use Rattle.randomcuttree.proofs.Calls.{seeks, seen-there}
 use Rattle.samplerplustree.specs.declared.SamplerPlusTree.{SamplerPlusTree}
 use Rattle.samplerplustree.specs.declared.AddedLeaf.{AddedLeaf}
 use Rattle.samplerplustree.specs.declared.Admitted.{Admitted}
@@ -174,9 +174,10 @@ module _ (l : Remaining) (a : Lent) (points : List (List Float)) (weights : List
   untaken-done Evicts h r t f d s X marks x L u = clash true refl t
 
 -- ---- what each step is told, from what the test told
-module _ (h : SamplerPlusTree) (o : Offer) (a : Lent) (points : List (List Float)) (marks : List ℕ) (weights : List Float) (held : List ℕ) (i : ℕ) (w : Float) (n : ℕ) (Q : SomeOffered h o a points marks weights held i w n) where
-  pub leaving : SomeLeaving h o a points marks weights held
+module _ (h : SamplerPlusTree) (o : Offer) (a : Lent) (points : List (List Float)) (weights : List Float) (held : List ℕ) (i : ℕ) (w : Float) (n : ℕ) (Q : SomeOffered h o a points weights held i w n) where
+  pub leaving : SomeLeaving h o a points weights held
   leaving = record {
+    marks = Q .marks;
     sampled = record { channels = Q .channels; share = Q .share; world = Q .world; state = Q .state };
     kept = λ e.
         let blanks : List ℕ = replicate n 0 in
@@ -184,19 +185,19 @@ module _ (h : SamplerPlusTree) (o : Offer) (a : Lent) (points : List (List Float
         omega (arith, size-is (arrays-of (Q .state)), ap length (F .sample-is));
   }
 
-  module _ (l : Remaining) (b : Lent) (weights′ : List Float) (held′ : List ℕ) (L : LeaveDone h o a points marks weights held l b weights′ held′) where
-    left : RemainingState (Q .channels) (Q .share) (Q .world) o l b points marks weights′ held′
-    left = L (Q .channels) (Q .share) (Q .world) (Q .state)
+  module _ (l : Remaining) (b : Lent) (weights′ : List Float) (held′ : List ℕ) (L : LeaveDone h o a points weights held l b weights′ held′) where
+    left : RemainingState (Q .channels) (Q .share) (Q .world) o l b points (Q .marks) weights′ held′
+    left = L (Q .channels) (Q .share) (Q .world) (Q .marks) (Q .state)
 
     pub seeking : SeeksBy l o (b .nodes) (b .cuts) points i
-    seeking t = seeks (tree-of (left .arrays)) i (written-remaining (Q .channels) (Q .world) i w n (left .agrees) (Q .chance) o (Q .offer-is) t .1)
+    seeking t = seeks (tree-of (left .arrays)) (written-remaining (Q .channels) (Q .world) i w n (left .agrees) (Q .chance) o (Q .offer-is) t .1)
 
     pub entering : (before path : List (List ℕ)) (f : Found) → SeesBy l o (b .nodes) (b .cuts) points i before f path → SomeEntering l o b points weights′ held′ i w path f n
     entering before path f F = record {
       channels = Q .channels;
       share = Q .share;
       world = Q .world;
-      marks = marks;
+      marks = Q .marks;
       chance = Q .chance;
       state = left;
       offer-is = Q .offer-is;

@@ -60,13 +60,13 @@ module _ (d : ℕ) (X : Sampled (whole d)) (A : Agrees (whole d) X) (some-kept :
       let D = delete-admits (whole d) (whole-laws d) (X .capacity) (X .world .table) (X .world .tree) (X .world .free) (firstIndex (X .sample)) (A .sound) copy in
       omega (arith, D .total-less, A .total-is, A .room)
 
-module _ (h : SamplerPlusTree) (a : Lent) (points : List (List Float)) (marks : List ℕ) (weights : List Float) (held : List ℕ) where
+module _ (h : SamplerPlusTree) (a : Lent) (points : List (List Float)) (weights : List Float) (held : List ℕ) where
   -- ---- nothing leaves for an offer that evicts nothing
-  pub none-leaves : (o : Offer) → evicts o ≡ false → LeaveDone h o a points marks weights held (record { tree = h; gone = 0 }) a weights held
-  none-leaves o e d s X S = record { arrays = rw e (arrays-of S); gone-is = sym (cond-false (evicts o) _ 0 e); agrees = S .agrees; initial-is = S .initial-is }
+  pub none-leaves : (o : Offer) → evicts o ≡ false → LeaveDone h o a points weights held (record { tree = h; gone = 0 }) a weights held
+  none-leaves o e d s X marks S = record { arrays = rw e (arrays-of S); gone-is = sym (cond-false (evicts o) _ 0 e); agrees = S .agrees; initial-is = S .initial-is }
 
   -- ---- THE EVICTION
-  module _ (o : Offer) (evicting : evicts o ≡ true) (Q : SomeLeaving h o a points marks weights held) where
+  module _ (o : Offer) (evicting : evicts o ≡ true) (Q : SomeLeaving h o a points weights held) where
     kept-size : 0 < length (Q .sampled .world .sample)
     kept-size = omega (arith, Q .kept evicting, size-is (arrays-of (Q .sampled .state)))
 
@@ -74,26 +74,27 @@ module _ (h : SamplerPlusTree) (a : Lent) (points : List (List Float)) (marks : 
     evict-some = let S = Q .sampled .state in (Q .kept evicting, omega (arith, size-is (arrays-of S), S .agrees .room, small (arrays-of S)))
 
   module _ (v : Evicted) (e : v ≡ evictedOf (h .sampler) weights held) (gone : ℕ) (g : gone ≡ v .index) where
-    gone-first : (d : ℕ) (s : Float) (X : Sampled (whole d)) → SampledState d s X h a points marks weights held → gone ≡ firstIndex (X .sample)
-    gone-first d s X S = g ∙ ap (λ (z : Evicted). z .index) e ∙ ap (λ (l : List ℕ). getD l 0 0) (S .held-are) ∙ first-held (X .sample)
+    gone-first : (d : ℕ) (s : Float) (X : Sampled (whole d)) (marks : List ℕ) → SampledState d s X h a points marks weights held → gone ≡ firstIndex (X .sample)
+    gone-first d s X marks S = g ∙ ap (λ (z : Evicted). z .index) e ∙ ap (λ (l : List ℕ). getD l 0 0) (S .held-are) ∙ first-held (X .sample)
 
-    pub evict-copy : (o : Offer) → evicts o ≡ true → SomeLeaving h o a points marks weights held → SomeCopy (h .tree) a points marks gone
+    pub evict-copy : (o : Offer) → evicts o ≡ true → SomeLeaving h o a points weights held → SomeCopy (h .tree) a points gone
     evict-copy o evicting Q = let S = Q .sampled in record {
       channels = S .channels;
       capacity = S .world .capacity;
       share = S .share;
       world = S .world .world;
+      marks = Q .marks;
       state = tree-state (S .state);
-      copy = rw (gone-first (S .channels) (S .share) (S .world) (S .state)) (copy (S .channels) (S .world) (S .state .agrees) (kept-size o evicting Q));
+      copy = rw (gone-first (S .channels) (S .share) (S .world) (Q .marks) (S .state)) (copy (S .channels) (S .world) (S .state .agrees) (kept-size o evicting Q));
     }
 
-    pub evict-done : (o : Offer) → evicts o ≡ true → SomeLeaving h o a points marks weights held → (weights′ : List Float) (held′ : List ℕ) (left : RCFTree) (b : Lent)
-        → Evicts (h .sampler .«current_size») weights held weights′ held′ → DeletesLeaf (h .tree) a points marks gone left b
-        → LeaveDone h o a points marks weights held (record { tree = record { tree = left; sampler = v .sampler; «initial_accept_fraction» = h .«initial_accept_fraction» }; gone = gone }) b weights′ held′
-    evict-done o evicting Q weights′ held′ left b slots D d s X S =
+    pub evict-done : (o : Offer) → evicts o ≡ true → SomeLeaving h o a points weights held → (weights′ : List Float) (held′ : List ℕ) (left : RCFTree) (b : Lent)
+        → Evicts (h .sampler .«current_size») weights held weights′ held′ → DeletesLeaf (h .tree) a points gone left b
+        → LeaveDone h o a points weights held (record { tree = record { tree = left; sampler = v .sampler; «initial_accept_fraction» = h .«initial_accept_fraction» }; gone = gone }) b weights′ held′
+    evict-done o evicting Q weights′ held′ left b slots D d s X marks S =
         let L = arrays-of S in
         let some-kept : 0 < length (X .sample) = omega (arith, Q .kept evicting, size-is L) in
-        let C = subst (λ (j : ℕ). LeafDeleted d (X .capacity) s (Bare.call (whole d) (X .capacity) (X .world) (delete j) .1) left b points marks) (gone-first d s X S) (D d (X .capacity) s (X .world) (tree-state S)) in
+        let C = subst (λ (j : ℕ). LeafDeleted d (X .capacity) s (Bare.call (whole d) (X .capacity) (X .world) (delete j) .1) left b points marks) (gone-first d s X marks S) (D d (X .capacity) s (X .world) marks (tree-state S)) in
         let T = one-less (X .sample) weights held (S .weights-are) (S .held-are) weights′ held′ some-kept (omega (arith, S .agrees .room, small L)) (subst (λ (n : ℕ). Evicts n weights held weights′ held′) (size-is L) slots) in
         let size : h .sampler .«current_size» - 1 ≡ length (popped above beyond (X .sample)) = omega (arith, size-is L, popped-length (X .sample) some-kept) in
         let N : v .sampler ≡ samplerOf (X .capacity) (popped above beyond (X .sample)) = ap (λ (z : Evicted). z .sampler) e ∙ ap (λ (n : ℕ). record { capacity = h .sampler .capacity; «current_size» = n }) size
@@ -105,7 +106,7 @@ module _ (h : SamplerPlusTree) (a : Lent) (points : List (List Float)) (marks : 
             weights-are = T .0;
             held-are = T .1;
           });
-          gone-is = rw evicting (gone-first d s X S);
+          gone-is = rw evicting (gone-first d s X marks S);
           agrees = S .agrees;
           initial-is = S .initial-is;
         }

@@ -138,5 +138,5 @@ offer-told h marks weights i w x n r small e = record {
 
 -- what was told of the lent state is what acting on it asks for
 pub some-offered : (h : SamplerPlusTree) (o : Offer) (a : Lent) (points : List (List Float)) (marks : List ℕ) (weights : List Float) (held : List ℕ) (i : ℕ) (w : Float) (x n : ℕ) → OfferTold h marks weights i w x n o → SomeSampled h a points marks weights held
-    → SomeOffered h o a points marks weights held i w n
-some-offered h o a points marks weights held i w x n told S = record { channels = S .channels; share = S .share; world = S .world; chance = x; state = S .state; offer-is = told .told (S .channels) (S .share) (S .world) a points held (S .state) }
+    → SomeOffered h o a points weights held i w n
+some-offered h o a points marks weights held i w x n told S = record { channels = S .channels; share = S .share; world = S .world; marks = marks; chance = x; state = S .state; offer-is = told .told (S .channels) (S .share) (S .world) a points held (S .state) }

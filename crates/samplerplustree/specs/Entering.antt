@@ -88,13 +88,14 @@ module _ (d : ℕ) (s : Float) where
     pub initial-is : isShare (X .initial) ≡ true
 
 -- ---- the first step: an offer evicts only where something is kept
-pub record SomeLeaving (h : SamplerPlusTree) (o : Offer) (a : Lent) (points : List (List Float)) (marks : List ℕ) (weights : List Float) (held : List ℕ) : Type 0 where
+pub record SomeLeaving (h : SamplerPlusTree) (o : Offer) (a : Lent) (points : List (List Float)) (weights : List Float) (held : List ℕ) : Type 0 where
+  pub marks : List ℕ
   pub sampled : SomeSampled h a points marks weights held
   pub kept : evicts o ≡ true → 0 < h .sampler .«current_size»
 
-abbrev pub LeaveDone : SamplerPlusTree → Offer → Lent → List (List Float) → List ℕ → List Float → List ℕ → Remaining → Lent → List Float → List ℕ → Type 0
-LeaveDone h o before points marks weights held l after weights′ held′ =
-    (d : ℕ) (s : Float) (X : Sampled (whole d)) → SampledState d s X h before points marks weights held → RemainingState d s X o l after points marks weights′ held′
+abbrev pub LeaveDone : SamplerPlusTree → Offer → Lent → List (List Float) → List Float → List ℕ → Remaining → Lent → List Float → List ℕ → Type 0
+LeaveDone h o before points weights held l after weights′ held′ =
+    (d : ℕ) (s : Float) (X : Sampled (whole d)) (marks : List ℕ) → SampledState d s X h before points marks weights held → RemainingState d s X o l after points marks weights′ held′
 
 -- ---- what is looked for between them, where the arrival is taken
 abbrev pub SeeksBy : Remaining → Offer → List (List ℕ) → List Float → List (List Float) → ℕ → Type 0

@@ -43,11 +43,12 @@ AddsLeaf tree before points i ws r after = (d c : ℕ) (s : Float) (W : World (w
     → LeafAdded d c s (call (whole d) c W (add i ws)) r after points marks
 
 -- what has a delete of index i never refused: its leaf has a copy
-pub record SomeCopy (tree : RCFTree) (a : Lent) (points : List (List Float)) (marks : List ℕ) (i : ℕ) : Type 0 where
+pub record SomeCopy (tree : RCFTree) (a : Lent) (points : List (List Float)) (i : ℕ) : Type 0 where
   pub channels : ℕ
   pub capacity : ℕ
   pub share : Float
   pub world : World (whole channels)
+  pub marks : List ℕ
   pub state : State channels capacity share world tree a points marks
   pub copy : 0 < sumOf (whole channels) (λ j q n. cond (eqb j i) n 0) (λ b. 0) (world .tree)
 
@@ -55,6 +56,6 @@ pub record LeafDeleted (d c : ℕ) (s : Float) (W : World (whole d)) (r : RCFTre
   pub tree-is : r ≡ headerOf d c s W
   pub state : State d c s W (headerOf d c s W) after points marks
 
-abbrev pub DeletesLeaf : RCFTree → Lent → List (List Float) → List ℕ → ℕ → RCFTree → Lent → Type 0
-DeletesLeaf tree before points marks i r after = (d c : ℕ) (s : Float) (W : World (whole d)) → State d c s W tree before points marks
+abbrev pub DeletesLeaf : RCFTree → Lent → List (List Float) → ℕ → RCFTree → Lent → Type 0
+DeletesLeaf tree before points i r after = (d c : ℕ) (s : Float) (W : World (whole d)) (marks : List ℕ) → State d c s W tree before points marks
     → LeafDeleted d c s (call (whole d) c W (delete i) .1) r after points marks

@@ -65,17 +65,18 @@ pub record OfferTold (h : SamplerPlusTree) (marks : List ℕ) (weights : List Fl
   pub read : r ≡ offerRead h marks weights i w x n
   pub told : (d : ℕ) (s : Float) (X : Sampled (whole d)) (a : Lent) (points : List (List Float)) (held : List ℕ) → SampledState d s X h a points marks weights held → r ≡ offered d X i w x n
 
--- What the acting function asks of its caller: that the offer is what the test tells of the lent state, for some word.
-pub record SomeOffered (h : SamplerPlusTree) (o : Offer) (a : Lent) (points : List (List Float)) (marks : List ℕ) (weights : List Float) (held : List ℕ) (i : ℕ) (w : Float) (n : ℕ) : Type 0 where
+-- What the acting function asks of its caller: that the offer is what the test tells of the lent state, for some marks and some word.
+pub record SomeOffered (h : SamplerPlusTree) (o : Offer) (a : Lent) (points : List (List Float)) (weights : List Float) (held : List ℕ) (i : ℕ) (w : Float) (n : ℕ) : Type 0 where
   pub channels : ℕ
   pub share : Float
   pub world : Sampled (whole channels)
+  pub marks : List ℕ
   pub chance : ℕ
   pub state : SampledState channels share world h a points marks weights held
   pub offer-is : o ≡ offered channels world i w chance n
 
--- What it does, whichever sampled world's the lent state is and whichever word the offer was told for: the arrival.
-abbrev pub TakeDone : SamplerPlusTree → Offer → Lent → List (List Float) → List ℕ → List Float → List ℕ → ℕ → Float → List ℕ → UpdateAnswer → Lent → List Float → List ℕ → Type 0
-TakeDone h o before points marks weights held i w ws r after weights′ held′ =
-    (d : ℕ) (s : Float) (X : Sampled (whole d)) (x : ℕ) → SampledState d s X h before points marks weights held → o ≡ offered d X i w x (length ws)
+-- What it does, whichever sampled world's the lent state is and whichever marks and word the offer was told for: the arrival.
+abbrev pub TakeDone : SamplerPlusTree → Offer → Lent → List (List Float) → List Float → List ℕ → ℕ → Float → List ℕ → UpdateAnswer → Lent → List Float → List ℕ → Type 0
+TakeDone h o before points weights held i w ws r after weights′ held′ =
+    (d : ℕ) (s : Float) (X : Sampled (whole d)) (marks : List ℕ) (x : ℕ) → SampledState d s X h before points marks weights held → o ≡ offered d X i w x (length ws)
     → Updated d s (call (whole d) X (arrive i w x ws)) r after points marks weights′ held′

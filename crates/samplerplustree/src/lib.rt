@@ -176,13 +176,14 @@ fn delete_leaf(
     free: &mut Free,
     boxes: &mut Boxes,
     points: &Points,
-    written: &Marks,
     index: usize,
+    path: &mut Path,
 ) -> RCFTree
-    requires { ⌜ SomeCopy tree (lent (now nodes) (now cuts) (now copies) (now free) (now boxes)) (now points) (now written) index ⌝ }
-    ensures { λ r. ⌜ DeletesLeaf tree (lent (now (nodes .entry)) (now (cuts .entry)) (now (copies .entry)) (now (free .entry)) (now (boxes .entry))) (now (points .entry)) (now (written .entry)) index r (lent (now (nodes .exit)) (now (cuts .exit)) (now (copies .exit)) (now (free .exit)) (now (boxes .exit))) ⌝ }
+    requires { ⌜ SomeCopy tree (lent (now nodes) (now cuts) (now copies) (now free) (now boxes)) (now points) index ⌝ }
+    ensures { λ r. ⌜ DeletesLeaf tree (lent (now (nodes .entry)) (now (cuts .entry)) (now (copies .entry)) (now (free .entry)) (now (boxes .entry))) (now (points .entry)) index r (lent (now (nodes .exit)) (now (cuts .exit)) (now (copies .exit)) (now (free .exit)) (now (boxes .exit))) ⌝ }
 {
-    match tree.delete(nodes, cuts, copies, free, boxes, points, written, index) {
+    let found = tree.find(nodes, cuts, points, index, path);
+    match tree.delete_found(nodes, cuts, copies, free, boxes, points, index, path, found) {
         DeleteAnswer::Deleted(next, _) => next,
         DeleteAnswer::NotDeleted(_) => tree,
     }
@@ -297,7 +298,7 @@ impl SamplerPlusTree {
     }
 
     // The first step of an arrival: where its offer evicts, the first entry leaves the sample, and its index the tree. No word of the arrival is needed
-    // for it.
+    // for it. The path is working memory: whatever it holds before, and what it holds after is free.
     // Rules out an entry that leaves the sample and whose index stays in the tree, and an eviction for an offer that evicts nothing.
     pub fn leave(
         self,
@@ -308,12 +309,12 @@ impl SamplerPlusTree {
         free: &mut Free,
         boxes: &mut Boxes,
         points: &Points,
-        written: &Marks,
         weights: &mut Weights,
         held: &mut Held,
+        path: &mut Path,
     ) -> Remaining
-        requires { ⌜ SomeLeaving self offer (lent (now nodes) (now cuts) (now copies) (now free) (now boxes)) (now points) (now written) (now weights) (now held) ⌝ }
-        ensures { λ r. ⌜ LeaveDone self offer (lent (now (nodes .entry)) (now (cuts .entry)) (now (copies .entry)) (now (free .entry)) (now (boxes .entry))) (now (points .entry)) (now (written .entry)) (now (weights .entry)) (now (held .entry)) r
+        requires { ⌜ SomeLeaving self offer (lent (now nodes) (now cuts) (now copies) (now free) (now boxes)) (now points) (now weights) (now held) ⌝ }
+        ensures { λ r. ⌜ LeaveDone self offer (lent (now (nodes .entry)) (now (cuts .entry)) (now (copies .entry)) (now (free .entry)) (now (boxes .entry))) (now (points .entry)) (now (weights .entry)) (now (held .entry)) r
             (lent (now (nodes .exit)) (now (cuts .exit)) (now (copies .exit)) (now (free .exit)) (now (boxes .exit))) (now (weights .exit)) (now (held .exit)) ⌝ }
     {
         if !is_evicting(offer) {
@@ -332,8 +333,8 @@ impl SamplerPlusTree {
             free,
             boxes,
             points,
-            written,
             gone,
+            path,
         );
         let sampler = evicted.sampler;
         let tree = SamplerPlusTree {
@@ -403,17 +404,17 @@ impl SamplerPlusTree {
         free: &mut Free,
         boxes: &mut Boxes,
         points: &Points,
-        written: &Marks,
         weights: &mut Weights,
         held: &mut Held,
         index: usize,
         weight: f32,
         words: &[u64],
     ) -> UpdateAnswer
-        requires { ⌜ SomeOffered self offer (lent (now nodes) (now cuts) (now copies) (now free) (now boxes)) (now points) (now written) (now weights) (now held) index weight (length (now words)) ⌝ }
-        ensures { λ r. ⌜ TakeDone self offer (lent (now (nodes .entry)) (now (cuts .entry)) (now (copies .entry)) (now (free .entry)) (now (boxes .entry))) (now (points .entry)) (now (written .entry)) (now (weights .entry)) (now (held .entry)) index weight (now (words .entry)) r
+        requires { ⌜ SomeOffered self offer (lent (now nodes) (now cuts) (now copies) (now free) (now boxes)) (now points) (now weights) (now held) index weight (length (now words)) ⌝ }
+        ensures { λ r. ⌜ TakeDone self offer (lent (now (nodes .entry)) (now (cuts .entry)) (now (copies .entry)) (now (free .entry)) (now (boxes .entry))) (now (points .entry)) (now (weights .entry)) (now (held .entry)) index weight (now (words .entry)) r
             (lent (now (nodes .exit)) (now (cuts .exit)) (now (copies .exit)) (now (free .exit)) (now (boxes .exit))) (now (weights .exit)) (now (held .exit)) ⌝ }
     {
+        let mut path = [[0u16; 2]; CAPACITY];
         let remaining = self.leave(
             offer,
             nodes,
@@ -422,11 +423,10 @@ impl SamplerPlusTree {
             free,
             boxes,
             points,
-            written,
             weights,
             held,
+            &mut path,
         );
-        let mut path = [[0u16; 2]; CAPACITY];
         let found = remaining.find(offer, nodes, cuts, points, index, &mut path);
         remaining.enter(
             offer,
@@ -477,7 +477,6 @@ impl SamplerPlusTree {
             free,
             boxes,
             points,
-            written,
             weights,
             held,
             index,

@@ -42,22 +42,22 @@ test-arrival-requires : tie.Need-test-arrival-requires
 test-arrival-requires c κs = omega (arith, c .before .before .at-most .ensures)
 
 leave-requires : tie.Need-leave-requires
-leave-requires c κs = let s = c .before .before .before .before .before .before .before .before .before .before .before .before .before .before .before .before .before in leaving (s .args .tree) _ _ _ _ _ _ _ _ _ (some-offered _ _ _ _ _ _ _ _ _ _ _ (c .before .before .before .before .before .before .before .test-arrival .ensures) (s .pre .1))
+leave-requires c κs = let s = c .before .before .before .before .before .before .before .before .before .before .before .before .before .before .before .before .before .before in leaving (s .args .tree) _ _ _ _ _ _ _ _ (some-offered _ _ _ _ _ _ _ _ _ _ _ (c .before .before .before .before .before .before .before .before .test-arrival .ensures) (s .pre .1))
 
 find-requires : tie.Need-find-requires
 find-requires c κs =
-    let s = c .before .before .before .before .before .before .before .before .before .before .before .before .before .before .before .before .before .before .before .before .before in
-    seeking (s .args .tree) _ _ _ _ _ _ _ _ _ (some-offered _ _ _ _ _ _ _ _ _ _ _ (c .before .before .before .before .before .before .before .before .before .before .before .test-arrival .ensures) (s .pre .1)) _ _ _ _ (c .before .before .before .leave .ensures)
+    let s = c .before .before .before .before .before .before .before .before .before .before .before .before .before .before .before .before .before .before .before .before .before .before in
+    seeking (s .args .tree) _ _ _ _ _ _ _ _ (some-offered _ _ _ _ _ _ _ _ _ _ _ (c .before .before .before .before .before .before .before .before .before .before .before .before .test-arrival .ensures) (s .pre .1)) _ _ _ _ (c .before .before .before .leave .ensures)
 
 at-most-requires-2 : tie.Need-at-most-requires-2
 at-most-requires-2 c κs = search needs
 
 add-read-words : tie.Need-add-read-words
-add-read-words c = let s = c .before .before .before .before .before .before .before .before .before .before .before .before .before .before .before .before .before .before .before .before .before .before .before in omega (arith, arrival-inside (s .args .run .now) _ (s .pre .0), s .good .1 .1 .1 .1 .1 .1 .1 .1 .1 .1 .0)
+add-read-words c = let s = c .before .before .before .before .before .before .before .before .before .before .before .before .before .before .before .before .before .before .before .before .before .before .before .before in omega (arith, arrival-inside (s .args .run .now) _ (s .pre .0), s .good .1 .1 .1 .1 .1 .1 .1 .1 .1 .1 .0)
 
 read-words-requires : tie.Need-read-words-requires
 read-words-requires c κs =
-    let r = c .before .before .before .before .before .before .before .before .before .before .before .before .before .before .before .before .before in
+    let r = c .before .before .before .before .before .before .before .before .before .before .before .before .before .before .before .before .before .before in
     let s = r .before .before .before .before .before .before .before in
     let few = c .before .at-most2 .ensures in
     let n = r .at-most .ensures in
@@ -66,15 +66,15 @@ read-words-requires c κs =
 enter-requires : tie.Need-enter-requires
 enter-requires c κs =
     let after = c .before .before .before .before .before .before .before .before .before .before .before .before .before .before .before .before .before in
-    let t = after .before .before .before .before .before .before .before .before in
+    let t = after .before .before .before .before .before .before .before .before .before in
     let r = t .before .before .before in
     let s = r .before .before .before .before .before .before .before in
-    (omega (arith, r .at-most .ensures), entering (s .args .tree) _ _ _ _ _ _ _ _ _ (some-offered _ _ _ _ _ _ _ _ _ _ _ (t .test-arrival .ensures) (s .pre .1)) _ _ _ _ (after .leave .ensures) _ _ _ (c .before .before .before .before .before .before .before .before .before .before .before .before .before .find .ensures))
+    (omega (arith, r .at-most .ensures), entering (s .args .tree) _ _ _ _ _ _ _ _ (some-offered _ _ _ _ _ _ _ _ _ _ _ (t .test-arrival .ensures) (s .pre .1)) _ _ _ _ (after .leave .ensures) _ _ _ (c .before .before .before .before .before .before .before .before .before .before .before .before .before .find .ensures))
 
 returns : tie.Need-returns
 returns c =
     let after = c .before .before .before .before .before .before .before .before .before .before .before .before .before .before .before .before .before .before in
-    let t = after .before .before .before .before .before .before .before .before in
+    let t = after .before .before .before .before .before .before .before .before .before in
     let r = t .before .before .before in
     let s = r .before .before .before .before .before .before .before in
     arrival-given (s .args .run .now) _ _ (lent (s .args .nodes .now) (s .args .cuts .now) (s .args .copies .now) (s .args .free .now) (s .args .boxes .now)) _ _ _ _ _ _ _ _ _ _ _ (r .before .before .before .before .before .number-at .ensures .0) (r .before .before .before .before .bits-at .ensures) (r .before .before .before .float-of .ensures) (r .before .before .double-at .ensures) (r .before .number-at2 .ensures .0) (r .at-most .ensures) (t .test-arrival .ensures) _ _ _ _ (after .leave .ensures) _ _ _ (c .before .before .before .before .before .before .before .before .before .before .before .before .before .before .find .ensures) _ (c .before .before .before .before .before .before .before .before .before .before .before .before .before .at-most2 .ensures) (s .args .words .now) _ (c .before .before .before .before .before .before .before .before .before .before .before .read-words .ensures) _ _ _ _ _ (c .enter .ensures .1)

@@ -1,11 +1,11 @@
 -- `add_leaf` meets its contract: the add is done, and never refused. Assumes nothing.
-use Rattle.samplerplustree.proofs.Leaves.{leaf-added, leaf-small, never-refused, seen-some}
+use Rattle.samplerplustree.proofs.Leaves.{leaf-added, leaf-small, never-refused, seen-room}
 use borrow.Author.Needs.{needs}
 use Rattle.samplerplustree.proofs.add_leaf.Statement.{statement}
 use Rattle.samplerplustree.proofs.add_leaf.Tie as tie
 
 add-found-requires : tie.Need-add-found-requires
-add-found-requires c κs = seen-some _ _ _ _ _ _ _ (c .before .before .before .before .before .before .pre)
+add-found-requires c κs = seen-room _ _ _ _ _ _ _ (c .before .before .before .before .before .before .pre)
 
 enum-known-next : tie.Need-enum-known-next
 enum-known-next c = search needs

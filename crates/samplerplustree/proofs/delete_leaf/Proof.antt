@@ -1,11 +1,15 @@
 -- `delete_leaf` meets its contract: the delete is done, and never refused. Assumes nothing.
-use Rattle.samplerplustree.proofs.Leaves.{leaf-deleted, always-held}
+use Rattle.randomcuttree.proofs.Calls.{seeks, some-seen}
+use Rattle.samplerplustree.proofs.Leaves.{copy-written, leaf-deleted, always-held}
 use borrow.Author.Needs.{needs}
 use Rattle.samplerplustree.proofs.delete_leaf.Statement.{statement}
 use Rattle.samplerplustree.proofs.delete_leaf.Tie as tie
 
-delete-requires : tie.Need-delete-requires
-delete-requires c κs = search needs
+find-requires : tie.Need-find-requires
+find-requires c κs = let q = c .before .before .before .pre in seeks (q .state) (copy-written q .1)
+
+delete-found-requires : tie.Need-delete-found-requires
+delete-found-requires c κs = let q = c .before .before .before .before .before .before .before .before .before .before .pre in some-seen (q .state) (copy-written q .1) (c .before .before .before .before .before .before .find .ensures)
 
 enum-known-next : tie.Need-enum-known-next
 enum-known-next c = search needs
@@ -14,10 +18,12 @@ enum-told : tie.Need-enum-told
 enum-told c = search needs
 
 returns : tie.Need-returns
-returns c = leaf-deleted _ _ _ _ (c .before .before .before .before .before .before .before .before .before .args .index) _ _ (c .before .before .before .delete .ensures) _ _ (c .before .next .given .1)
+returns c = leaf-deleted _ _ _ (c .before .before .before .before .before .before .before .before .before .before .before .before .before .before .args .index) _ _ (c .before .before .before .delete-found .ensures) (c .before .before .before .before .before .before .before .before .before .before .before .before .before .before .pre) _ _ (c .before .next .given .1)
 
 returns-2 : tie.Need-returns-2
-returns-2 c = absurd (always-held _ _ _ _ (c .before .before .before .before .before .before .before .before .args .index) _ _ (c .before .before .delete .ensures) (c .before .before .before .before .before .before .before .before .pre) _ (c .enum-told .given .1))
+returns-2 c = absurd (always-held _ _ _ (c .before .before .before .before .before .before .before .before .before .before .before .before .before .args .index) _ _ (c .before .before .delete-found .ensures) (c .before .before .before .before .before .before .before .before .before .before .before .before .before .pre) _ (c .enum-told .given .1))
 
 pub delete-leaf-spec : {M : Type 1} → statement M
-delete-leaf-spec = tie.close (tie.spec delete-requires enum-known-next enum-told returns returns-2)
+delete-leaf-spec =
+    tie.close
+    (tie.spec find-requires delete-found-requires enum-known-next enum-told returns returns-2)

@@ -1,6 +1,6 @@
 -- `add` meets its contract: each refusal before a walk, the walk, and what is added by it. Assumes nothing.
-use Rattle.randomcuttree.proofs.Calls.{is-written}
-use Rattle.randomcuttree.proofs.Adds.{above, blank, at-limit, seeks, seen-there}
+use Rattle.randomcuttree.proofs.Calls.{is-written, seeks, some-seen}
+use Rattle.randomcuttree.proofs.Adds.{above, blank, at-limit}
 use borrow.Author.Needs.{needs}
 use Rattle.randomcuttree.proofs.RCFTree.add.Statement.{statement}
 use Rattle.randomcuttree.proofs.RCFTree.add.Tie as tie
@@ -18,23 +18,12 @@ returns-3 : tie.Need-returns-3
 returns-3 c = λ d e s W H. at-limit H _ (is-written H _ (c .before .before .before .before .if1 .left) (c .before .before .if2 .left) .1) _ (c .if3 .taken)
 
 find-requires : tie.Need-find-requires
-find-requires c κs = let q = c .before .before .before .before .before .before .before .before .before .pre in seeks (q .state) _ (is-written (q .state) _ (c .before .before .before .before .before .before .before .if1 .left) (c .before .before .before .before .before .if2 .left) .1)
+find-requires c κs = let q = c .before .before .before .before .before .before .before .before .before .pre in seeks (q .state) (is-written (q .state) _ (c .before .before .before .before .before .before .before .if1 .left) (c .before .before .before .before .before .if2 .left) .1)
 
 add-found-requires : tie.Need-add-found-requires
 add-found-requires c κs =
     let q = c .before .before .before .before .before .before .before .before .before .before .before .before .before .before .before .before .pre in
-    record {
-      channels = q .channels;
-      capacity = q .capacity;
-      share = q .share;
-      world = q .world;
-      marks = _;
-      point = _;
-      state = q .state;
-      is-written = is-written (q .state) _ (c .before .before .before .before .before .before .before .before .before .before .before .before .before .before .if1 .left) (c .before .before .before .before .before .before .before .before .before .before .before .before .if2 .left) .1;
-      room = c .before .before .before .before .before .before .before .before .before .before .if3 .left;
-      seen = seen-there (c .before .before .before .before .before .before .find .ensures);
-    }
+    (some-seen (q .state) (is-written (q .state) _ (c .before .before .before .before .before .before .before .before .before .before .before .before .before .before .if1 .left) (c .before .before .before .before .before .before .before .before .before .before .before .before .if2 .left) .1) (c .before .before .before .before .before .before .find .ensures), c .before .before .before .before .before .before .before .before .before .before .if3 .left)
 
 returns-4 : tie.Need-returns-4
 returns-4 c = λ d e s W H. c .add-found .ensures d e s W _ _ H (is-written H _ (c .before .before .before .before .before .before .before .before .before .before .before .before .before .before .before .if1 .left) (c .before .before .before .before .before .before .before .before .before .before .before .before .before .if2 .left) .1)

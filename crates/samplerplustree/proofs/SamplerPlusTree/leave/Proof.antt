@@ -10,19 +10,19 @@ is-evicting-requires : tie.Need-is-evicting-requires
 is-evicting-requires c κs = search needs
 
 returns : tie.Need-returns
-returns c = none-leaves (c .before .before .args .self) _ _ _ _ _ _ (sym (c .before .is-evicting .ensures) ∙ not-true _ (c .if1 .taken))
+returns c = none-leaves (c .before .before .args .self) _ _ _ _ _ (sym (c .before .is-evicting .ensures) ∙ not-true _ (c .if1 .taken))
 
 evict-max-requires : tie.Need-evict-max-requires
-evict-max-requires c κs = let q = c .before .before .before .before in evict-some (q .args .self) _ _ _ (q .args .weights .now) (q .args .held .now) _ (sym (c .before .before .before .is-evicting .ensures) ∙ not-false _ (c .before .before .if1 .left)) (q .pre)
+evict-max-requires c κs = let q = c .before .before .before .before in evict-some (q .args .self) _ _ (q .args .weights .now) (q .args .held .now) _ (sym (c .before .before .before .is-evicting .ensures) ∙ not-false _ (c .before .before .if1 .left)) (q .pre)
 
 wide16-requires : tie.Need-wide16-requires
 wide16-requires c κs = search needs
 
 delete-leaf-requires : tie.Need-delete-leaf-requires
-delete-leaf-requires c κs = let q = c .before .before .before .before .before .before .before .before .before .before .before in evict-copy (q .args .self) _ _ _ (q .args .weights .now) (q .args .held .now) _ (c .before .before .before .before .before .before .evict-max .ensures .0) _ (c .before .before .before .before .before .wide16 .ensures .0) _ (sym (c .before .before .before .before .before .before .before .before .before .before .is-evicting .ensures) ∙ not-false _ (c .before .before .before .before .before .before .before .before .before .if1 .left)) (q .pre)
+delete-leaf-requires c κs = let q = c .before .before .before .before .before .before .before .before .before .before .before .before in evict-copy (q .args .self) _ _ (q .args .weights .now) (q .args .held .now) _ (c .before .before .before .before .before .before .before .evict-max .ensures .0) _ (c .before .before .before .before .before .before .wide16 .ensures .0) _ (sym (c .before .before .before .before .before .before .before .before .before .before .before .is-evicting .ensures) ∙ not-false _ (c .before .before .before .before .before .before .before .before .before .before .if1 .left)) (q .pre)
 
 returns-2 : tie.Need-returns-2
-returns-2 c = let q = c .before .before .before .before .before .before .before .before .before .before .before .before .before in evict-done (q .args .self) _ _ _ (q .args .weights .now) (q .args .held .now) _ (c .before .before .before .before .before .before .before .before .evict-max .ensures .0) _ (c .before .before .before .before .before .before .before .wide16 .ensures .0) _ (sym (c .before .before .before .before .before .before .before .before .before .before .before .before .is-evicting .ensures) ∙ not-false _ (c .before .before .before .before .before .before .before .before .before .before .before .if1 .left)) (q .pre) _ _ _ _ (c .before .before .before .before .before .before .before .before .evict-max .ensures .1) (c .before .delete-leaf .ensures)
+returns-2 c = let q = c .before .before .before .before .before .before .before .before .before .before .before .before .before .before in evict-done (q .args .self) _ _ (q .args .weights .now) (q .args .held .now) _ (c .before .before .before .before .before .before .before .before .before .evict-max .ensures .0) _ (c .before .before .before .before .before .before .before .before .wide16 .ensures .0) _ (sym (c .before .before .before .before .before .before .before .before .before .before .before .before .before .is-evicting .ensures) ∙ not-false _ (c .before .before .before .before .before .before .before .before .before .before .before .before .if1 .left)) (q .pre) _ _ _ _ (c .before .before .before .before .before .before .before .before .before .evict-max .ensures .1) (c .before .delete-leaf .ensures)
 
 pub leave-spec : {M : Type 1} → statement M
 leave-spec =
