@@ -2,10 +2,10 @@
 use answers::REPLY;
 use answers::Reply;
 use archiverow::Line;
-use calls::COORDINATES;
-use calls::Coordinates;
 use limits::Boxes;
 use limits::CAPACITY;
+use limits::COORDINATES;
+use limits::Coordinates;
 use limits::Copies;
 use limits::Cuts;
 use limits::Free;

@@ -1,7 +1,6 @@
 // An arrival of a sampled tree with what it is given in arrays of fixed size, carried out on the lent state, its answer as numbers; and the sample as numbers.
 use answers::REPLY;
 use answers::Reply;
-use calls::Words;
 use limits::Boxes;
 use limits::CAPACITY;
 use limits::Copies;
@@ -13,6 +12,7 @@ use limits::Nodes;
 use limits::Path;
 use limits::Points;
 use limits::Weights;
+use limits::Words;
 use samplerplustree::Offer;
 use samplerplustree::Remaining;
 use samplerplustree::SamplerPlusTree;

@@ -1,14 +1,14 @@
 // The calls of a tree with what they are given in arrays of fixed size: each carried out on the lent state, and its answer as numbers.
 use answers::Reply;
 use limits::Boxes;
-use limits::CAPACITY;
-use limits::CHANNELS;
+use limits::Coordinates;
 use limits::Copies;
 use limits::Cuts;
 use limits::Free;
 use limits::Marks;
 use limits::Nodes;
 use limits::Points;
+use limits::Words;
 use pointstore::PutAnswer;
 use randomcuttree::AddAnswer;
 use randomcuttree::DeleteAnswer;
@@ -26,14 +26,6 @@ ghost use Rattle.randomcuttree.specs.State.{SomeState};
 ghost use Rattle.randomcuttree.specs.Answers.{AddDone, headerAdded, headerDeleted};
 ghost use Rattle.randomcuttree.specs.Queries.{BoxRead, SomeBoxRead};
 ghost use Rattle.calls.specs.Done.{PutRead, Does, queryOf};
-
-// As many coordinates of a given list as are looked at: one more than any tree has.
-pub const COORDINATES: usize = CHANNELS + 1;
-
-pub type Coordinates = [f32; COORDINATES];
-
-// As many words as are looked at: no walk takes more.
-pub type Words = [u64; CAPACITY];
 
 // The put of the first n coordinates.
 fn put_first(

@@ -12,7 +12,7 @@ use Rattle.cuttree.specs.Setting.{Setting, Laws, Cut, below}
 use Rattle.cuttree.specs.Tree.{Tree, leaf, branch, is, id, Leaf, ending, found, sum, All, Some, CutClause}
 use Rattle.cuttree.specs.Run.{look, orElse}
 use Rattle.cuttree.specs.Sound.{Sound}
-use Rattle.cuttree.proofs.Tests.{by-cond, by-test, nonsense}
+use Rattle.cuttree.proofs.Tests.{by-cond, by-test, at-most-one, nonsense}
 use Rattle.cuttree.proofs.Cuts.{sum-found}
 use Rattle.cuttree.proofs.Intervals.{is-same, is-other}
 
@@ -106,9 +106,6 @@ module _ (S : Setting) (capacity : ℕ) where
   nodes-split (branch b k g l r) x = by-test (ltb x capacity)
       (λ e. let y = rw e at (nodes-split l x) in let z = rw e at (nodes-split r x) in rw e (omega (arith, y, z)))
       (λ e. let y = rw e at (nodes-split l x) in let z = rw e at (nodes-split r x) in rw e (omega (arith, y, z)))
-
-  at-most-one : (b : Bool) → cond {A = ℕ} b 1 0 ≤ 1
-  at-most-one b = by-cond (λ x. x ≤ 1) b _ _ (λ _. omega arith) (λ _. omega arith)
 
   module _ (L : Laws S) where
     -- the leaves of an index have the value that the table has there, and that value has one leaf

@@ -1,7 +1,7 @@
 -- Cases on a test, and laws of tests.
 use mathlib.Core.Path.{_≡_, refl}
 use mathlib.Core.Bool.{Bool, true, false, cond, not, _&&_, _||_}
-use Prim.Native.Nat.{ℕ}
+use Prim.Native.Nat.{ℕ, _≤_}
 use native.Mathlib.Omega.{arith}
 -- a case for each answer of a test
 pub use borrow.Table.Steps.{cases as by-test}
@@ -22,6 +22,9 @@ cond-true b x y e = rw e
 
 pub cond-false : {A : Type 0} (b : Bool) (x y : A) → b ≡ false → cond b x y ≡ y
 cond-false b x y e = rw e
+
+pub at-most-one : (b : Bool) → cond {A = ℕ} b 1 0 ≤ 1
+at-most-one b = by-cond (λ x. x ≤ 1) b _ _ (λ _. omega arith) (λ _. omega arith)
 
 -- the test of a parting cut, by its two cases
 pub by-parts : {P : Type 0} (a b c : Bool) → (a && not b) || (c && not a) ≡ true → (a ≡ true → b ≡ false → P) → (a ≡ false → c ≡ true → P) → P

@@ -44,3 +44,11 @@ pub type Path = [[u16; 2]; CAPACITY];
 pub type Weights = [f32; CAPACITY];
 
 pub type Held = [u16; CAPACITY];
+
+// As many coordinates of a given list as are looked at: one more than any tree has, which is one too many.
+pub const COORDINATES: usize = CHANNELS + 1;
+
+pub type Coordinates = [f32; COORDINATES];
+
+// As many words as are looked at: no walk takes more.
+pub type Words = [u64; CAPACITY];

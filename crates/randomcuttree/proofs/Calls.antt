@@ -1,6 +1,5 @@
 -- From a state to what the functions of one walk are told, and from what they leave to the state after a call. Assumes nothing.
 use mathlib.Core.Path.{_≡_, refl, sym, ap, _∙_, subst}
-use mathlib.Core.Bool.{Bool, true, false, cond}
 use mathlib.Core.Option.{Option, none, some}
 use mathlib.Core.List.{List, []}
 use Prim.Native.Nat.{ℕ, _-_, _≤_, _<_}
@@ -11,6 +10,7 @@ use lib.Ieee.{Float}
 use Rattle.limits.specs.Limits.{pointLimit}
 use Rattle.cuttree.specs.Tree.{Tree}
 use Rattle.cuttree.specs.Run.{World, Answer, totalOf}
+use Rattle.cuttree.proofs.Tests.{at-most-one}
 use Rattle.cuttree.proofs.Freed.{freed-used, freed-below}
 use Rattle.cuttree.proofs.Leaves.{leaves-total, leaves-branches}
 use Rattle.wholetree.specs.Reading.{Reading}
@@ -28,10 +28,6 @@ use Rattle.randomcuttree.specs.Answers.{Called}
 use Rattle.randomcuttree.specs.Finds.{Seeks, Sees, SomeSeen}
 use Rattle.randomcuttree.proofs.Parts.{cached-few, total-is}
 use Rattle.randomcuttree.proofs.Given.{sound, once, narrow, point-at, leaves-stand, stored, walks, boxed}
-
-at-most-one : (b : Bool) → cond {A = ℕ} b 1 0 ≤ 1
-at-most-one true = omega arith
-at-most-one false = omega arith
 
 -- what was found, of the path as it is left
 pub seen-there : {tree : RCFTree} {nodes : List (List ℕ)} {cuts : List Float} {points : List (List Float)} {i : ℕ} {before path : List (List ℕ)} {f : Found} → Sees tree nodes cuts points i before f path → Sees tree nodes cuts points i path f path

@@ -1,9 +1,9 @@
 // One op row of treelist's text, carried out on the lent state.
 use answers::Reply;
-use calls::COORDINATES;
 use form::Row;
 use limits::Boxes;
 use limits::CAPACITY;
+use limits::COORDINATES;
 use limits::Copies;
 use limits::Cuts;
 use limits::Free;

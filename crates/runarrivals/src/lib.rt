@@ -1,6 +1,5 @@
 // The arrival of a byte run (docs/LAYOUT.md): read from its place in the run and carried out on the lent state, with its answer as numbers.
 use answers::Reply;
-use calls::Words;
 use limits::Boxes;
 use limits::CAPACITY;
 use limits::Copies;
@@ -12,6 +11,7 @@ use limits::Nodes;
 use limits::Path;
 use limits::Points;
 use limits::Weights;
+use limits::Words;
 use samplerplustree::SamplerPlusTree;
 ghost use mathlib.Core.Path.{_≡_};
 ghost use mathlib.Core.Bool.{true};

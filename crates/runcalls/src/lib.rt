@@ -1,15 +1,15 @@
 // The calls of a byte run (docs/LAYOUT.md): each read from its place in the run and carried out on the lent state, with its answer as numbers.
 use answers::Reply;
-use calls::COORDINATES;
-use calls::Words;
 use limits::Boxes;
 use limits::CAPACITY;
+use limits::COORDINATES;
 use limits::Copies;
 use limits::Cuts;
 use limits::Free;
 use limits::Marks;
 use limits::Nodes;
 use limits::Points;
+use limits::Words;
 use randomcuttree::RCFTree;
 ghost use mathlib.Core.Path.{_≡_};
 ghost use mathlib.Core.Bool.{true};

@@ -1,6 +1,7 @@
 // What a call of a byte run brings (docs/LAYOUT.md): its coordinates, and its words.
-use limits::CAPACITY;
-use limits::CHANNELS;
+use limits::COORDINATES;
+use limits::Coordinates;
+use limits::Words;
 ghost use mathlib.Core.Path.{_≡_};
 ghost use Prim.Native.Nat.{ℕ, _+_, _*_, _≤_};
 ghost use lib.ListN.{length, take, replicate};
@@ -13,12 +14,12 @@ ghost use Rattle.runlayout.specs.Layout.{size, number, double};
 
 // n coordinates from a place on, and +0.0 after them.
 // Rules out a coordinate read from the place before, and one turned into another float by its bits.
-pub fn coordinates_at(run: &[u8], from: usize, n: usize) -> [f32; CHANNELS + 1]
+pub fn coordinates_at(run: &[u8], from: usize, n: usize) -> Coordinates
     requires { ⌜ (n ≤ (width + 1)) × (from + n ≤ size (now run)) ⌝ }
     ensures all { λ r. ⌜ r ≡ sets (replicate (width + 1) nought) 0 (tab n (λ (i : ℕ). ofBits binary32 (number (now (run .entry)) (from + i)))) ⌝ }
     ensures first { λ r. ⌜ take n r ≡ tab n (λ (i : ℕ). ofBits binary32 (number (now (run .entry)) (from + i))) ⌝ }
 {
-    let mut coordinates = [0.0f32; CHANNELS + 1];
+    let mut coordinates = [0.0f32; COORDINATES];
     let mut i: usize = 0;
     while i < n {
         coordinates[i] = little::float_of(runlayout::bits_at(run, from + i));
@@ -41,7 +42,7 @@ fn fill_words(run: &[u8], from: usize, n: usize, words: &mut [u64])
 
 // The same in the room lent for words. A walk takes no more words than a tree has leaves.
 // Rules out the halves of a word read in turn, and lent words beyond those read written.
-pub fn read_words(run: &[u8], from: usize, n: usize, words: &mut [u64; CAPACITY])
+pub fn read_words(run: &[u8], from: usize, n: usize, words: &mut Words)
     requires { ⌜ (n ≤ capacityLimit) × (from + 2 * n ≤ size (now run)) ⌝ }
     ensures all { λ _. ⌜ now (words .exit) ≡ sets (now (words .entry)) 0 (tab n (λ (i : ℕ). double (now (run .entry)) (from + 2 * i))) ⌝ }
     ensures first { λ _. ⌜ take n (now (words .exit)) ≡ tab n (λ (i : ℕ). double (now (run .entry)) (from + 2 * i)) ⌝ }

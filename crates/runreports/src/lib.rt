@@ -1,7 +1,7 @@
 // A report of a byte run (docs/LAYOUT.md): read from its place, carried out on the lent state, and its answer's numbers written to the lent bytes.
 use limits::Boxes;
 use limits::CAPACITY;
-use limits::CHANNELS;
+use limits::COORDINATES;
 use limits::Copies;
 use limits::Cuts;
 use limits::Nodes;
@@ -151,7 +151,7 @@ pub fn report_at(
     ensures { λ _. ⌜ ReportAt tree (now (nodes .entry)) (now (cuts .entry)) (now (copies .entry)) (now (points .entry)) (now (boxes .entry)) (now (run .entry)) p out (now (answers .entry)) (now (rows .entry)) (now (answers .exit)) (now (rows .exit)) ⌝ }
 {
     let n = runlayout::number_at(run, p + 1);
-    let k = casts::at_most(runlayout::number_at(run, p + 2), CHANNELS + 1);
+    let k = casts::at_most(runlayout::number_at(run, p + 2), COORDINATES);
     let coordinates = rungiven::coordinates_at(run, p + 3, k);
     let answer = report_first(
         tree,

@@ -1,6 +1,5 @@
 // A call of a byte run (docs/LAYOUT.md), on a bare or a sampled tree: carried out on the lent state, its answer written to the lent bytes.
 use answers::Reply;
-use calls::Words;
 use limits::Boxes;
 use limits::Copies;
 use limits::Cuts;
@@ -11,6 +10,7 @@ use limits::Nodes;
 use limits::Path;
 use limits::Points;
 use limits::Weights;
+use limits::Words;
 use nodeview::Chances;
 use runreports::Rows;
 use samplerplustree::SamplerPlusTree;

@@ -18,9 +18,6 @@ add-number-at-2 c = search needs
 number-at-requires-2 : tie.Need-number-at-requires-2
 number-at-requires-2 c κs = search needs
 
-add-at-most : tie.Need-add-at-most
-add-at-most c = search needs
-
 at-most-requires : tie.Need-at-most-requires
 at-most-requires c κs = search needs
 
@@ -68,7 +65,6 @@ report-at-spec =
     number-at-requires
     add-number-at-2
     number-at-requires-2
-    add-at-most
     at-most-requires
     add-coordinates-at
     coordinates-at-requires
