@@ -1,9 +1,11 @@
-//! An archive in form: its making and its op rows, the bytes they are written as, and the calls they
-//! stand for.
+//! The archives of `regrow`: their making and their op rows, as they are written, and the calls they stand
+//! for.
 use runs::Call;
-use texts::{coordinate_bits, joined, OP_NAMES};
+use texts::{coordinate_bits, coordinate_fields, share, word_fields};
+use texts::{Head, InForm, OpRow};
 
-pub const MAKING_NAMES: &str = "dimensions capacity cache16 initial16";
+/// An archive in form.
+pub type Archive = InForm<Making, Row>;
 
 /// The making's numbers, in range or not.
 #[derive(Clone, Copy, Debug, PartialEq)]
@@ -34,28 +36,42 @@ pub enum Row {
     },
 }
 
-#[derive(Clone, Debug, PartialEq)]
-pub struct Archive {
-    pub making: Making,
-    pub rows: Vec<Row>,
+impl Head for Making {
+    const NAMES: &'static str = "dimensions capacity cache16 initial16";
+
+    fn numbers(&self) -> Vec<u32> {
+        vec![self.dimensions, self.capacity, self.cache16, self.initial16]
+    }
 }
 
 impl Making {
-    /// Shares are exact: a number of nine digits and its sixteenth are f64 numbers.
     pub fn of_tree(&self) -> runs::Making {
-        let share = |sixteenths: u32| f64::from(sixteenths) / 16.0;
         let (cached, initial) = (share(self.cache16), share(self.initial16));
         runs::Making::sampled(self.dimensions, self.capacity, cached, initial)
     }
+}
 
+impl OpRow for Row {
     fn line(&self) -> String {
-        let Making {
-            dimensions,
-            capacity,
-            cache16,
-            initial16,
-        } = self;
-        format!("{dimensions} {capacity} {cache16} {initial16}")
+        match self {
+            Row::Put { index, coordinates } => {
+                format!("0 {index}{}", coordinate_fields(coordinates))
+            }
+            Row::Arrival {
+                index,
+                weight,
+                start,
+                words,
+            } => format!("3 {index} {weight:08X} {start:016X}{}", word_fields(words)),
+            Row::Report { coordinates } => format!("4 -{}", coordinate_fields(coordinates)),
+        }
+    }
+
+    fn index(&self) -> Option<u32> {
+        match self {
+            Row::Put { index, .. } | Row::Arrival { index, .. } => Some(*index),
+            Row::Report { .. } => None,
+        }
     }
 }
 
@@ -86,47 +102,5 @@ impl Row {
                 }
             }
         }
-    }
-
-    /// The row as it is written, without its line feed.
-    pub fn line(&self) -> String {
-        match self {
-            Row::Put { index, coordinates } => format!("0 {index}{}", spaced(coordinates)),
-            Row::Arrival {
-                index,
-                weight,
-                start,
-                words,
-            } => {
-                let words: String = words.iter().map(|word| format!(" {word:016X}")).collect();
-                format!("3 {index} {weight:08X} {start:016X}{words}")
-            }
-            Row::Report { coordinates } => format!("4 -{}", spaced(coordinates)),
-        }
-    }
-}
-
-fn spaced(coordinates: &[i32]) -> String {
-    coordinates.iter().map(|x| format!(" {x}")).collect()
-}
-
-impl Archive {
-    /// All lines, without their line feeds: names, making, names, op rows.
-    pub fn lines(&self) -> Vec<Vec<u8>> {
-        let before = [
-            MAKING_NAMES.to_string(),
-            self.making.line(),
-            OP_NAMES.to_string(),
-        ];
-        let rows = self.rows.iter().map(Row::line);
-        before
-            .into_iter()
-            .chain(rows)
-            .map(String::into_bytes)
-            .collect()
-    }
-
-    pub fn bytes(&self) -> Vec<u8> {
-        joined(&self.lines())
     }
 }

@@ -1,10 +1,11 @@
 //! The same calls as a byte run, with questions after them that tell sample and tree; and what must be
 //! printed, told by the answer bytes of that run and nothing else.
-use crate::printed::{answered, kept, refused, End, Grown};
+use crate::printed::{answered, kept, End, Grown};
 use oracle::Table;
 use runs::{Answer, Call, Making, Run};
 use std::collections::{BTreeMap, BTreeSet};
 use std::fmt::Write;
+use texts::{refused, OUT_OF_FORM};
 
 /// A run that asks what an archive's calls come to.
 pub struct Asked {
@@ -73,7 +74,7 @@ impl Asked {
         let (of_rows, of_end) = answers.split_at(self.rows);
         let rows = answered(&self.run.calls[..self.rows], of_rows);
         let end = match self.bad {
-            Some(row) => refused(17, row),
+            Some(row) => refused(OUT_OF_FORM, row),
             None => self.end(of_end)?,
         };
         Some((rows + &end).into_bytes())

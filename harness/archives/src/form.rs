@@ -1,8 +1,8 @@
 //! Reads an archive line by line, as a program must that keeps no more than one: a row that is out of
 //! form ends the reading, and those before it stand.
-use crate::archive::{Archive, Making, Row, MAKING_NAMES};
-use texts::form::{coordinate, exactly, fields, hexadecimal, number, word};
-use texts::OP_NAMES;
+use crate::archive::{Archive, Making, Row};
+use texts::form::{coordinate, exactly, fields, hexadecimal, names, number, numbers, word};
+use texts::{Head, OP_NAMES};
 
 /// No row is longer, its line feed not counted.
 pub const MOST_BYTES: usize = 8_191;
@@ -16,12 +16,25 @@ pub struct Read {
     pub bad: Option<usize>,
 }
 
+impl Read {
+    /// The archive, or its first bad row.
+    pub fn whole(self) -> Result<Archive, usize> {
+        self.bad.map_or(Ok(self.archive), Err)
+    }
+}
+
 /// How the bytes read; `None` where one of the first three lines is out of form or missing.
 pub fn read(bytes: &[u8]) -> Option<Read> {
     let mut rest = bytes;
-    names(line(&mut rest)?, MAKING_NAMES)?;
-    let making = making(line(&mut rest)?)?;
-    names(line(&mut rest)?, OP_NAMES)?;
+    names(&mut line(&mut rest)?, Making::NAMES)?;
+    let [dimensions, capacity, cache16, initial16] = numbers(&mut line(&mut rest)?)?;
+    let making = Making {
+        dimensions,
+        capacity,
+        cache16,
+        initial16,
+    };
+    names(&mut line(&mut rest)?, OP_NAMES)?;
     let (mut rows, mut bad) = (Vec::new(), None);
     while !rest.is_empty() && bad.is_none() {
         match line(&mut rest).and_then(row) {
@@ -39,29 +52,6 @@ fn line<'a>(rest: &mut &'a [u8]) -> Option<&'a [u8]> {
     let (line, after) = rest.split_at(end + 1);
     *rest = after;
     (end <= MOST_BYTES).then_some(line)
-}
-
-fn names(mut line: &[u8], names: &str) -> Option<()> {
-    exactly(&mut line, names)?;
-    exactly(&mut line, "\n")
-}
-
-fn making(mut line: &[u8]) -> Option<Making> {
-    let rest = &mut line;
-    let dimensions = number(rest)?;
-    exactly(rest, " ")?;
-    let capacity = number(rest)?;
-    exactly(rest, " ")?;
-    let cache16 = number(rest)?;
-    exactly(rest, " ")?;
-    let initial16 = number(rest)?;
-    exactly(rest, "\n")?;
-    Some(Making {
-        dimensions,
-        capacity,
-        cache16,
-        initial16,
-    })
 }
 
 fn row(mut line: &[u8]) -> Option<Row> {

@@ -8,5 +8,5 @@ pub mod form;
 pub mod generate;
 mod printed;
 
-pub use archive::{Archive, Making, Row, MAKING_NAMES};
+pub use archive::{Archive, Making, Row};
 pub use printed::{outcome, printed, End, Grown, Outcome};

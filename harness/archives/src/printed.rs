@@ -4,9 +4,7 @@ use crate::form;
 use crate::form::Read;
 use runs::{Answer, Call, Driver, Making, ROW_NUMBERS};
 use std::fmt::Write;
-
-/// The refusal of what is out of form.
-const OUT_OF_FORM: u32 = 17;
+use texts::{refused, OUT_OF_FORM};
 
 /// What an archive comes to.
 #[derive(Clone, Debug, PartialEq)]
@@ -123,10 +121,6 @@ impl Outcome {
             }
         }
     }
-}
-
-pub(crate) fn refused(refusal: u32, row: usize) -> String {
-    format!("refused {refusal} {row}\n")
 }
 
 /// The lines of the rows, by the numbers of their answers. What is no answer, be it only by a number that should be

@@ -4,7 +4,7 @@ use crate::adds::Grown;
 use crate::readings::{bits, reading};
 use crate::workload::Workload;
 use crate::{Shape, SEED};
-use oracle::rcflib::samplerplustree::nodeview::{SmallNodeView, UpdatableNodeView};
+use oracle::rcflib::samplerplustree::nodeview::SmallNodeView;
 use oracle::rcflib::samplerplustree::randomcuttree::Traversable;
 use oracle::rcflib::visitor::visitor::{Visitor, VisitorInfo};
 use oracle::{report, Result, Row, Table, Tree, Words};
@@ -33,12 +33,7 @@ impl Pushing {
 
     #[inline]
     fn push(&mut self, view: &SmallNodeView) -> Result<()> {
-        self.0.push(Row {
-            id: UpdatableNodeView::<u64, u64>::current_node(view),
-            depth: view.depth(),
-            mass: view.mass(),
-            probability: view.probability_of_cut(),
-        });
+        self.0.push(Row::shown(view));
         Ok(())
     }
 }

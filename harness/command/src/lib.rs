@@ -1,15 +1,23 @@
 //! What the comparing programs share: how they are asked, how much they have to compare, what they
-//! say of faults made on purpose, and a compared program run on a text.
+//! say of faults made on purpose, and how a program is compared text by text.
 #![forbid(unsafe_code)]
 
+mod compared;
 mod difference;
 mod program;
+mod spoiled;
+mod tally;
 
+pub use compared::{given, write, Compared, Judge};
 pub use difference::difference;
 pub use program::{Pieces, Printed, Program};
+pub use tally::Tally;
 
 use std::fmt::Debug;
 use std::process::ExitCode;
+
+/// The seed where none is given.
+pub const SEED: u64 = 20;
 
 /// Hands the arguments on; an error is said in the program's name and ends it with a failure.
 pub fn main(name: &str, ask: fn(&[&str]) -> Result<(), String>) -> ExitCode {
@@ -41,11 +49,44 @@ pub fn reached(compared: usize, least: usize, inputs: &str) -> Result<(), String
     }
 }
 
+/// An error if the branch of the Rust that is seeded with 17 was reached, or if anything differs.
+pub fn all_equal(differing: usize, otherwise: &str) -> Result<(), String> {
+    if oracle::feed::seed17_draws() > 0 {
+        return Err("the branch seeded with 17 was reached".into());
+    }
+    match differing {
+        0 => Ok(()),
+        _ => Err(otherwise.into()),
+    }
+}
+
 /// In how many inputs a fault was made, and in how many of those the comparison saw it.
 #[derive(Clone, Copy, Default)]
 pub struct Tries {
     pub made: usize,
     pub noticed: usize,
+}
+
+impl Tries {
+    /// Tries a fault in one of so many inputs after another, until it was made in enough of them. `noticed` says of
+    /// an input, by its number, whether the fault was noticed in it; nothing where it can't be made.
+    pub fn of(
+        inputs: usize,
+        enough: usize,
+        noticed: impl FnMut(usize) -> Result<Option<bool>, String>,
+    ) -> Result<Self, String> {
+        let mut tries = Tries::default();
+        for noticed in (0..inputs).map(noticed) {
+            if let Some(noticed) = noticed? {
+                tries.made += 1;
+                tries.noticed += usize::from(noticed);
+            }
+            if tries.made == enough {
+                break;
+            }
+        }
+        Ok(tries)
+    }
 }
 
 /// How often a fault that was made has to be noticed.

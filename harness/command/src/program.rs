@@ -40,10 +40,11 @@ impl Printed {
 }
 
 impl Program {
-    /// The file that the variable names, or else the program of that name below the project's root.
-    pub fn find(variable: &str, name: &str) -> Result<Self, String> {
+    /// The file that the variable of that name in capitals names, or else the program of that name below the
+    /// project's root.
+    pub fn find(name: &str) -> Result<Self, String> {
         let built = PathBuf::from(env!("CARGO_MANIFEST_DIR")).join("../../target/bin");
-        let path = match std::env::var_os(variable) {
+        let path = match std::env::var_os(name.to_uppercase()) {
             Some(path) => PathBuf::from(path),
             None => built.join(name),
         };

@@ -41,7 +41,7 @@ impl Source {
 
     /// Runs of each kind have rooms of each size in turn.
     pub fn draw(&self, number: usize) -> Inputs {
-        let mut words = self.words(number);
+        let mut words = Words::nth(self.seed, number);
         let written = match self.first.get(number) {
             Some(written) => written.clone(),
             None => kind(number / ROOMS)(&mut words, room(number)),
@@ -51,15 +51,9 @@ impl Source {
 
     /// Inputs with a short run.
     pub fn draw_short(&self, number: usize) -> Inputs {
-        let mut words = self.words(number);
+        let mut words = Words::nth(self.seed, number);
         let written = kind(number)(&mut words, SHORT);
         inputs(number, written, &mut words)
-    }
-
-    /// A generator for each number, so that each can be drawn without those before it.
-    fn words(&self, number: usize) -> Words {
-        let mut of_seed = Words::new(self.seed);
-        Words::new(of_seed.word() ^ number as u64)
     }
 }
 

@@ -2,6 +2,7 @@
 use crate::difference::{self, Difference};
 use crate::inputs::Inputs;
 use crate::tally::{Least, Tally};
+use command::all_equal;
 use port::{Called, Lending};
 use runs::{bytes_of, check, outcome, page, Checked, Outcome, MOST_LENT};
 
@@ -132,14 +133,10 @@ impl<A: Answers> Judge<A> {
     }
 
     /// The counts, and an error if anything differs or less was compared than has to be.
-    pub fn finish(&self, least: &Least, seed17_draws: usize) -> Result<(), String> {
+    pub fn finish(&self, least: &Least) -> Result<(), String> {
         self.tally.print();
-        if seed17_draws > 0 {
-            return Err("the branch seeded with 17 was reached".into());
-        }
-        if self.tally.differing > 0 {
-            return Err("the port's answers are not those of the Rust".into());
-        }
+        let otherwise = "the port's answers are not those of the Rust";
+        all_equal(self.tally.differing, otherwise)?;
         self.tally.reaches(least)
     }
 }

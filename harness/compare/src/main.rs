@@ -19,14 +19,12 @@ mod judge;
 mod replay;
 mod tally;
 
-use command::number;
+use command::{number, SEED};
 use inputs::Source;
 use judge::{Judge, Plain};
 use std::process::ExitCode;
 use std::time::{Duration, Instant};
 use tally::Least;
-
-const SEED: u64 = 20;
 
 /// A comparison for a time has to get through so much for each of its seconds: in 75 seconds 2,025,000 calls
 /// of sampled runs and 202,500 report rows.
@@ -114,7 +112,7 @@ fn compare(until: Until, seed: u64) -> Result<(), String> {
             Until::Time(time) => start.elapsed() >= time,
         };
         if over {
-            return judge.finish(&until.least(), oracle::feed::seed17_draws());
+            return judge.finish(&until.least());
         }
     }
 }

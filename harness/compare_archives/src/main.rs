@@ -19,17 +19,23 @@ mod fault;
 mod judge;
 mod of_port;
 
-use archives::generate::nth;
-use command::{difference, number, Pieces, Program};
+use archives::generate::{nth, FIRST_DRAWN};
+use archives::printed;
+use command::{given, write, Compared};
 use judge::Judge;
-use std::io::{Read, Write};
 use std::process::ExitCode;
 
-const SEED: u64 = 20;
-
-fn find() -> Result<Program, String> {
-    Program::find("REGROW", "regrow")
-}
+const REGROW: Compared = Compared {
+    program: "regrow",
+    text: "archive",
+    texts: "archives",
+    usage: "COUNT|--only N|--archive N|--fault|--replay|--expect",
+    not_the_rust: "what the program or the byte run says is not what the Rust and document 01 say",
+    nth: |seed, n| nth(seed, n).bytes,
+    first_drawn: FIRST_DRAWN,
+    printed,
+    tries: 30,
+};
 
 fn main() -> ExitCode {
     command::main("archives", ask)
@@ -37,57 +43,8 @@ fn main() -> ExitCode {
 
 fn ask(arguments: &[&str]) -> Result<(), String> {
     match *arguments {
-        ["--fault"] => fault::run(SEED),
-        ["--replay"] => replay(),
-        ["--expect"] => write(&archives::printed(&given()?)),
-        ["--only", n] => compare(one(n)?, SEED),
-        ["--only", n, seed] => compare(one(n)?, number(seed)?),
-        ["--archive", n] => write(&nth(SEED, number(n)? as usize).bytes),
-        ["--archive", n, seed] => write(&nth(number(seed)?, number(n)? as usize).bytes),
-        [count] => compare(0..number(count)? as usize, SEED),
-        [count, seed] => compare(0..number(count)? as usize, number(seed)?),
-        _ => Err(
-            "usage: archives COUNT|--only N|--archive N|--fault|--replay|--expect [SEED]".into(),
-        ),
-    }
-}
-
-fn one(text: &str) -> Result<std::ops::Range<usize>, String> {
-    let n = number(text)? as usize;
-    Ok(n..n + 1)
-}
-
-fn compare(numbers: std::ops::Range<usize>, seed: u64) -> Result<(), String> {
-    let program = find()?;
-    let mut judge = Judge::default();
-    let asked = numbers.len();
-    for n in numbers {
-        judge.look(n, seed, &nth(seed, n), &program)?;
-    }
-    judge.finish(asked, oracle::feed::seed17_draws())
-}
-
-fn write(bytes: &[u8]) -> Result<(), String> {
-    let written = std::io::stdout().write_all(bytes);
-    written.map_err(|e| e.to_string())
-}
-
-/// An archive from standard input.
-fn given() -> Result<Vec<u8>, String> {
-    let mut archive = Vec::new();
-    let read = std::io::stdin().read_to_end(&mut archive);
-    read.map_err(|e| e.to_string())?;
-    Ok(archive)
-}
-
-/// An archive from standard input, and both outputs.
-fn replay() -> Result<(), String> {
-    let archive = given()?;
-    let expected = archives::printed(&archive);
-    let got = find()?.print(&archive, &Pieces::Equal(1))?;
-    println!("{}", difference("the archive", &archive, &expected, &got));
-    match got.differs(&expected) {
-        false => Ok(()),
-        true => Err(judge::NOT_THE_RUST.into()),
+        ["--fault"] => fault::run(),
+        ["--expect"] => write(&printed(&given()?)),
+        _ => REGROW.ask::<Judge>(arguments),
     }
 }

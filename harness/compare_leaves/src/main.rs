@@ -14,11 +14,9 @@ mod leaf;
 mod numbers;
 mod port;
 
-use command::{number, Faults};
+use command::{number, Faults, SEED};
 use leaf::Tally;
 use std::process::ExitCode;
-
-const SEED: u64 = 20;
 
 /// Wrong leaves are tried on so many values.
 const FAULT_VALUES: usize = 20_000;

@@ -13,72 +13,26 @@
 //! something else, exits with a status other than 0, or is ended by a signal.
 #![forbid(unsafe_code)]
 
-mod fault;
 mod judge;
 
-use command::{difference, number, Pieces, Program};
+use command::Compared;
 use judge::Judge;
-use std::io::{Read, Write};
 use std::process::ExitCode;
-use texts::generate::nth;
+use texts::generate::{nth, FIRST_DRAWN};
+use texts::printed;
 
-const SEED: u64 = 20;
-
-fn find() -> Result<Program, String> {
-    Program::find("TREELIST", "treelist")
-}
+const TREELIST: Compared = Compared {
+    program: "treelist",
+    text: "text",
+    texts: "texts",
+    usage: "COUNT|--only N|--text N|--fault|--replay",
+    not_the_rust: "what the program prints is not what the Rust and document 01 say",
+    nth: |seed, n| nth(seed, n).bytes,
+    first_drawn: FIRST_DRAWN,
+    printed,
+    tries: 40,
+};
 
 fn main() -> ExitCode {
-    command::main("texts", ask)
-}
-
-fn ask(arguments: &[&str]) -> Result<(), String> {
-    match *arguments {
-        ["--fault"] => fault::run(SEED),
-        ["--replay"] => replay(),
-        ["--only", n] => compare(one(n)?, SEED),
-        ["--only", n, seed] => compare(one(n)?, number(seed)?),
-        ["--text", n] => write_text(n, SEED),
-        ["--text", n, seed] => write_text(n, number(seed)?),
-        [count] => compare(0..number(count)? as usize, SEED),
-        [count, seed] => compare(0..number(count)? as usize, number(seed)?),
-        _ => Err("usage: texts COUNT|--only N|--text N|--fault|--replay [SEED]".into()),
-    }
-}
-
-fn one(text: &str) -> Result<std::ops::Range<usize>, String> {
-    let n = number(text)? as usize;
-    Ok(n..n + 1)
-}
-
-fn compare(numbers: std::ops::Range<usize>, seed: u64) -> Result<(), String> {
-    let program = find()?;
-    let mut judge = Judge::default();
-    let asked = numbers.len();
-    for n in numbers {
-        let given = nth(seed, n);
-        judge.look(&format!("text {n} of the seed {seed}"), &given, &program)?;
-    }
-    judge.finish(asked, oracle::feed::seed17_draws())
-}
-
-fn write_text(n: &str, seed: u64) -> Result<(), String> {
-    let text = nth(seed, number(n)? as usize).bytes;
-    std::io::stdout()
-        .write_all(&text)
-        .map_err(|e| e.to_string())
-}
-
-/// A text from standard input, and both outputs.
-fn replay() -> Result<(), String> {
-    let mut text = Vec::new();
-    let read = std::io::stdin().read_to_end(&mut text);
-    read.map_err(|e| e.to_string())?;
-    let expected = texts::printed(&text);
-    let got = find()?.print(&text, &Pieces::Equal(1))?;
-    println!("{}", difference("the text", &text, &expected, &got));
-    match got.differs(&expected) {
-        false => Ok(()),
-        true => Err(judge::NOT_THE_RUST.into()),
-    }
+    command::main("texts", |arguments| TREELIST.ask::<Judge>(arguments))
 }

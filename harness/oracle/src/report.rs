@@ -13,6 +13,19 @@ pub struct Row {
     pub probability: f64,
 }
 
+impl Row {
+    /// The row of what a visitor is shown.
+    #[inline]
+    pub fn shown(view: &SmallNodeView) -> Self {
+        Row {
+            id: UpdatableNodeView::<u64, u64>::current_node(view),
+            depth: view.depth(),
+            mass: view.mass(),
+            probability: view.probability_of_cut(),
+        }
+    }
+}
+
 /// A visitor that never converges, wants no shadow box and keeps what it is shown.
 struct Rows(Vec<Row>);
 
@@ -22,12 +35,7 @@ impl Rows {
     }
 
     fn keep(&mut self, view: &SmallNodeView) -> Result<()> {
-        self.0.push(Row {
-            id: UpdatableNodeView::<u64, u64>::current_node(view),
-            depth: view.depth(),
-            mass: view.mass(),
-            probability: view.probability_of_cut(),
-        });
+        self.0.push(Row::shown(view));
         Ok(())
     }
 }

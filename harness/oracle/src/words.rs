@@ -10,6 +10,12 @@ impl Words {
         Words { state: seed }
     }
 
+    /// The generator of input n of a seed, so that each can be made without those before it.
+    pub fn nth(seed: u64, n: usize) -> Self {
+        let mut of_seed = Words::new(seed);
+        Words::new(of_seed.word() ^ n as u64)
+    }
+
     /// The next 64 bits.
     pub fn word(&mut self) -> u64 {
         self.state = self.state.wrapping_add(0x9E37_79B9_7F4A_7C15);

@@ -62,7 +62,7 @@ fn kinds(entries: &[Entry]) -> String {
 /// A row for each refusal: how often it is printed.
 fn refusals(entries: &[Entry]) -> String {
     let mut counts = BTreeMap::new();
-    for (refusal, _) in entries.iter().flat_map(|entry| entry.outcome.refusals()) {
+    for refusal in entries.iter().flat_map(|entry| entry.outcome.refusals()) {
         *counts.entry(refusal).or_insert(0usize) += 1;
     }
     let row = |(refusal, n): (u32, usize)| format!("| {refusal} | {} |\n", grouped(n));

@@ -58,7 +58,7 @@ pub fn entries() -> Vec<Entry> {
         long.bytes = MOST_TEXT;
         given.push(generate::long(&long, words));
     }
-    given.extend((0..BREAKS.len()).map(|n| generate::broken(n, words)));
+    given.extend((0..BREAKS.count()).map(|n| generate::broken(n, words)));
     given.extend((0..CHANGED).map(|_| generate::changed(words)));
     let entries = given.into_iter().map(Entry::new).collect();
     assert!(

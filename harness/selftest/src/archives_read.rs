@@ -1,7 +1,9 @@
 //! Archives of `regrow`: read as the generator knows them to be, document 01's sample printed, what the answer
 //! bytes of a byte run tell, and every refusal met.
-use archives::generate::{nth, starred, Known};
-use archives::{asked, form, outcome, printed, Outcome};
+use crate::as_made;
+use archives::form::{self, Read};
+use archives::generate::{nth, starred};
+use archives::{asked, outcome, printed, Outcome};
 use std::collections::BTreeSet;
 
 const SEED: u64 = 7;
@@ -56,20 +58,8 @@ pub fn run(count: usize) -> usize {
     let mut in_form = 0;
     for n in 0..count {
         let given = nth(SEED, n);
-        let read = form::read(&given.bytes);
-        let bad = read.as_ref().map_or(Some(0), |read| read.bad);
-        match &given.known {
-            Known::OnlyTheReaderTells => {}
-            Known::Bad(row) => assert_eq!(bad, Some(*row), "archive {n}, {}", given.kind),
-            Known::InForm(archive) => {
-                let read = read.as_ref().map(|read| &read.archive);
-                assert_eq!((read, bad), (Some(archive), None), "archive {n}");
-            }
-        }
-        if let (Some(read), None) = (&read, bad) {
-            assert_eq!(read.archive.bytes(), given.bytes, "archive {n}");
-            in_form += 1;
-        }
+        let read = form::read(&given.bytes).map_or(Err(0), Read::whole);
+        in_form += usize::from(as_made::in_form(&format!("archive {n}"), &given, read));
         // the longest are for the comparison
         if given.bytes.len() > MOST_BYTES {
             continue;

@@ -1,13 +1,11 @@
 //! Random runs of bare trees.
 use crate::model::{
-    check_report, check_tree, count_down, count_up, form, form_after_add, form_after_delete,
-    value_at, Counts, Setting,
+    count_down, count_up, form, form_after_add, form_after_delete, value_at, Counts, Setting,
+    READINGS,
 };
 use oracle::{feed, nodes, BareTree, Node, Table, Words};
 
 const SEED: u64 = 0x00C0_FFEE_0000_0001;
-/// Readings of a run.
-const READINGS: usize = 96;
 
 /// Runs this many trees and answers how many adds and deletes were made.
 pub fn run(runs: usize) -> usize {
@@ -27,10 +25,7 @@ struct Run {
 impl Run {
     fn start(words: &mut Words) -> Self {
         let setting = Setting::draw(words);
-        let mut table = Table::new();
-        for index in 0..READINGS {
-            table.put(index, &setting.reading(words));
-        }
+        let table = setting.table(words);
         let bare = BareTree::make(setting.channels, setting.capacity, setting.share).unwrap();
         Run {
             setting,
@@ -50,11 +45,8 @@ impl Run {
             } else {
                 self.delete(index, words);
             }
-            let Setting {
-                capacity, share, ..
-            } = self.setting;
-            check_tree(self.bare.tree(), &self.table, &self.counts, capacity, share);
-            check_report(self.bare.tree(), &self.table, &self.setting.reading(words));
+            let tree = self.bare.tree();
+            self.setting.check(tree, &self.table, &self.counts, words);
             self.put(words);
         }
         calls

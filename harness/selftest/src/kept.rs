@@ -19,22 +19,9 @@ impl Kept {
         }
     }
 
-    /// The starting chance as `initial_accept_probability` has it.
-    fn starts(&self, word: u64) -> bool {
-        let filled = self.entries.len() as f64 / self.capacity as f64;
-        let chance = if filled < self.initial {
-            1.0
-        } else if self.initial >= 1.0 {
-            0.0
-        } else {
-            1.0 - (filled - self.initial) / (1.0 - self.initial)
-        };
-        self.entries.len() < self.capacity && factor(word) < chance
-    }
-
     /// An arrival and its answer: what became of it, the leaf's index and the evicted one.
     pub fn arrive(&mut self, weight: f32, word: u64, what: u32, leaf: u32, evicted: u32) {
-        let starts = self.starts(word);
+        let starts = starts(self.entries.len(), self.capacity, self.initial, word);
         let largest = self.entries.iter().map(|entry| entry.0).reduce(f32::max);
         let below = |largest: f32| weight < largest;
         let expected = match (starts, largest.is_some_and(below)) {
@@ -77,4 +64,18 @@ impl Kept {
         assert_eq!(beyond.len(), 2 * (self.capacity - kept));
         assert!(beyond.iter().all(|number| *number == 0));
     }
+}
+
+/// Whether an arrival starts where so many are held, by document 01's starting chance, which is that of
+/// `initial_accept_probability`.
+pub fn starts(held: usize, capacity: usize, initial: f64, word: u64) -> bool {
+    let filled = held as f64 / capacity as f64;
+    let chance = if filled < initial {
+        1.0
+    } else if initial >= 1.0 {
+        0.0
+    } else {
+        1.0 - (filled - initial) / (1.0 - initial)
+    };
+    held < capacity && factor(word) < chance
 }

@@ -4,6 +4,7 @@
 #![forbid(unsafe_code)]
 
 mod archives_read;
+mod as_made;
 mod bare;
 mod differences;
 mod examples;

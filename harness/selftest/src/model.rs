@@ -345,7 +345,7 @@ fn check_side<'a>(
 }
 
 /// The walk report of a query near the readings, against the definition of document 01.
-pub fn check_report(tree: &Tree, table: &Table, query: &[f32]) {
+fn check_report(tree: &Tree, table: &Table, query: &[f32]) {
     let rows = report(tree, table, query).expect("written points");
     let defined = defined_report(tree, table, query);
     assert_eq!(rows.len(), defined.len());
@@ -385,6 +385,9 @@ fn probability(row: &Walked, query: &[f32]) -> f64 {
     }
 }
 
+/// Readings of a run.
+pub const READINGS: usize = 96;
+
 /// What the runs draw from: limits of a tree, and readings.
 pub struct Setting {
     pub channels: usize,
@@ -421,6 +424,21 @@ impl Setting {
         (0..self.channels)
             .map(|_| words.between(-self.span, self.span) as f32)
             .collect()
+    }
+
+    /// A table with all the readings of a run.
+    pub fn table(&self, words: &mut Words) -> Table {
+        let mut table = Table::new();
+        for index in 0..READINGS {
+            table.put(index, &self.reading(words));
+        }
+        table
+    }
+
+    /// Everything that document 01 says of a tree that holds `counts`, and of a report.
+    pub fn check(&self, tree: &Tree, table: &Table, counts: &Counts, words: &mut Words) {
+        check_tree(tree, table, counts, self.capacity, self.share);
+        check_report(tree, table, &self.reading(words));
     }
 
     /// As many words as any walk takes.

@@ -1,12 +1,9 @@
 //! Random runs of sampled trees.
-use crate::model::{
-    check_report, check_tree, count_down, count_up, form, value_at, Counts, Setting,
-};
-use oracle::{factor, Arrived, BareTree, SampledTree, Table, Words};
+use crate::kept::starts;
+use crate::model::{count_down, count_up, form, value_at, Counts, Setting, READINGS};
+use oracle::{Arrived, BareTree, SampledTree, Table, Words};
 
 const SEED: u64 = 0x00C0_FFEE_0000_0002;
-/// Readings of a run.
-const READINGS: usize = 96;
 
 /// Runs this many trees and answers how many arrivals came.
 pub fn run(runs: usize) -> usize {
@@ -28,10 +25,7 @@ impl Run {
     fn start(words: &mut Words) -> Self {
         let setting = Setting::draw(words);
         let initial = words.one_of(&[0.0, 0.0625, 1.0 / 3.0, 0.5, 1.0, 1.0, 1.0]);
-        let mut table = Table::new();
-        for index in 0..READINGS {
-            table.put(index, &setting.reading(words));
-        }
+        let table = setting.table(words);
         let Setting {
             channels,
             capacity,
@@ -54,45 +48,19 @@ impl Run {
         for _ in 0..calls {
             let weight = words.between(-weights, 0) as f32 / 4.0;
             self.arrive(words.below(READINGS), weight, words);
-            let Setting {
-                capacity, share, ..
-            } = self.setting;
-            check_tree(
-                self.sampled.tree(),
-                &self.table,
-                &self.counts,
-                capacity,
-                share,
-            );
-            check_report(
-                self.sampled.tree(),
-                &self.table,
-                &self.setting.reading(words),
-            );
+            let tree = self.sampled.tree();
+            self.setting.check(tree, &self.table, &self.counts, words);
             self.check_sample();
         }
         calls
     }
 
-    /// Whether an arrival starts, by document 01's starting chance.
-    fn starts(&self, start: u64) -> bool {
-        let (held, capacity) = (self.sampled.heap().len(), self.setting.capacity);
-        let filled = held as f64 / capacity as f64;
-        let chance = if filled < self.initial {
-            1.0
-        } else if self.initial >= 1.0 {
-            0.0
-        } else {
-            1.0 - (filled - self.initial) / (1.0 - self.initial)
-        };
-        held < capacity && factor(start) < chance
-    }
-
     fn arrive(&mut self, index: usize, weight: f32, words: &mut Words) {
         let fed = self.setting.words(words);
         let start = words.word();
-        let starts = self.starts(start);
-        let top = self.sampled.heap().first().copied();
+        let heap = self.sampled.heap();
+        let starts = starts(heap.len(), self.setting.capacity, self.initial, start);
+        let top = heap.first().copied();
         let accepted = starts || weight < top.expect("the first arrival starts").0;
         let before = self.sampled.clone();
         let answer = self

@@ -1,5 +1,6 @@
 //! Texts of `treelist`: read as the generator knows them to be, each example of form, document 01's
 //! own text printed, and every refusal met.
+use crate::as_made;
 use std::collections::BTreeSet;
 use texts::generate::{document, nth};
 use texts::{form, outcome, printed, Outcome};
@@ -36,19 +37,8 @@ pub fn run(count: usize) -> usize {
     for n in 0..count {
         let given = nth(SEED, n);
         let read = form::read(&given.bytes);
-        if let Some(known) = &given.known {
-            assert_eq!(&read, known, "text {n}, {}", given.kind);
-        }
-        if let Ok(text) = &read {
-            assert_eq!(
-                text.bytes(),
-                given.bytes,
-                "text {n} is written as it is read"
-            );
-            in_form += 1;
-        }
-        let refusals = outcome(&given.bytes).refusals();
-        met.extend(refusals.into_iter().map(|(refusal, _)| refusal));
+        in_form += usize::from(as_made::in_form(&format!("text {n}"), &given, read));
+        met.extend(outcome(&given.bytes).refusals());
     }
     let all = [1, 2, 3, 5, 6, 7, 8, 9, 10, 11, 12, 13, 17];
     assert_eq!(met, BTreeSet::from(all), "the refusals that texts meet");

@@ -1,6 +1,7 @@
 //! Reads a text from its first byte to its last, each rule of form where it stands in document 01.
 //! Nothing is split into lines beforehand, so a row that breaks a rule ends the reading there.
-use crate::text::{Making, Row, Text, MAKING_NAMES, OP_NAMES};
+use crate::in_form::{Head, OP_NAMES};
+use crate::text::{Making, Row, Text};
 
 /// No text has more bytes.
 pub const MOST_BYTES: usize = 32 * 1024;
@@ -22,16 +23,9 @@ pub fn read(bytes: &[u8]) -> Result<Text, usize> {
 
 /// The first block and the second's names, all of which are row 0.
 fn first_lines(rest: &mut &[u8]) -> Option<Making> {
-    exactly(rest, MAKING_NAMES)?;
-    exactly(rest, "\n")?;
-    let dimensions = number(rest)?;
-    exactly(rest, " ")?;
-    let capacity = number(rest)?;
-    exactly(rest, " ")?;
-    let cache16 = number(rest)?;
-    exactly(rest, "\n")?;
-    exactly(rest, OP_NAMES)?;
-    exactly(rest, "\n")?;
+    names(rest, Making::NAMES)?;
+    let [dimensions, capacity, cache16] = numbers(rest)?;
+    names(rest, OP_NAMES)?;
     Some(Making {
         dimensions,
         capacity,
@@ -55,6 +49,24 @@ fn row(rest: &mut &[u8]) -> Option<Row> {
         2 => exactly(rest, "\n").map(|()| Row::Delete { index }),
         _ => None,
     }
+}
+
+/// A line of exactly these names.
+pub fn names(rest: &mut &[u8], names: &str) -> Option<()> {
+    exactly(rest, names)?;
+    exactly(rest, "\n")
+}
+
+/// A line of exactly so many numbers, with one space between two.
+pub fn numbers<const N: usize>(rest: &mut &[u8]) -> Option<[u32; N]> {
+    let mut found = [0; N];
+    for (n, place) in found.iter_mut().enumerate() {
+        if n > 0 {
+            exactly(rest, " ")?;
+        }
+        *place = number(rest)?;
+    }
+    exactly(rest, "\n").map(|()| found)
 }
 
 /// Any number of fields up to the line feed, each with one space before it.

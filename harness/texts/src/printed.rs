@@ -4,8 +4,8 @@ use crate::form;
 use crate::text::Text;
 use runs::Driver;
 
-/// The refusal of a text that is out of form.
-const OUT_OF_FORM: u32 = 17;
+/// The refusal of what is out of form.
+pub const OUT_OF_FORM: u32 = 17;
 
 /// What a text comes to.
 #[derive(Clone, Debug, PartialEq)]
@@ -42,17 +42,20 @@ impl Outcome {
         !matches!(self, Outcome::Bad(_))
     }
 
-    /// Every refusal that is printed, with its row.
-    pub fn refusals(&self) -> Vec<(u32, usize)> {
+    /// Every refusal that is printed.
+    pub fn refusals(&self) -> Vec<u32> {
         match self {
-            Outcome::Bad(row) => vec![(OUT_OF_FORM, *row)],
-            Outcome::Unmade(refusal) => vec![(*refusal, 0)],
-            Outcome::Listed { refused, .. } => refused.clone(),
+            Outcome::Bad(_) => vec![OUT_OF_FORM],
+            Outcome::Unmade(refusal) => vec![*refusal],
+            Outcome::Listed { refused, .. } => {
+                refused.iter().map(|(refusal, _)| *refusal).collect()
+            }
         }
     }
 }
 
-fn refused(refusal: u32, row: usize) -> String {
+/// The line of a refusal.
+pub fn refused(refusal: u32, row: usize) -> String {
     format!("refused {refusal} {row}\n")
 }
 

@@ -1,9 +1,11 @@
-//! A text in form: its making and its op rows, the bytes they are written as, and the calls they
+//! The texts of `treelist`: their making and their op rows, as they are written, and the calls they
 //! stand for.
+use crate::in_form::{coordinate_bits, coordinate_fields, share, word_fields};
+use crate::in_form::{Head, InForm, OpRow};
 use runs::Call;
 
-pub const MAKING_NAMES: &str = "dimensions capacity cache16";
-pub const OP_NAMES: &str = "op index rest";
+/// A text in form.
+pub type Text = InForm<Making, Row>;
 
 /// The making's numbers, in range or not.
 #[derive(Clone, Copy, Debug, PartialEq)]
@@ -21,21 +23,35 @@ pub enum Row {
     Delete { index: u32 },
 }
 
-#[derive(Clone, Debug, PartialEq)]
-pub struct Text {
-    pub making: Making,
-    pub rows: Vec<Row>,
+impl Head for Making {
+    const NAMES: &'static str = "dimensions capacity cache16";
+
+    fn numbers(&self) -> Vec<u32> {
+        vec![self.dimensions, self.capacity, self.cache16]
+    }
 }
 
 impl Making {
-    /// The share is exact: a number of nine digits and its sixteenth are f64 numbers.
     pub fn of_tree(&self) -> runs::Making {
-        let share = f64::from(self.cache16) / 16.0;
-        runs::Making::bare(self.dimensions, self.capacity, share)
+        runs::Making::bare(self.dimensions, self.capacity, share(self.cache16))
+    }
+}
+
+impl OpRow for Row {
+    fn line(&self) -> String {
+        match self {
+            Row::Put { index, coordinates } => {
+                format!("0 {index}{}", coordinate_fields(coordinates))
+            }
+            Row::Add { index, words } => format!("1 {index}{}", word_fields(words)),
+            Row::Delete { index } => format!("2 {index}"),
+        }
     }
 
-    fn line(&self) -> String {
-        format!("{} {} {}", self.dimensions, self.capacity, self.cache16)
+    fn index(&self) -> Option<u32> {
+        match self {
+            Row::Put { index, .. } | Row::Add { index, .. } | Row::Delete { index } => Some(*index),
+        }
     }
 }
 
@@ -54,57 +70,4 @@ impl Row {
             Row::Delete { index } => Call::Delete { index: *index },
         }
     }
-
-    /// The row as it is written, without its line feed.
-    pub fn line(&self) -> String {
-        let (start, rest): (String, Vec<String>) = match self {
-            Row::Put { index, coordinates } => (
-                format!("0 {index}"),
-                coordinates.iter().map(|x| format!(" {x}")).collect(),
-            ),
-            Row::Add { index, words } => (
-                format!("1 {index}"),
-                words.iter().map(|word| format!(" {word:016X}")).collect(),
-            ),
-            Row::Delete { index } => (format!("2 {index}"), vec![]),
-        };
-        start + &rest.concat()
-    }
-}
-
-impl Text {
-    /// All lines, without their line feeds: names, making, names, op rows.
-    pub fn lines(&self) -> Vec<Vec<u8>> {
-        let before = [
-            MAKING_NAMES.to_string(),
-            self.making.line(),
-            OP_NAMES.to_string(),
-        ];
-        let rows = self.rows.iter().map(Row::line);
-        before
-            .into_iter()
-            .chain(rows)
-            .map(String::into_bytes)
-            .collect()
-    }
-
-    pub fn bytes(&self) -> Vec<u8> {
-        joined(&self.lines())
-    }
-}
-
-/// The coordinates as a call has them. One beyond 2^24 is rounded here, and is too large before and after.
-pub fn coordinate_bits(coordinates: &[i32]) -> Vec<u32> {
-    let bits = |x: &i32| (*x as f32).to_bits();
-    coordinates.iter().map(bits).collect()
-}
-
-/// The lines, each with a line feed after it.
-pub fn joined(lines: &[Vec<u8>]) -> Vec<u8> {
-    let mut bytes = Vec::new();
-    for line in lines {
-        bytes.extend_from_slice(line);
-        bytes.push(b'\n');
-    }
-    bytes
 }

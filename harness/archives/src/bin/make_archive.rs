@@ -11,6 +11,7 @@ use archives::Archive;
 use oracle::Words;
 use std::io::{BufWriter, Write};
 use std::process::ExitCode;
+use texts::OpRow;
 
 fn main() -> ExitCode {
     let numbers: Vec<u64> = std::env::args()

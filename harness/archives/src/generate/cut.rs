@@ -1,6 +1,6 @@
 //! Archives cut short at any byte: those before the making fail with it, those at a line's end are in form,
 //! and of all others the last row is bad.
-use super::{Given, Known};
+use super::Given;
 use crate::archive::Archive;
 use oracle::Words;
 
@@ -16,16 +16,16 @@ pub fn given(mut archive: Archive, words: &mut Words) -> Given {
     bytes.truncate(place);
     let lines = bytes.iter().filter(|byte| **byte == b'\n').count();
     let known = match lines.checked_sub(3) {
-        None => Known::Bad(0),
+        None => Err(0),
         Some(rows) if bytes.ends_with(b"\n") => {
             archive.rows.truncate(rows);
-            Known::InForm(archive)
+            Ok(archive)
         }
-        Some(rows) => Known::Bad(rows + 1),
+        Some(rows) => Err(rows + 1),
     };
     Given {
         kind: "cut short",
         bytes,
-        known,
+        known: Some(known),
     }
 }

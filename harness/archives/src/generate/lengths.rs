@@ -1,8 +1,9 @@
 //! Lines at and around the longest, and far beyond it, with their line feed and without.
-use super::{whole, Given, Known};
+use super::{whole, Given};
 use crate::form::MOST_BYTES;
 use oracle::Words;
-use texts::joined;
+use texts::generate::ones;
+use texts::{coordinate_fields, joined};
 
 /// What the long line is.
 #[derive(Clone, Copy, Debug)]
@@ -91,16 +92,12 @@ pub fn given(length: &Length, words: &mut Words) -> Given {
     if length.open {
         bytes.pop();
     }
-    let known = match (in_place, length.bytes > MOST_BYTES || length.open) {
-        (0 | 1, _) => Known::Bad(0),
-        (place, true) => Known::Bad(place - 2),
+    let kind = "a long line";
+    match (in_place, length.bytes > MOST_BYTES || length.open) {
+        (0 | 1, _) => Given::bad(kind, bytes, 0),
+        (place, true) => Given::bad(kind, bytes, place - 2),
         // what the other rows are needs the reader
-        (_, false) => Known::OnlyTheReaderTells,
-    };
-    Given {
-        kind: "a long line",
-        bytes,
-        known,
+        (_, false) => Given::untold(kind, bytes),
     }
 }
 
@@ -108,8 +105,8 @@ pub fn given(length: &Length, words: &mut Words) -> Given {
 fn line(length: &Length, before: &[u8]) -> Vec<u8> {
     let bytes = length.bytes;
     match length.line {
-        Line::Put => ones(b"0 0", bytes),
-        Line::Report => ones(b"4 -", bytes),
+        Line::Put => row_of_ones("0 0", bytes),
+        Line::Report => row_of_ones("4 -", bytes),
         Line::Arrival => {
             let digits = (bytes - 11) % 17;
             let words = (bytes - 11) / 17;
@@ -125,12 +122,8 @@ fn line(length: &Length, before: &[u8]) -> Vec<u8> {
     }
 }
 
-/// Ones, and a ten where the length is odd.
-pub fn ones(start: &[u8], bytes: usize) -> Vec<u8> {
-    let rest = bytes - start.len();
-    let fields = match rest % 2 {
-        0 => " 1".repeat(rest / 2),
-        _ => " 10".to_string() + &" 1".repeat((rest - 3) / 2),
-    };
-    [start, fields.as_bytes()].concat()
+/// A row of so many bytes, with ones after its start.
+pub fn row_of_ones(start: &str, bytes: usize) -> Vec<u8> {
+    let fields = coordinate_fields(&ones(bytes - start.len()));
+    [start, &fields].concat().into_bytes()
 }

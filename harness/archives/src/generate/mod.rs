@@ -1,5 +1,4 @@
-//! Archives from a seeded generator. Where the generator knows how an archive reads, it says so, so that
-//! the reader of `form` can be held against it.
+//! Archives from a seeded generator.
 mod big;
 mod broken;
 mod cut;
@@ -22,56 +21,21 @@ pub use small::{smalls, SMALLS};
 
 use crate::archive::Archive;
 use oracle::Words;
-
-/// How an archive reads, where the generator knows.
-#[derive(Clone, Debug, PartialEq)]
-pub enum Known {
-    InForm(Archive),
-    /// This is the first bad row, 0 where it is one of the first three lines.
-    Bad(usize),
-    OnlyTheReaderTells,
-}
+use texts::generate::bytes_changed;
 
 /// An archive for `regrow`.
-#[derive(Clone)]
-pub struct Given {
-    /// What is tried with it.
-    pub kind: &'static str,
-    pub bytes: Vec<u8>,
-    pub known: Known,
-}
-
-impl Given {
-    fn in_form(kind: &'static str, archive: Archive) -> Self {
-        Given {
-            kind,
-            bytes: archive.bytes(),
-            known: Known::InForm(archive),
-        }
-    }
-
-    fn untold(kind: &'static str, bytes: Vec<u8>) -> Self {
-        Given {
-            kind,
-            bytes,
-            known: Known::OnlyTheReaderTells,
-        }
-    }
-}
+pub type Given = texts::Given<Archive>;
 
 /// The number of the first archive that is not one of a list.
 pub const FIRST_DRAWN: usize =
-    1 + STARRED + BREAKS.len() + MAKINGS.len() + LENGTHS.len() + SIZES + SMALLS + BIGS.len();
+    1 + STARRED + BREAKS.count() + MAKINGS.len() + LENGTHS.len() + SIZES + SMALLS + BIGS.len();
 
 /// The n-th archive of a seed: the lanterns' and document 01's, each break of a rule, each making at a limit, each
-/// length of a line, each size of an archive, the smallest, the largest, then drawn ones. Each has a generator of its own, so that it can
-/// be made without those before it.
+/// length of a line, each size of an archive, the smallest, the largest, then drawn ones.
 pub fn nth(seed: u64, n: usize) -> Given {
-    let mut of_seed = Words::new(seed);
-    let mut words = Words::new(of_seed.word() ^ n as u64);
-    let words = &mut words;
+    let words = &mut Words::nth(seed, n);
     let breaks_from = 1 + STARRED;
-    let makings_from = breaks_from + BREAKS.len();
+    let makings_from = breaks_from + BREAKS.count();
     let lengths_from = makings_from + MAKINGS.len();
     let sizes_from = lengths_from + LENGTHS.len();
     let smalls_from = sizes_from + SIZES;
@@ -91,7 +55,7 @@ pub fn nth(seed: u64, n: usize) -> Given {
 
 fn drawn(words: &mut Words) -> Given {
     match words.below(48) {
-        0..=7 => broken(words.below(BREAKS.len()), words),
+        0..=7 => broken(words.below(BREAKS.count()), words),
         8..=10 => changed(words),
         11..=13 => cut::given(whole::archive(words), words),
         14 if words.once_in(2) => sizes::given(words.below(SIZES), words),
@@ -106,7 +70,7 @@ fn drawn(words: &mut Words) -> Given {
 
 /// A short archive with one rule of form broken, the n-th of `BREAKS`.
 fn broken(n: usize, words: &mut Words) -> Given {
-    broken::given(&BREAKS[n], whole::short(words), words)
+    BREAKS.nth(n).given(&whole::short(words), words)
 }
 
 /// A short archive with a making at a limit, the n-th of `MAKINGS`.
@@ -116,11 +80,7 @@ fn made(n: usize, words: &mut Words) -> Given {
 
 /// An archive with a few bytes changed anywhere, in form or not.
 fn changed(words: &mut Words) -> Given {
-    let mut bytes = whole::short(words).bytes();
-    for _ in 0..words.one_of(&[1, 1, 1, 2, 3]) {
-        texts::generate::change(&mut bytes, words);
-    }
-    Given::untold("bytes changed", bytes)
+    bytes_changed(whole::short(words).bytes(), words)
 }
 
 fn without_rows(words: &mut Words) -> Given {

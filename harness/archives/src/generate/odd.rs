@@ -1,23 +1,16 @@
 //! Rows that only an archive has: coordinates of up to nine digits, and counts of coordinates and words far
 //! from what the tree asks for.
 use crate::archive::{Archive, Row};
-use oracle::{Table, Words};
-use texts::generate::{odd_coordinate, MOST};
-
-/// The largest coordinate that a put takes.
-const EDGE: i32 = 1 << 20;
+use oracle::Words;
+use texts::generate::{odd_coordinate, odd_index, put_rows_in, EDGE};
 
 /// Puts a few such rows between the archive's own. What comes after may then be answered otherwise.
 pub fn put_in(archive: &mut Archive, words: &mut Words) {
-    for _ in 0..1 + words.below(4) {
-        let row = row(archive, words);
-        let place = words.below(archive.rows.len() + 1);
-        archive.rows.insert(place, row);
-    }
+    put_rows_in(archive, words, row);
 }
 
 fn row(archive: &Archive, words: &mut Words) -> Row {
-    let index = index(archive, words);
+    let index = odd_index(archive, words);
     match words.below(4) {
         0 => {
             let coordinates = coordinates(archive, words);
@@ -58,17 +51,4 @@ fn coordinates(archive: &Archive, words: &mut Words) -> Vec<i32> {
     (0..count)
         .map(|_| words.one_of(&[size, size, 0, 1, -1]))
         .collect()
-}
-
-/// An index of one of the archive's rows, or one at a limit.
-fn index(archive: &Archive, words: &mut Words) -> u32 {
-    let size = Table::SIZE as u32;
-    let odd = words.one_of(&[0, size - 1, size, MOST - 1, MOST]);
-    if archive.rows.is_empty() || words.once_in(6) {
-        return odd;
-    }
-    match &archive.rows[words.below(archive.rows.len())] {
-        Row::Put { index, .. } | Row::Arrival { index, .. } => *index,
-        Row::Report { .. } => odd,
-    }
 }

@@ -1,7 +1,7 @@
 //! Archives of exact sizes, at and around multiples of what a program may read at once, so that their end, or the end
 //! or the middle of one of their lines, lies there.
-use super::lengths::ones;
-use super::{whole, Given, Known};
+use super::lengths::row_of_ones;
+use super::{whole, Given};
 use oracle::Words;
 use texts::joined;
 
@@ -53,14 +53,9 @@ pub fn given(n: usize, words: &mut Words) -> Given {
     let mut lines = whole::within(words, bytes / 5).lines();
     fill(&mut lines, filled);
     let filled_rows = lines.len() - 3;
-    let known = match there {
-        There::OpenEnd => Known::Bad(filled_rows),
-        There::BadRow => {
-            *lines[2 + filled_rows].last_mut().expect("no row is empty") = b'-';
-            Known::Bad(filled_rows)
-        }
-        There::End | There::LineEnd | There::Row => Known::OnlyTheReaderTells,
-    };
+    if matches!(there, There::BadRow) {
+        *lines[2 + filled_rows].last_mut().expect("no row is empty") = b'-';
+    }
     if matches!(there, There::LineEnd | There::Row | There::BadRow) {
         lines.extend(whole::short(words).lines().split_off(3));
     }
@@ -68,10 +63,10 @@ pub fn given(n: usize, words: &mut Words) -> Given {
     if matches!(there, There::OpenEnd) {
         bytes.pop();
     }
-    Given {
-        kind: "filled to a size",
-        bytes,
-        known,
+    let kind = "filled to a size";
+    match there {
+        There::OpenEnd | There::BadRow => Given::bad(kind, bytes, filled_rows),
+        There::End | There::LineEnd | There::Row => Given::untold(kind, bytes),
     }
 }
 
@@ -79,7 +74,7 @@ pub fn given(n: usize, words: &mut Words) -> Given {
 /// more. The last is a report of any length.
 fn fill(lines: &mut Vec<Vec<u8>>, bytes: usize) {
     let has = |lines: &[Vec<u8>]| lines.iter().map(|line| line.len() + 1).sum::<usize>();
-    let row = ones(b"0 0", 211);
+    let row = row_of_ones("0 0", 211);
     let last = row.len();
     while has(lines) + last > bytes {
         lines.pop();
@@ -89,5 +84,5 @@ fn fill(lines: &mut Vec<Vec<u8>>, bytes: usize) {
         left -= row.len() + 1;
         lines.push(row.clone());
     }
-    lines.push(ones(b"4 -", left - 1));
+    lines.push(row_of_ones("4 -", left - 1));
 }

@@ -1,5 +1,5 @@
 //! The smallest archives at the edges of the form, and at those of what a row or a making takes.
-use super::{Given, Known};
+use super::Given;
 
 const NAMES: &str = "dimensions capacity cache16 initial16\n";
 const OPS: &str = "op index rest\n";
@@ -81,26 +81,18 @@ pub const SMALLS: usize = LINES.len() + ROWS.len() + REFUSED.len() * AFTER.len()
 pub fn smalls() -> Vec<Given> {
     let mut all = Vec::with_capacity(SMALLS);
     for text in LINES {
-        all.push(bad("small, bad lines", text.into(), 0));
+        all.push(Given::bad("small, bad lines", text, 0));
     }
     for (rows, row) in ROWS {
         let text = format!("{HEAD}{rows}");
         all.push(match row {
-            Some(row) => bad("small, a bad row", text, row),
-            None => Given::untold("small, in form", text.into_bytes()),
+            Some(row) => Given::bad("small, a bad row", text, row),
+            None => Given::untold("small, in form", text),
         });
     }
     for making in REFUSED {
         let texts = AFTER.map(|rows| format!("{NAMES}{making}\n{OPS}{rows}"));
-        all.extend(texts.map(|text| Given::untold("small, refused making", text.into_bytes())));
+        all.extend(texts.map(|text| Given::untold("small, refused making", text)));
     }
     all
-}
-
-fn bad(kind: &'static str, text: String, row: usize) -> Given {
-    Given {
-        kind,
-        bytes: text.into_bytes(),
-        known: Known::Bad(row),
-    }
 }

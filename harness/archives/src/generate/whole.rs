@@ -6,7 +6,7 @@ use crate::archive::{Archive, Making, Row};
 use oracle::Words;
 use runs::generate::{sampled_by, sampled_capacity, Room};
 use runs::{Call, Run};
-use texts::generate::{whole_coordinate, MOST};
+use texts::generate::{too_large_share, whole_coordinate, MOST};
 
 /// No row of an archive in form has more words than this, whatever its index.
 const MOST_WORDS: usize = 479;
@@ -73,7 +73,7 @@ fn sixteenths(share: u64, words: &mut Words) -> u32 {
     let share = f64::from_bits(share);
     match (0.0..=1.0).contains(&share) {
         true => (16.0 * share) as u32,
-        false => words.one_of(&[17, 18, 32, 256, 65_536, MOST]),
+        false => too_large_share(words),
     }
 }
 

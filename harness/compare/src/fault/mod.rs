@@ -121,15 +121,13 @@ pub fn run(seed: u64) -> Result<(), String> {
     let source = Source::new(seed);
     let mut faults = Faults::default();
     for fault in FAULTS {
-        faults.tell(fault, "runs", try_fault(fault, &source), fault.shows());
+        faults.tell(fault, "runs", try_fault(fault, &source)?, fault.shows());
     }
     faults.finish()
 }
 
-fn try_fault(fault: Fault, source: &Source) -> Tries {
-    let mut tries = Tries::default();
-    for n in 0..RUNS {
-        let inputs = source.draw_short(n);
+fn try_fault(fault: Fault, source: &Source) -> Result<Tries, String> {
+    Tries::of(RUNS, TRIES, |n| {
         let faulty = Faulty {
             fault,
             words: Words::new(n as u64),
@@ -138,12 +136,8 @@ fn try_fault(fault: Fault, source: &Source) -> Tries {
         };
         let mut judge = Judge::new(faulty);
         judge.loud = false;
-        judge.look(&inputs);
-        tries.made += usize::from(judge.answers.done);
-        tries.noticed += usize::from(judge.answers.done && judge.tally.differing > 0);
-        if tries.made == TRIES {
-            break;
-        }
-    }
-    tries
+        judge.look(&source.draw_short(n));
+        let noticed = judge.tally.differing > 0;
+        Ok(judge.answers.done.then_some(noticed))
+    })
 }

@@ -1,7 +1,6 @@
 //! Texts with a few bytes changed, put in, left out or doubled anywhere. Whether they are still in
 //! form is for the reader to tell.
-use super::Given;
-use crate::text::Text;
+use crate::Given;
 use oracle::Words;
 
 /// Bytes that stand in texts, or next to such in their order.
@@ -9,20 +8,15 @@ const BYTES: &[u8] = b"0123456789AFGaf/:@`-+ \n\r\t\0\x0B\x7F\x80\xFF.,x";
 /// Bytes that often leave a text in form.
 const DIGITS: &[u8] = b"0123456789ABCDEF";
 
-pub fn text(text: Text, words: &mut Words) -> Given {
-    let mut bytes = text.bytes();
+pub fn given<T>(mut bytes: Vec<u8>, words: &mut Words) -> Given<T> {
     for _ in 0..words.one_of(&[1, 1, 1, 2, 3]) {
         change(&mut bytes, words);
     }
-    Given {
-        kind: "bytes changed",
-        bytes,
-        known: None,
-    }
+    Given::untold("bytes changed", bytes)
 }
 
 /// One change.
-pub fn change(bytes: &mut Vec<u8>, words: &mut Words) {
+fn change(bytes: &mut Vec<u8>, words: &mut Words) {
     if bytes.is_empty() {
         return;
     }

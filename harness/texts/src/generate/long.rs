@@ -2,7 +2,8 @@
 //! the length is reached.
 use super::{whole, Given};
 use crate::form::MOST_BYTES;
-use crate::text::{joined, Row, Text};
+use crate::in_form::joined;
+use crate::text::{Row, Text};
 use oracle::Words;
 
 /// What a text is filled up with.
@@ -135,17 +136,22 @@ fn fill(text: &mut Text, fill: Fill, bytes: usize) {
     text.rows.push(row_of(left));
 }
 
-/// A row of exactly so many bytes, its line feed counted: a put of ones, or of a ten and ones.
+/// A row of exactly so many bytes, its line feed counted.
 fn row_of(bytes: usize) -> Row {
-    let rest = bytes - LEAST;
-    let coordinates = match (rest % 2, rest) {
-        (0, _) => vec![1; rest / 2],
+    match bytes - LEAST {
         // no put of whole numbers has one byte more than the shortest
-        (_, 1) => return Row::Delete { index: 10 },
-        _ => [vec![10], vec![1; (rest - 3) / 2]].concat(),
-    };
-    Row::Put {
-        index: 0,
-        coordinates,
+        1 => Row::Delete { index: 10 },
+        rest => Row::Put {
+            index: 0,
+            coordinates: ones(rest),
+        },
+    }
+}
+
+/// Coordinates that are so many bytes as fields of a row: ones, and a ten where the number is odd. It is not 1.
+pub fn ones(bytes: usize) -> Vec<i32> {
+    match bytes % 2 {
+        0 => vec![1; bytes / 2],
+        _ => [vec![10], vec![1; (bytes - 3) / 2]].concat(),
     }
 }

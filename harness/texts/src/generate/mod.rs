@@ -1,5 +1,4 @@
-//! Texts from a seeded generator. Where the generator knows how a text reads, it says so, so that
-//! the reader of `form` can be held against it.
+//! Texts from a seeded generator.
 pub mod broken;
 mod changed;
 mod example;
@@ -11,13 +10,13 @@ mod small;
 mod whole;
 
 pub use broken::BREAKS;
-pub use changed::change;
+pub use changed::given as bytes_changed;
 pub use example::document;
-pub use long::{text as long, LONGS};
+pub use long::{ones, text as long, LONGS};
 pub use makings::MAKINGS;
-pub use odd::coordinate as odd_coordinate;
+pub use odd::{coordinate as odd_coordinate, index as odd_index, put_rows_in, EDGE};
 pub use small::{smalls, SMALLS};
-pub use whole::{whole as whole_coordinate, MOST};
+pub use whole::{too_large_share, whole as whole_coordinate, MOST};
 
 use crate::text::Text;
 use oracle::Words;
@@ -26,32 +25,13 @@ use oracle::Words;
 const FULL: usize = crate::form::MOST_BYTES;
 
 /// A text for `treelist`.
-#[derive(Clone)]
-pub struct Given {
-    /// What is tried with it.
-    pub kind: &'static str,
-    pub bytes: Vec<u8>,
-    /// How it reads: the text or its first bad row. None where only the reader can tell.
-    pub known: Option<Result<Text, usize>>,
-}
-
-impl Given {
-    fn in_form(kind: &'static str, text: Text) -> Self {
-        Given {
-            kind,
-            bytes: text.bytes(),
-            known: Some(Ok(text)),
-        }
-    }
-}
+pub type Given = crate::Given<Text>;
 
 /// The n-th text of a seed: document 01's, each break of a rule, each making at a limit, each long
-/// text, each small one, then drawn ones. Each has a generator of its own, so that it can be made without those
-/// before it.
+/// text, each small one, then drawn ones.
 pub fn nth(seed: u64, n: usize) -> Given {
-    let mut of_seed = Words::new(seed);
-    let mut words = Words::new(of_seed.word() ^ n as u64);
-    let makings_from = 1 + BREAKS.len();
+    let mut words = Words::nth(seed, n);
+    let makings_from = 1 + BREAKS.count();
     let longs_from = makings_from + MAKINGS.len();
     let smalls_from = longs_from + LONGS.len();
     match n {
@@ -65,11 +45,11 @@ pub fn nth(seed: u64, n: usize) -> Given {
 }
 
 /// The number of the first text that is not one of a list.
-pub const FIRST_DRAWN: usize = 1 + BREAKS.len() + MAKINGS.len() + LONGS.len() + SMALLS;
+pub const FIRST_DRAWN: usize = 1 + BREAKS.count() + MAKINGS.len() + LONGS.len() + SMALLS;
 
 fn drawn(words: &mut Words) -> Given {
     match words.below(24) {
-        0..=4 => broken(words.below(BREAKS.len()), words),
+        0..=4 => broken(words.below(BREAKS.count()), words),
         5 | 6 => changed(words),
         7 => long(&words.one_of(&LONGS), words),
         8 => without_rows(words),
@@ -95,7 +75,7 @@ pub fn full(words: &mut Words, room: usize) -> Given {
 pub fn broken(n: usize, words: &mut Words) -> Given {
     let room = words.one_of(&[100, 300, 1_000, 2_000]);
     let text = whole::text(words, room);
-    broken::apply(&BREAKS[n], text, words)
+    BREAKS.nth(n).given(&text, words)
 }
 
 /// A short text with a making at a limit, the n-th of `MAKINGS`.
@@ -106,7 +86,7 @@ pub fn made(n: usize, words: &mut Words) -> Given {
 /// A short text with a few bytes changed anywhere, in form or not.
 pub fn changed(words: &mut Words) -> Given {
     let room = words.one_of(&[100, 300, 1_000]);
-    changed::text(whole::text(words, room), words)
+    changed::given(whole::text(words, room).bytes(), words)
 }
 
 /// A text without op rows.

@@ -1,11 +1,12 @@
 //! Rows that only a text has: coordinates of up to nine digits, and counts of coordinates and words
 //! far from what the tree asks for.
 use super::whole::MOST;
+use crate::in_form::{InForm, OpRow};
 use crate::text::{Row, Text};
 use oracle::{Table, Words};
 
 /// The largest coordinate that a put takes.
-const EDGE: i32 = 1 << 20;
+pub const EDGE: i32 = 1 << 20;
 
 /// A coordinate that no put takes: next to the limit, next to powers of two beyond it, where an f32
 /// or a reader that caps would turn, and of nine digits.
@@ -34,6 +35,15 @@ fn near_edge(words: &mut Words) -> i32 {
 
 /// Puts a few such rows between the text's own. What comes after may then be refused.
 pub fn put_in(text: &mut Text, words: &mut Words) {
+    put_rows_in(text, words, row);
+}
+
+/// Puts a few rows that `row` makes between a text's own.
+pub fn put_rows_in<M, R>(
+    text: &mut InForm<M, R>,
+    words: &mut Words,
+    row: fn(&InForm<M, R>, &mut Words) -> R,
+) {
     for _ in 0..1 + words.below(4) {
         let row = row(text, words);
         let place = words.below(text.rows.len() + 1);
@@ -68,14 +78,13 @@ fn put(index: u32, count: usize, words: &mut Words, one: fn(&mut Words) -> i32) 
     }
 }
 
-/// An index of one of the text's rows, or one at a limit.
-fn index(text: &Text, words: &mut Words) -> u32 {
+/// An index that one of the text's rows names, or one at a limit.
+pub fn index<M, R: OpRow>(text: &InForm<M, R>, words: &mut Words) -> u32 {
     let size = Table::SIZE as u32;
     let odd = words.one_of(&[0, size - 1, size, MOST - 1, MOST]);
     if text.rows.is_empty() || words.once_in(6) {
         return odd;
     }
-    match &text.rows[words.below(text.rows.len())] {
-        Row::Put { index, .. } | Row::Add { index, .. } | Row::Delete { index } => *index,
-    }
+    let row = &text.rows[words.below(text.rows.len())];
+    row.index().unwrap_or(odd)
 }

@@ -75,27 +75,17 @@ pub const SMALLS: usize = ROWS.len() + MAKINGS.len() + LINES.len() + IN_FORM.len
 pub fn smalls() -> Vec<Given> {
     let head = format!("{NAMES}{MAKING}{OPS}");
     let mut all = Vec::with_capacity(SMALLS);
-    all.extend(ROWS.map(|row| bad("small, a bad row", format!("{head}{row}\n"), 1)));
-    all.push(bad("small, a bad row", format!("{head}0 0 0\n1 0"), 2));
-    all.extend(MAKINGS.map(|row| bad("small, a bad making", format!("{NAMES}{row}\n{OPS}"), 0)));
-    all.extend(LINES.map(|text| bad("small, bad lines", text.into(), 0)));
+    all.extend(ROWS.map(|row| Given::bad("small, a bad row", format!("{head}{row}\n"), 1)));
+    all.push(Given::bad(
+        "small, a bad row",
+        format!("{head}0 0 0\n1 0"),
+        2,
+    ));
+    let made = |row| format!("{NAMES}{row}\n{OPS}");
+    all.extend(MAKINGS.map(|row| Given::bad("small, a bad making", made(row), 0)));
+    all.extend(LINES.map(|text| Given::bad("small, bad lines", text, 0)));
+    let in_form = |text: String| Given::untold("small, in form", text);
     all.extend(IN_FORM.map(|rows| in_form(format!("{head}{rows}"))));
     all.push(in_form(format!("{NAMES}1 2 999999999\n{OPS}1 0\n")));
     all
-}
-
-fn bad(kind: &'static str, text: String, row: usize) -> Given {
-    Given {
-        kind,
-        bytes: text.into_bytes(),
-        known: Some(Err(row)),
-    }
-}
-
-fn in_form(text: String) -> Given {
-    Given {
-        kind: "small, in form",
-        bytes: text.into_bytes(),
-        known: None,
-    }
 }

@@ -1,6 +1,7 @@
 //! Texts in form, from the byte runs' generator: their puts, adds and deletes as rows, their making
 //! with a share in sixteenths. What a text can't hold becomes something near it that it can.
 use super::odd;
+use crate::in_form::OpRow;
 use crate::text::{Making, Row, Text};
 use oracle::Words;
 use runs::generate::{self, Room};
@@ -69,8 +70,13 @@ fn of_run(run: &Run, words: &mut Words) -> Text {
 fn cache16(share: f64, words: &mut Words) -> u32 {
     match (0.0..=1.0).contains(&share) {
         true => words.below(17) as u32,
-        false => words.one_of(&[17, 18, 32, 256, 65_536, MOST]),
+        false => too_large_share(words),
     }
+}
+
+/// Sixteenths above the range of a share.
+pub fn too_large_share(words: &mut Words) -> u32 {
+    words.one_of(&[17, 18, 32, 256, 65_536, MOST])
 }
 
 /// The row of a call; a query has none.

@@ -1,6 +1,7 @@
 //! Rows out of form, by the rule that they break.
+use texts::generate::broken::BadRows;
 
-pub const LEADING_ZERO: &[&[u8]] = &[
+pub const LEADING_ZERO: BadRows = &[
     b"0 00 1",
     b"00 0 1",
     b"0 0 01",
@@ -11,7 +12,7 @@ pub const LEADING_ZERO: &[&[u8]] = &[
     b"04 - 1",
     b"4 - 007",
 ];
-pub const TEN_DIGITS: &[&[u8]] = &[
+pub const TEN_DIGITS: BadRows = &[
     b"0 0 1000000000",
     b"0 1000000000 1",
     b"0 0 -1000000000",
@@ -21,20 +22,11 @@ pub const TEN_DIGITS: &[&[u8]] = &[
     b"3 4294967296 BF800000 0000000000000000",
     b"4 - 1000000000",
 ];
-pub const MINUS_ZERO: &[&[u8]] = &[
-    b"0 0 -0",
-    b"0 1 5 -0",
-    b"0 0 -0 1",
-    b"0 0 -00",
-    b"4 - -0",
-    b"4 - 1 -0",
-    b"-0 0 1",
-    b"0 -0 1",
-];
-pub const PLUS: &[&[u8]] = &[
+pub const MINUS_ZERO: BadRows = &[b"4 - -0", b"4 - 1 -0", b"-0 0 1", b"0 -0 1"];
+pub const PLUS: BadRows = &[
     b"0 0 +1", b"0 +0 1", b"+3 0", b"4 - +1", b"0 0 +0", b"4 + 1",
 ];
-pub const MINUS: &[&[u8]] = &[
+pub const MINUS: BadRows = &[
     b"0 -1 0",
     b"-1 0 0",
     b"3 -1 BF800000 0000000000000000",
@@ -50,16 +42,7 @@ pub const MINUS: &[&[u8]] = &[
     b"3 0 BF800000 -000000000000000",
     b"-",
 ];
-pub const NO_DIGIT: &[&[u8]] = &[
-    b"0 0 A",
-    b"0 0 /",
-    b"0 0 :",
-    b"0 a 0",
-    b"0 0 1.5",
-    b"0 0 1e3",
-    b"0 0 0x1",
-    b"0 0 1,000",
-    b"x",
+pub const NO_DIGIT: BadRows = &[
     b"3 0 GF800000 0000000000000000",
     b"3 0 BF80000: 0000000000000000",
     b"3 0 BF80000@ 0000000000000000",
@@ -73,21 +56,21 @@ pub const NO_DIGIT: &[&[u8]] = &[
     b"weight index",
     b"id dimension cut left right mass",
 ];
-pub const LOWER_CASE: &[&[u8]] = &[
+pub const LOWER_CASE: BadRows = &[
     b"3 0 bf800000 0000000000000000",
     b"3 0 BF80000a 0000000000000000",
     b"3 0 BF800000 000000000000000a",
     b"3 0 BF800000 0000000000000000 abcdefabcdefabcd",
     b"3 0 BF800000 0000000000000000 8000000000000000 FFFFFFFFFFFFFFFf",
 ];
-pub const WEIGHT_DIGITS: &[&[u8]] = &[
+pub const WEIGHT_DIGITS: BadRows = &[
     b"3 0 BF80000 0000000000000000",
     b"3 0 BF8000000 0000000000000000",
     b"3 0 0000000000000000 0000000000000000",
     b"3 0 0 0000000000000000",
     b"3 0 BFF0000000000000 0000000000000000 8000000000000000",
 ];
-pub const WORD_DIGITS: &[&[u8]] = &[
+pub const WORD_DIGITS: BadRows = &[
     b"3 0 BF800000 000000000000000",
     b"3 0 BF800000 00000000000000000",
     b"3 0 BF800000 0",
@@ -96,7 +79,7 @@ pub const WORD_DIGITS: &[&[u8]] = &[
     b"3 0 BF800000 0000000000000000 80000000000000008000000000000000",
     b"3 0 BF800000 0000000000000000 8000000000000000 80000000",
 ];
-pub const NO_WEIGHT: &[&[u8]] = &[
+pub const NO_WEIGHT: BadRows = &[
     b"3 0",
     b"3 0 ",
     b"3 0 BF800000",
@@ -106,7 +89,7 @@ pub const NO_WEIGHT: &[&[u8]] = &[
     b"3 1023",
     b"3 2000000000",
 ];
-pub const UNKNOWN_OP: &[&[u8]] = &[
+pub const UNKNOWN_OP: BadRows = &[
     b"5 0",
     b"6 0 0",
     b"9 0",
@@ -118,15 +101,15 @@ pub const UNKNOWN_OP: &[&[u8]] = &[
     b"260 - 0",
     b"4294967299 0",
 ];
-pub const BARE: &[&[u8]] = &[
+pub const BARE: BadRows = &[
     b"1 0",
     b"1 0 8000000000000000",
     b"2 0",
     b"2 999999999",
     b"1 1023 8000000000000000 8000000000000000",
 ];
-pub const REPORT_WITH_INDEX: &[&[u8]] = &[b"4 0 1", b"4 1", b"4 1023 0 0", b"4 * 1", b"4 _ 1"];
-pub const DASH: &[&[u8]] = &[
+pub const REPORT_WITH_INDEX: BadRows = &[b"4 0 1", b"4 1", b"4 1023 0 0", b"4 * 1", b"4 _ 1"];
+pub const DASH: BadRows = &[
     b"0 - 0",
     b"3 - BF800000 0000000000000000",
     b"- 0 0",
@@ -134,13 +117,12 @@ pub const DASH: &[&[u8]] = &[
     b"3 0 - 0000000000000000",
     b"3 0 BF800000 -",
 ];
-pub const NO_INDEX: &[&[u8]] = &[
+pub const NO_INDEX: BadRows = &[
     b"0", b"3", b"4", b"0 ", b"3 ", b"4 ", b" ", b"4  1", b"0  1",
 ];
-pub const EMPTY_LINE: &[&[u8]] = &[b""];
 
 /// The making's row, out of form.
-pub const MAKING: &[&[u8]] = &[
+pub const MAKING: BadRows = &[
     b"1 4 16",
     b"1 4",
     b"1",
