@@ -18,7 +18,7 @@ use Rattle.demand3.specs.Claim.{StateClaim, countEvent, EventClaim, Hold
 use Rattle.demand3.proofs.Asked.{asked-is}
 use Rattle.demand3.proofs.Boxes.{cached-boxes}
 use Rattle.demand3.proofs.Channels.{on-channels}
-use Rattle.demand3.proofs.Sampled.{of-sample}
+use Rattle.demand3.proofs.Sampled.{of-sample, stands-sampled}
 use Rattle.demand3.proofs.Steps.{Stands, call-is}
 use Rattle.demand3.proofs.Arrivals.{stands-at, arrival-is}
 use Rattle.demand3.proofs.Reports.{answer-rows}
@@ -33,6 +33,7 @@ module _ (d c : ℕ) (s : Float) where
     boxes = cached-boxes d c s W x K S I;
     sample = of-sample d c s W K x I B;
     channels = on-channels d c W K I (S .reachable .on-channels);
+    stands = (record { channels = d; capacity = c; share = s; world = W; state = S }, stands-sampled d c s W x B);
   }
 
   -- an event's claim, and what it leaves

@@ -22,7 +22,7 @@ use Rattle.samplerplustree.specs.declared.SamplerPlusTree.{SamplerPlusTree}
 use Rattle.samplerplustree.specs.State.{samplerOf, SampledState}
 use Rattle.samplerplustree.proofs.Standing.{puts-keep-sampled}
 use Rattle.demand3.specs.Steps.{Sample, Kept, headIn, SameTree}
-use Rattle.demand3.specs.Claim.{OfSample}
+use Rattle.demand3.specs.Claim.{OfSample, SampleStands}
 
 -- d channels, capacity c, cached share s
 module _ (d c : ℕ) (s : Float) where
@@ -69,3 +69,11 @@ module _ (d c : ℕ) (s : Float) where
 
   pub of-sample : (W : World (whole d)) (K : Counts (whole d)) (x : Kept) → Inv (whole d) c W K → OfWorld W x (x .sample) → OfSample d c s (x .sample) K
   of-sample W K x I B = sample-claim W K x I (x .sample) B
+
+  -- a further arrival may be made
+  sample-stands : (W : World (whole d)) (x : Kept) (o : Option Sample) → OfWorld W x o → SampleStands x o
+  sample-stands W x none B = tt
+  sample-stands W x (some p) B = record { channels = d; share = s; world = sampledAt (B .initial) W (B .entries); state = B .state }
+
+  pub stands-sampled : (W : World (whole d)) (x : Kept) → OfWorld W x (x .sample) → SampleStands x (x .sample)
+  stands-sampled W x B = sample-stands W x (x .sample) B

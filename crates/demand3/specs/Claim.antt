@@ -21,17 +21,24 @@ use Rattle.layout.specs.Layout.{noEnds, noBoxEnds}
 use Rattle.treestore.specs.Arrays.{Lent}
 use Rattle.randomcuttree.specs.declared.RCFTree.{RCFTree}
 use Rattle.randomcuttree.specs.declared.Made.the-variants.{Tree}
+use Rattle.randomcuttree.specs.State.{SomeState}
 use Rattle.randomcuttree.specs.Making.{MakeDone}
 use Rattle.samplerplustree.specs.declared.SamplerPlusTree.{SamplerPlusTree}
 use Rattle.samplerplustree.specs.declared.MadeSampled.the-variants as Sampled
+use Rattle.samplerplustree.specs.State.{SomeSampled}
 use Rattle.samplerplustree.specs.Making.{SampledMade}
 use Rattle.nodeview.specs.declared.ReportAnswer.the-variants.{Rows}
-use Rattle.demand3.specs.Steps.{Sample, Kept, Event, calls, arrives, reports, AnswerTo, CallStep, Step}
+use Rattle.demand3.specs.Steps.{Sample, Kept, headIn, Event, calls, arrives, reports, AnswerTo, CallStep, Step}
 use Rattle.demand3.specs.Answered.{countArrival, ArrivalClaim, SampleClaim, ReportClaim}
 
 -- what is kept as the box of the branch b: its ends in channel i, the lower for k = 0, the upper for k = 1
 abbrev pub endKept : Kept → ℕ → ℕ → ℕ → Float
 endKept x b k i = channel (getD (getD (x .arrays .boxes) b []) k []) i
+
+-- of a sampled tree: what `update` asks of its caller
+abbrev pub SampleStands : Kept → Option Sample → Type 0
+SampleStands x none = Unit {0}
+SampleStands x (some p) = SomeSampled (headIn (x .tree) p) (x .arrays) (x .points) (x .marks) (p .weights) (p .held)
 
 -- d channels, capacity c, cached share s
 module _ (d c : ℕ) (s : Float) where
@@ -56,7 +63,8 @@ module _ (d c : ℕ) (s : Float) where
   Gives x G = (q : Query) (a : Answer (whole d)) (y : Kept) → CallStep d x (query q) a y → a ≡ G .asked q
 
   -- After some calls: the tree that the code's queries give, with the points that the counts keep, is as demand 3 says, and so are the
-  -- cached boxes. Each branch is cut on one of the tree's channels.
+  -- cached boxes. Each branch is cut on one of the tree's channels. And the next call may be made: what is kept meets the `requires` of
+  -- add, delete, the box query and the report, that of a sampled tree the one of `update` too; the other calls ask for nothing.
   pub record StateClaim (x : Kept) (K : Counts (whole d)) : Type 0 where
     pub view : View (whole d)
     pub asked : Gives x view
@@ -65,6 +73,7 @@ module _ (d c : ℕ) (s : Float) where
     pub boxes : CachedBoxes x view
     pub sample : OfSample (x .sample) K
     pub channels : (b : ℕ) (r : Row (whole d)) → IsBranch (whole d) view b r → r .cut .channel < d
+    pub stands : SomeState (x .tree) (x .arrays) (x .points) (x .marks) × SampleStands x (x .sample)
 
   -- 'Queries and reports change none of these and may stand anywhere between.'
   abbrev pub countEvent : (e : Event d) → AnswerTo d e → Counts (whole d) → Counts (whole d)
