@@ -1,8 +1,8 @@
 #!/bin/bash
 # Times the program regrow on archives and prints Markdown tables; writes nothing into the project.
 #   harness/speed_archives.sh [SCALE [REPETITIONS]]
-# First one archive after another on one core: 20,000 arrivals at capacity 256, which bring 5 million words, and a million
-# arrivals at capacity 8. Then 8 archives of a folder, one at a time and two at a time. SCALE divides all
+# First one archive after another on one core: 20,000 arrivals at capacity 256, which bring 5 million words, a million
+# at capacity 8 and half a million at 16. Then 8 archives of a folder, one at a time and two at a time. SCALE divides all
 # numbers of arrivals, 1 if not given; each time is the least of 3 repetitions if not told otherwise. REGROW names the
 # program, target/bin/regrow if unset. KRCF_SRC as for run.sh. Needs cargo and the Rust; about 400 MB of disk.
 set -euo pipefail

@@ -22,7 +22,7 @@ use Rattle.randomcuttree.specs.State.{headerOf}
 use Rattle.randomcuttree.specs.Answers.{addSays, deleteSays}
 use Rattle.randomcuttree.specs.Queries.{copiesSay, branchSays, boxSays}
 
--- 'Each begins with the refusal's number, 0 where there is none. A refused call's other numbers are 0.'
+-- docs/LAYOUT.md: 'Each answer begins with the refusal's number, 0 where there is none. A refused call changes nothing, and its other numbers are 0.'
 abbrev pub putNumbers : PutAnswer → List ℕ
 putNumbers Written = 0 ∷ []
 putNumbers (Refused r) = r ∷ []

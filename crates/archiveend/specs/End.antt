@@ -3,6 +3,7 @@ use mathlib.Core.Path.{_≡_, refl}
 use mathlib.Core.List.{List, [], _∷_, _++_}
 use Prim.Native.Nat.{ℕ, _+_, _*_, _≤_}
 use lib.ListN.{length}
+use Rattle.limits.specs.Limits.{capacityLimit}
 use lib.Ieee.{Float, binary32, ofBits, toBits}
 use Rattle.text.specs.Quoted.{bytes}
 use Rattle.lines.specs.Lines.{digit, decimalIn, decimal, hex, lastNumberField}
@@ -12,7 +13,7 @@ use Rattle.sampledtree.specs.Sampled.{Sampled}
 use Rattle.treestore.specs.Arrays.{Lent}
 use Rattle.samplerplustree.specs.declared.SamplerPlusTree.{SamplerPlusTree}
 use Rattle.samplerplustree.specs.State.{SampledState}
-use Rattle.printed.specs.Printed.{printedTree}
+use Rattle.printed.specs.Printed.{printedTree, treeLimit}
 
 -- The line of an arrival that is kept: 'the bits of the weight and the point index', the bits as 'cut bits 8 upper-case hexadecimal digits' are. Document 01,
 -- 'Printed tree': 'One space stands between fields, and every line, the last too, ends in a line feed.'
@@ -36,9 +37,9 @@ sampleNames = bytes "weight index\n"
 abbrev pub endLines : (d : ℕ) → Sampled (whole d) → List ℕ
 endLines d X = sampleNames ++ entryLines (X .sample) ++ printedTree d (X .capacity) (X .world .tree)
 
--- 16,399 bytes: a line of names of 13, 256 kept arrivals of 14, and a tree of 12,802
+-- 16,399 bytes: a line of names of 13, as many kept arrivals of 14 as a tree has leaves, and a tree
 abbrev pub endLimit : ℕ
-endLimit = 13 + 256 * 14 + 12802
+endLimit = 13 + capacityLimit * 14 + treeLimit
 
 -- No sampled tree prints more. Proved in proofs/Sizes.antt.
 abbrev pub EndFits : Type 0

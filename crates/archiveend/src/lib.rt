@@ -1,9 +1,11 @@
 // What is printed where an archive ends, written to a lent buffer: the sample, a line for each arrival that is kept, and the printed tree.
+use limits::CAPACITY;
 use limits::Copies;
 use limits::Cuts;
 use limits::Held;
 use limits::Nodes;
 use limits::Weights;
+use listing::TREE;
 use samplerplustree::SamplerPlusTree;
 ghost use Prim.Native.Nat.{_+_, _≤_, _<_};
 ghost use Rattle.limits.specs.Limits.{capacityLimit};
@@ -13,7 +15,7 @@ ghost use Rattle.archiveend.specs.End.{entryLine, entryLines, endLimit};
 ghost use Rattle.archiveend.specs.Prints.{PrintsEnd, SomeEnd};
 
 // A buffer of so many bytes has room for what any sampled tree prints: `endLimit`.
-pub const END: usize = 13 + 256 * 14 + 12802;
+pub const END: usize = 13 + CAPACITY * 14 + TREE;
 
 // The line of an arrival that is kept.
 fn put_entry(out: &mut [u8], at: usize, bits: usize, index: usize) -> usize

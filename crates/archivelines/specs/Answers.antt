@@ -5,6 +5,7 @@ use mathlib.Core.List.{List, [], _∷_, _++_}
 use Prim.Native.Nat.{ℕ, _*_}
 use lib.Dec.{eqb}
 use lib.ListN.{getD, take}
+use Rattle.limits.specs.Limits.{capacityLimit}
 use Rattle.text.specs.Quoted.{bytes}
 use Rattle.lines.specs.Lines.{digit, decimalIn, decimal, hex, numberField, lastNumberField, refusedLine}
 
@@ -46,6 +47,6 @@ arrivalLine n r = cond (eqb (getD n 1 0) 0) (passedLine r) (cond (eqb (getD n 1 
 unfoldable pub answerLines : (op : ℕ) → List ℕ → List (List ℕ) → (r : ℕ) → List ℕ
 answerLines op n rows r = cond (eqb (getD n 0 0) 0) (cond (eqb op 3) (arrivalLine n r) (cond (eqb op 4) (reportLines (take (getD n 1 0) rows)) [])) (refusedLine (getD n 0 0) r)
 
--- 21,504 bytes: a report has at most 256 rows, and four numbers of 64 bits take at most 84 bytes with their names, spaces and line feed
+-- 21,504 bytes: a report has at most as many rows as a tree has leaves, and four numbers of 64 bits take at most 84 bytes with their names, spaces and line feed
 abbrev pub answerLimit : ℕ
-answerLimit = 256 * 84
+answerLimit = capacityLimit * 84

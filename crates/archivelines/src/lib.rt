@@ -2,6 +2,7 @@
 use limits::CAPACITY;
 ghost use Prim.Native.Nat.{_+_, _≤_, _<_};
 ghost use lib.ListN.{length, take};
+ghost use Rattle.limits.specs.Limits.{capacityLimit};
 ghost use Rattle.lines.specs.Lines.{Wrote};
 ghost use Rattle.archivelines.specs.Answers.{passedLine, keptLine, evictedLine, reportLine, reportLines, arrivalLine, answerLines, answerLimit};
 
@@ -58,7 +59,7 @@ fn put_report_row(out: &mut [u8], at: usize, row: [u64; 4]) -> usize
 
 // Writes the first `count` rows, or all where there are fewer.
 fn put_report(out: &mut [u8], at: usize, rows: &[[u64; 4]], count: usize) -> usize
-    requires { ⌜ (at < 10000000000) × (length (now rows) ≤ 256) ⌝ }
+    requires { ⌜ (at < 10000000000) × (length (now rows) ≤ capacityLimit) ⌝ }
     ensures wrote { λ r. ⌜ Wrote (now (out .entry)) at (reportLines (take count (now (rows .entry)))) r (now (out .exit)) ⌝ }
     ensures few { λ r. ⌜ r ≤ at + answerLimit ⌝ }
 {

@@ -40,7 +40,7 @@ Arrives i w x ws tree a points marks weights held tree′ a′ weights′ held�
     (d : ℕ) (s : Float) (X : Sampled (whole d)) → SampledState d s X tree a points marks weights held
     → Arrived d s (call (whole d) X (arrive i w x ws)) tree′ a′ points marks weights′ held′ reply
 
--- the same from between the steps of an arrival of n words that the offer o was told for, where those of the list first that are looked at are its own
+-- the same from between the steps of an arrival of n words that the offer o was told for, where of the words `first` those that are looked at are the arrival's own
 abbrev pub EntersBy : Offer → ℕ → ℕ → Float → ℕ → List ℕ → List ℕ → Remaining → Lent → List (List Float) → List ℕ → List Float → List ℕ → SamplerPlusTree → Lent → List Float → List ℕ → List ℕ → Type 0
 EntersBy o n i w x first ws remaining a points marks weights held tree′ a′ weights′ held′ reply =
     (d : ℕ) (s : Float) (X : Sampled (whole d)) → RemainingState d s X o remaining a points marks weights held → o ≡ offered d X i w x n → take (wordsUsed d X i o) first ≡ take (wordsUsed d X i o) (take capacityLimit ws)

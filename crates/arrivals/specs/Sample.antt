@@ -19,8 +19,8 @@ abbrev pub entryNumbers : List Entry → List ℕ
 entryNumbers [] = []
 entryNumbers (k ∷ ks) = toBits binary32 (k .weight) ∷ k .index ∷ entryNumbers ks
 
--- 'refusal (always 0), how many arrivals are kept, then for each of c places the bits of the weight and the point index, in the heap's order, 0 beyond
--- those kept'
+-- docs/LAYOUT.md, kind 11: 'refusal (always 0), how many arrivals are kept, then for each of capacity places the bits of the weight and the point index, in
+-- the heap's order, 0 beyond those kept'
 abbrev pub sampleNumbers : ℕ → List Entry → List ℕ
 sampleNumbers c ks = 0 ∷ length ks ∷ filled (2 * c) (entryNumbers ks)
 

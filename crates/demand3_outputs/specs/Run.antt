@@ -37,8 +37,8 @@ module _ (d : ℕ) where
   RunAnswers [] = Unit {0}
   RunAnswers (e ∷ es) = RunAnswer e × RunAnswers es
 
-  -- docs/LAYOUT.md, 'The answers': 'Each begins with the refusal's number, 0 where there is none. A refused call's other numbers are 0', n
-  -- numbers in all.
+  -- docs/LAYOUT.md, 'The answers': 'Each answer begins with the refusal's number, 0 where there is none. A refused call changes nothing, and its other
+  -- numbers are 0.' n numbers in all.
   abbrev pub plainNumbers : ℕ → Answer (whole d) → List ℕ
   plainNumbers n (refused r) = numberOf r ∷ replicate (n - 1) 0
   plainNumbers n written = 0 ∷ []

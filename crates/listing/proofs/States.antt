@@ -23,7 +23,7 @@ use Rattle.cuttree.proofs.Room.{at-leaf, index-below, index-once, intervals-few
 use Rattle.wholetree.specs.Reading.{Reading}
 use Rattle.wholetree.specs.Whole.{whole, tab}
 use Rattle.wholetree.proofs.Laws.{whole-laws}
-use Rattle.printed.specs.Printed.{linesOf, printedTree}
+use Rattle.printed.specs.Printed.{linesOf, printedTree, nodesLimit, treeLimit}
 use Rattle.layout.specs.Slots.{rowOf, cutOf, countAt}
 use Rattle.layout.specs.Layout.{noRow, rootOf, tableOf}
 use Rattle.layout.specs.Stands.{Once, InRange}
@@ -67,18 +67,18 @@ module _ (d c : ℕ) (f : ℕ → Option Reading) (t : Tree (whole d)) (u : List
   copies-stand copies e = all-by d (λ i q n. getD copies i 0 ≡ n) t (λ i q n j.
       entry-of pointLimit (λ (x : ℕ). countAt d c t x) copies e 0 i (index-below (whole d) c (whole-laws d) f t u H j) ∙ at-leaf (whole d) (λ n. n) j (index-once (whole d) c (whole-laws d) f t u H i))
 
-  tree-few : c ≤ capacityLimit → InRange d c t → length (linesOf d c t) ≤ 12769
+  tree-few : c ≤ capacityLimit → InRange d c t → length (linesOf d c t) ≤ nodesLimit
   tree-few m h =
       let a = lines-few d c t m h (omega (arith, H .light)) in
       let b : leaves (whole d) t ≡ suc (branches d t) = leaves-branches (whole d) t in
       let e : branches d t + length u ≤ c - 1 = intervals-few (whole d) c (whole-laws d) f t u H in
       omega arith
 
--- What a reachable world's tree prints: 255 branches of 31 bytes, 256 leaves of 19, and 33 bytes of names.
-pub printed-few : (d c : ℕ) (W : World (whole d)) → d ≤ width → c ≤ capacityLimit → Reachable d c W → length (printedTree d c (W .tree)) ≤ 12802
+-- what a reachable world's tree prints
+pub printed-few : (d c : ℕ) (W : World (whole d)) → d ≤ width → c ≤ capacityLimit → Reachable d c W → length (printedTree d c (W .tree)) ≤ treeLimit
 printed-few d c W l m R = go (W .tree) refl
   where
-    go : (o : Option (Tree (whole d))) → W .tree ≡ o → length (printedTree d c o) ≤ 12802
+    go : (o : Option (Tree (whole d))) → W .tree ≡ o → length (printedTree d c o) ≤ treeLimit
     go none e = omega arith
     go (some t) e = rw length-append (omega (arith, tree-few d c (W .table) t (W .free) (sound R e) m (in-range R e l)))
 
@@ -91,7 +91,7 @@ module _ (d c : ℕ) (s : Float) (W : World (whole d)) (tree : RCFTree) (a : Len
     pub at-root : id (whole d) c found ≡ tree .root
     pub singly : Once d c found
     pub listed : Listed d c (a .nodes) (a .cuts) (a .copies) found
-    pub few : length (linesOf d c found) ≤ 12769
+    pub few : length (linesOf d c found) ≤ nodesLimit
 
   pub there : (tree .total ≡ 0 → ⊥) → There
   there h =

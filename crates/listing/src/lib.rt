@@ -1,6 +1,8 @@
 // The printed tree of `treelist`: a line of names, then a line for each node, branch before left before right, read from the arrays that a tree stands in.
 use casts::wide16;
 use casts::wide32;
+use limits::BRANCHES;
+use limits::CAPACITY;
 use limits::Copies;
 use limits::Cuts;
 use limits::Nodes;
@@ -14,6 +16,9 @@ ghost use Rattle.cuttree.specs.Tree.{leafMass};
 ghost use Rattle.layout.specs.Slots.{field};
 ghost use Rattle.listing.specs.Listing.{rowLine, PrintsNode, SomeListed};
 ghost use Rattle.listing.specs.Printed.{PrintsTree, SomeRead};
+
+// A buffer of so many bytes has room for what any tree prints: `treeLimit`.
+pub const TREE: usize = 33 + BRANCHES * 31 + CAPACITY * 19;
 
 // A number of a branch's row: 0 is its left side, 1 its right, 2 its mass and 3 its channel.
 fn number_of(nodes: &Nodes, node: usize, i: usize) -> usize
@@ -41,12 +46,12 @@ fn print_branch(id: usize, nodes: &Nodes, cuts: &Cuts, out: &mut [u8], at: usize
     requires { ⌜ (id < branchLimit) × (at < 100000000000) ⌝ }
     ensures { λ r. ⌜ Wrote (now (out .entry)) at (rowLine (now (nodes .entry)) (now (cuts .entry)) id) r (now (out .exit)) ⌝ }
 {
-    let cut = wide32(little::pattern_of(cuts[id]));
+    let cut = walk::cut_at(nodes, cuts, id);
+    let value = wide32(little::pattern_of(cut.value));
     let left = number_of(nodes, id, 0);
     let right = number_of(nodes, id, 1);
     let mass = number_of(nodes, id, 2);
-    let dimension = number_of(nodes, id, 3);
-    lines::put_branch(out, at, id, dimension, cut, left, right, mass)
+    lines::put_branch(out, at, id, cut.dimension, value, left, right, mass)
 }
 
 // The lines of a node and of all below it. A leaf's id is at least the capacity.

@@ -1,8 +1,9 @@
 -- The printed tree of document 01, as bytes. Definitions.
 use mathlib.Core.Option.{Option, none, some}
 use mathlib.Core.List.{List, _++_}
-use Prim.Native.Nat.{ℕ}
+use Prim.Native.Nat.{ℕ, _+_, _*_}
 use lib.Ieee.{binary32, toBits}
+use Rattle.limits.specs.Limits.{branchLimit, capacityLimit}
 use Rattle.lines.specs.Lines.{branchLine, leafLine, namesLine}
 use Rattle.cuttree.specs.Tree.{Tree, leaf, branch, id, mass}
 use Rattle.wholetree.specs.Whole.{whole}
@@ -19,3 +20,10 @@ module _ (d c : ℕ) where
   abbrev pub printedTree : Option (Tree (whole d)) → List ℕ
   printedTree none = namesLine
   printedTree (some t) = namesLine ++ linesOf t
+
+-- what a tree prints at most, 12,802 bytes: a line of names of 33, lines of branches of 31 and of leaves of 19 (`printed-few` of crate `listing`)
+abbrev pub nodesLimit : ℕ
+nodesLimit = branchLimit * 31 + capacityLimit * 19
+
+abbrev pub treeLimit : ℕ
+treeLimit = 33 + nodesLimit

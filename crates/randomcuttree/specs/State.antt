@@ -18,7 +18,7 @@ use Rattle.layout.specs.Layout.{rootOf, tableOf}
 use Rattle.treestore.specs.Arrays.{Lent, managerOf, arraysOf}
 use Rattle.randomcuttree.specs.declared.RCFTree.{RCFTree}
 
--- 'Branches below the whole part of share × c are cached': there are c − 1 branches at most
+-- 'Branches below the whole part of share × c (one rounded product) are cached.' There are c − 1 branches at most.
 abbrev pub cachedBy : Float → ℕ → ℕ
 cachedBy s c = min (cachedPart s c) (c - 1)
 
@@ -27,7 +27,7 @@ abbrev pub OnChannels : (d : ℕ) → Tree (whole d) → Type 0
 OnChannels d (leaf i q n) = Unit {0}
 OnChannels d (branch b k g l r) = (k .channel < d) × OnChannels d l × OnChannels d r
 
--- a world that a making and its calls leave
+-- Every world that a making and its calls leave is one of these (`StatesStand`): sound, cut on the tree's own channels, and with readings of its width.
 pub record Reachable (d c : ℕ) (W : World (whole d)) : Type 0 where
   pub sound : Sound (whole d) c W
   pub on-channels : OfTree (whole d) (OnChannels d) (W .tree)

@@ -234,12 +234,8 @@ impl RCFTree {
         if mass == 0 {
             return BranchAnswer::NoBranch(16);
         }
-        let cut = Cut {
-            dimension: field_at(nodes, id, 3),
-            value: cuts[id],
-        };
         BranchAnswer::Branch(BranchRow {
-            cut,
+            cut: walk::cut_at(nodes, cuts, id),
             left: field_at(nodes, id, 0),
             right: field_at(nodes, id, 1),
             mass,

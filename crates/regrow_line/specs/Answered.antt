@@ -50,7 +50,7 @@ answered d s X (arrives i w x ws) r = arrivalLines (updateSays d (headOf d s (ca
 answered d s X (reports xs) r = linesOfReport (reportTo d X xs) r
 answered d s X outOfForm r = refusedLine outNumber r
 
--- 'A row out of form prints `refused 17 R` and ends all'
+-- a row out of form prints `refused 17 R` and ends all
 abbrev pub inForm : ArchiveRow → Bool
 inForm (puts i xs) = true
 inForm (arrives i w x ws) = true

@@ -20,7 +20,7 @@ use Rattle.samplerplustree.specs.Making.{sampledBy}
 use Rattle.runlayout.specs.Layout.{RunCall, isSampled, channels, capacity, share, initial, calls}
 use Rattle.runsteps.specs.Told.{toldFrom}
 
--- '15: fewer answer bytes are lent than the run needs'; else the numbers' bytes, and the lent bytes beyond them as they were
+-- 15 where fewer answer bytes are lent than the run needs; else the numbers' bytes, and the lent bytes beyond them as they were
 abbrev pub given : List ℕ → List ℕ → ℕ × List ℕ
 given ns lent = cond (leb (4 * length ns) (length lent)) (4 * length ns, bytesOf ns ++ drop (4 * length ns) lent) (15, lent)
 
@@ -38,12 +38,12 @@ module _ (run : List ℕ) where
   abbrev pub begun : Sampled (whole (channels run))
   begun = fresh (whole (channels run)) (capacity run) (cond (isSampled run) (initial run) nought)
 
-  -- 'One answer for the making, then one for each call. If the making is refused, its number is the only answer.'
+  -- docs/LAYOUT.md: 'One answer for the making, then one for each call, in their order; but if the making is refused, there is no tree to call: its number is the only answer'
   abbrev pub answered : MadeSampled → List (RunCall (channels run)) → List ℕ
   answered (NotMade r) cs = r ∷ []
   answered (Tree h) cs = 0 ∷ toldFrom (channels run) (share run) begun cs
 
-  -- '17: the run's bytes are not in the layout'
+  -- 17 where the run's bytes are not in the layout
   abbrev pub outcomeOf : Option (List (RunCall (channels run))) → List ℕ → ℕ × List ℕ
   outcomeOf none lent = (17, lent)
   outcomeOf (some cs) lent = given (answered made cs) lent

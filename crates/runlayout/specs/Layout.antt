@@ -24,7 +24,7 @@ abbrev pub withCall : {A : Type 0} → A → Option (List A) → Option (List A)
 withCall x none = none
 withCall x (some xs) = some (x ∷ xs)
 
--- 'kinds 3 and 7 to 10 on both kinds of tree; 4 and 5 on a bare one, 6 and 11 on a sampled one'
+-- docs/LAYOUT.md, 'The run': kinds 3 and 7 to 10 stand on both kinds of tree, 4 and 5 on a bare one, 6 and 11 on a sampled one
 abbrev pub isCall : Bool → ℕ → Bool
 isCall sampled k = eqb k 3 || (leb 7 k && leb k 10) || cond sampled (eqb k 6 || eqb k 11) (eqb k 4 || eqb k 5)
 

@@ -14,12 +14,12 @@ lowHalf x = x % 4294967296
 abbrev pub highHalf : ℕ → ℕ
 highHalf x = x / 4294967296
 
--- 'five numbers: id, depth, mass, probability as bits (2 numbers, the lower half first)'
+-- docs/LAYOUT.md, kind 7: 'five numbers: id, depth, mass, probability (bits of an f64, 2 numbers)', 'the lower half first'
 abbrev pub rowNumbers : List ReportRow → List ℕ
 rowNumbers [] = []
 rowNumbers (r ∷ rs) = r .id ∷ r .depth ∷ r .mass ∷ lowHalf (toBits binary64 (r .probability)) ∷ highHalf (toBits binary64 (r .probability)) ∷ rowNumbers rs
 
--- 'refusal, number of rows written, then for each of the rows lent five numbers; rows beyond those written are 0, and all are 0 where refused': n rows lent
+-- 'refusal, number of rows written, then for each of the rows lent five numbers', 'rows beyond those written are 0'; all are 0 where it is refused. n rows are lent.
 abbrev pub reportNumbers : ℕ → Report → List ℕ
 reportNumbers n (refused r) = reportNumber r ∷ 0 ∷ filled (5 * n) []
 reportNumbers n (rows rs) = 0 ∷ length rs ∷ filled (5 * n) (rowNumbers rs)

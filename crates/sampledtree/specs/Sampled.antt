@@ -58,7 +58,7 @@ module _ (S : Setting) where
   withSample X W ks = record { capacity = X .capacity; initial = X .initial; world = W; sample = ks }
 
   -- The add's answer and the world that it leaves, with the entries ks: "The sample keeps the leaf's index that the add returns". Here an
-  -- add has no other answer: `AlwaysAdded`.
+  -- add has no other answer: `EveryArrival` (specs/Arrivals.antt).
   abbrev pub admitted : Sampled → List Entry → Option ℕ → Float → Answer S × World S → SampledAnswer × Sampled
   admitted X ks e w (added j n, W) = (accepted j e, withSample X W (pushed above beyond ks (record { weight = w; index = j })))
   admitted X ks e w (refused r, W) = (notAccepted, X)

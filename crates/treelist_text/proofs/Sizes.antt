@@ -22,6 +22,7 @@ use Rattle.form.specs.Form.{Parsed, bad, read, parsed, FewRows}
 use Rattle.form.proofs.Sizes.{few-rows}
 use Rattle.lines.specs.Lines.{Wrote}
 use Rattle.lines.proofs.Lengths.{refused-few}
+use Rattle.printed.specs.Printed.{treeLimit}
 use Rattle.listing.proofs.States.{printed-few}
 use Rattle.rowcalls.specs.Ops.{callOf}
 use Rattle.treelist_text.specs.Output.{toldRow, outputFrom, outputBy, outputOf, output, printedLimit, OutputFits}
@@ -51,7 +52,7 @@ told-few d (boxIs b) n h = omega arith
 
 -- ---- the op rows and the tree: each row leaves a reachable world
 module _ (d c : ℕ) (l : 1 ≤ d) (m : d ≤ width) (k : c ≤ capacityLimit) where
-  rows-few : (W : World (whole d)) → Reachable d c W → (n : ℕ) (os : List Op) → n + length os < 10000 → length (outputFrom d c W n os) ≤ 16 * length os + 12802
+  rows-few : (W : World (whole d)) → Reachable d c W → (n : ℕ) (os : List Op) → n + length os < 10000 → length (outputFrom d c W n os) ≤ 16 * length os + treeLimit
   rows-few W R n [] h = omega (arith, printed-few d c W m k R)
   rows-few W R n (o ∷ os) h =
       let x = call (whole d) c W (callOf d o) in

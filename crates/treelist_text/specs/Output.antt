@@ -11,7 +11,7 @@ use Rattle.form.specs.Rows.{Op}
 use Rattle.form.specs.Making.{sixteenthsOf}
 use Rattle.form.specs.Form.{Parsed, bad, read, parsed}
 use Rattle.lines.specs.Lines.{refusedLine}
-use Rattle.printed.specs.Printed.{printedTree}
+use Rattle.printed.specs.Printed.{printedTree, treeLimit}
 use Rattle.rowcalls.specs.Ops.{callOf}
 
 -- 'A refused row prints `refused N R` before the list, R being the op row from 1'
@@ -43,10 +43,9 @@ outputOf (read m os) = outputBy (m .channels) (m .capacity) (madeBy (m .channels
 abbrev pub output : List ℕ → List ℕ
 output t = outputOf (parsed t)
 
--- 143,682 bytes: a text has at most 8,180 op rows (`FewRows`), a refused one prints at most 16 bytes, and a tree at most 12,802, which are a line of names of
--- 33, 255 branches of 31 and 256 leaves of 19
+-- 143,682 bytes: a text has at most 8,180 op rows (`FewRows`), and a refused one prints at most 16 bytes
 abbrev pub printedLimit : ℕ
-printedLimit = 8180 * 16 + 12802
+printedLimit = 8180 * 16 + treeLimit
 
 -- No text prints more; it is proved in proofs/Sizes.antt.
 abbrev pub OutputFits : Type 0

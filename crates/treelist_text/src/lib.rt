@@ -13,6 +13,7 @@ use limits::Marks;
 use limits::Nodes;
 use limits::POINTS;
 use limits::Points;
+use listing::TREE;
 use randomcuttree::Made;
 use randomcuttree::RCFTree;
 ghost use mathlib.Core.Path.{_≡_};
@@ -34,7 +35,7 @@ ghost use Rattle.treelist_text.specs.Output.{outputFrom, outputBy, outpu
 ghost use Rattle.treelist_text.specs.Running.{InForm, HasRows, Standing, SomeStanding};
 
 // A buffer of so many bytes has room for what any text prints: `printedLimit`.
-pub const PRINTED: usize = 8180 * 16 + 12802;
+pub const PRINTED: usize = 8180 * 16 + TREE;
 
 // Writes the line of a row that is refused, and nothing for one that is not: its refusal is 0.
 fn tell_row(out: &mut [u8], at: usize, refusal: usize, row: usize) -> usize

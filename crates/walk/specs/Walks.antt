@@ -7,11 +7,16 @@ use lib.ListN.{length, getD, take}
 use lib.Ieee.{Float, nan, le}
 use Rattle.limits.specs.Limits.{capacityLimit}
 use Rattle.boundingbox.specs.Ends.{channel}
+use Rattle.cut.specs.declared.Cut.{Cut}
 use Rattle.cuttree.specs.Tree.{Tree, id, walk, leaves}
 use Rattle.wholetree.specs.Reading.{Reading}
 use Rattle.wholetree.specs.Whole.{whole}
 use Rattle.layout.specs.Slots.{rowOf, cutOf, field}
 use Rattle.layout.specs.Stands.{Laid, InRange, trail}
+
+-- the cut of branch i, as it lies in the rows and the cuts
+abbrev pub cutRead : List (List ℕ) → List Float → ℕ → Cut
+cutRead n x i = record { dimension = field n i 3; value = getD x i nan }
 
 -- the side that the point goes to, and the other
 abbrev pub stepOf : List (List ℕ) → List Float → List Float → ℕ → List ℕ

@@ -1,6 +1,7 @@
 // The walk of a point through a cut tree's rows, from the root to its leaf, and whether two readings are the same. After nodestore.rs, and `is_equal` of pointstore.rs.
 // A path is lent, as the Rust's vector of node and sibling is.
 use casts::wide16;
+use cut::Cut;
 use limits::CHANNELS;
 use limits::Cuts;
 use limits::Nodes;
@@ -17,7 +18,7 @@ ghost use Rattle.wholetree.specs.Reading.{Reading, sameRow};
 ghost use Rattle.wholetree.specs.Whole.{whole};
 ghost use Rattle.layout.specs.Slots.{field};
 ghost use Rattle.layout.specs.Stands.{noSibling};
-ghost use Rattle.walk.specs.Walks.{stepOf, Walks, SomeWalks, Walked, SomeWalked};
+ghost use Rattle.walk.specs.Walks.{cutRead, stepOf, Walks, SomeWalks, Walked, SomeWalked};
 
 // The root stands in a path with this in place of a sibling.
 const NO_SIBLING: u16 = 65535;
@@ -52,6 +53,18 @@ fn in_turn(straight: bool, a: u16, b: u16) -> [u16; 2]
     [(both % 65536) as u16, (both / 65536) as u16]
 }
 
+// The cut of a branch. It lies in two arrays (decision 1), and is read here alone.
+// Rules out the mass taken for the channel, and the value of another branch's cut.
+pub fn cut_at(nodes: &Nodes, cuts: &Cuts, i: usize) -> Cut
+    requires { ⌜ i < branchLimit ⌝ }
+    ensures { λ r. ⌜ r ≡ cutRead (now (nodes .entry)) (now (cuts .entry)) i ⌝ }
+{
+    Cut {
+        dimension: wide16(nodes[i][3]),
+        value: cuts[i],
+    }
+}
+
 // The side that the point goes to, and the other.
 // Rules out a point that equals the cut's value on the right, and the sides with the point's own second.
 pub fn step_at(nodes: &Nodes, cuts: &Cuts, point: &Row, i: usize) -> [u16; 2]
@@ -59,10 +72,11 @@ pub fn step_at(nodes: &Nodes, cuts: &Cuts, point: &Row, i: usize) -> [u16; 2]
     requires { ⌜ field (now nodes) i 3 < width ⌝ }
     ensures { λ r. ⌜ r ≡ stepOf (now (nodes .entry)) (now (cuts .entry)) (now (point .entry)) i ⌝ }
 {
-    let d = wide16(nodes[i][3]);
+    let cut = cut_at(nodes, cuts, i);
+    let d = cut.dimension;
     let left = nodes[i][0];
     let right = nodes[i][1];
-    in_turn(point[d] <= cuts[i], left, right)
+    in_turn(point[d] <= cut.value, left, right)
 }
 
 // A path begins with the root, which has no sibling.

@@ -1,4 +1,5 @@
 //! Lends runs to the port and holds what it returns, writes and leaves against what it must.
+use crate::chains;
 use crate::difference::{self, Difference};
 use crate::inputs::Inputs;
 use crate::tally::{Least, Tally};
@@ -51,6 +52,20 @@ impl<A: Answers> Judge<A> {
             self.tally.shown += 1;
             let name = format!("call {} of docs/LAYOUT.md", self.tally.shown);
             self.hold(&name, &shown.run, shown.lent, &shown.outcome);
+        }
+        Ok(())
+    }
+
+    /// Compares chains of leaves on as little stack as docs/LAYOUT.md asks for.
+    pub fn look_at_chains(&mut self) -> Result<(), String> {
+        for chain in chains::all() {
+            self.tally.chains += 1;
+            let name = format!("chain {}", self.tally.chains);
+            let run = chain.encode();
+            let expected = outcome(&run, MOST_LENT);
+            let lent = expected.returned();
+            let called = chains::on_small_stack(&run, lent)?;
+            self.hold_called(&name, &run, lent, &expected, &called);
         }
         Ok(())
     }
@@ -112,6 +127,17 @@ impl<A: Answers> Judge<A> {
     /// One call of the port.
     fn hold(&mut self, name: &str, run: &[u8], lent: usize, expected: &Outcome) {
         let called = self.answers.call(run, lent);
+        self.hold_called(name, run, lent, expected, &called);
+    }
+
+    fn hold_called(
+        &mut self,
+        name: &str,
+        run: &[u8],
+        lent: usize,
+        expected: &Outcome,
+        called: &Called,
+    ) {
         let equal = match expected {
             Outcome::Refused(refusal) => called.returned == *refusal as usize,
             Outcome::Answered(bytes) => called.written == *bytes,
@@ -126,7 +152,7 @@ impl<A: Answers> Judge<A> {
                 run,
                 lent,
                 expected,
-                called: &called,
+                called,
             };
             println!("{}", difference::text(&difference));
         }

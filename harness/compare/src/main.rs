@@ -7,11 +7,12 @@
 //!                             is noticed
 //!   compare --replay          reads a run in hexadecimal digits and shows each call's two answers
 //!
-//! SEED is a whole number; the same one gives the same runs. The worked runs of docs/LAYOUT.md are
-//! compared before them. The last line says how many were compared and how many differ; the exit
+//! SEED is a whole number; the same one gives the same runs. The worked runs of docs/LAYOUT.md, and chains of
+//! 256 leaves on as little stack as that page asks for, are compared before them. The last line says how many were compared and how many differ; the exit
 //! status is 0 only if none does and no fewer were compared than asked for.
 #![forbid(unsafe_code)]
 
+mod chains;
 mod difference;
 mod fault;
 mod inputs;
@@ -99,6 +100,7 @@ fn compare(until: Until, seed: u64) -> Result<(), String> {
     let source = Source::new(seed);
     let mut judge = Judge::new(Plain::default());
     judge.look_at_page()?;
+    judge.look_at_chains()?;
     let mut n = match until {
         Until::Only(n) => n,
         _ => 0,

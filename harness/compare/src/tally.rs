@@ -18,6 +18,8 @@ pub struct Least {
 pub struct Tally {
     /// Calls that docs/LAYOUT.md shows.
     pub shown: usize,
+    /// Chains of 256 leaves, on a small stack.
+    pub chains: usize,
     runs: usize,
     sampled_runs: usize,
     calls: usize,
@@ -58,7 +60,10 @@ impl Tally {
 
     /// The counts in words, the last line last.
     pub fn print(&self) {
-        println!("docs/LAYOUT.md: {} calls of its worked runs", self.shown);
+        println!(
+            "docs/LAYOUT.md: {} calls of its worked runs; {} chains of leaves on a small stack",
+            self.shown, self.chains
+        );
         let met = self.refusals.iter().filter(|(refusal, _)| **refusal > 0);
         let met: Vec<String> = met.map(|(refusal, n)| format!("{refusal}: {n}")).collect();
         println!("refusals within runs: {}", met.join(", "));

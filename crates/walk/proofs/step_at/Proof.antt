@@ -1,19 +1,13 @@
 -- `step_at` meets its contract. Assumes nothing.
+use native.Mathlib.Omega.{arith}
+use mathlib.Core.Path.{ap}
+use Rattle.cut.specs.declared.Cut.{Cut}
 use borrow.Author.Needs.{needs}
 use Rattle.walk.proofs.step_at.Statement.{statement}
 use Rattle.walk.proofs.step_at.Tie as tie
 
-mul-wide16 : tie.Need-mul-wide16
-mul-wide16 c = search needs
-
-index-1-wide16 : tie.Need-index-1-wide16
-index-1-wide16 c = search needs
-
-index-2-wide16 : tie.Need-index-2-wide16
-index-2-wide16 c = search needs
-
-wide16-requires : tie.Need-wide16-requires
-wide16-requires c κs = search needs
+cut-at-requires : tie.Need-cut-at-requires
+cut-at-requires c κs = search needs
 
 mul-left : tie.Need-mul-left
 mul-left c = search needs
@@ -34,31 +28,22 @@ index-2-right : tie.Need-index-2-right
 index-2-right c = search needs
 
 mul-in-turn : tie.Need-mul-in-turn
-mul-in-turn c = search needs
+mul-in-turn c = let e = ap (λ (x : Cut). x .dimension) (c .before .before .cut-at .ensures) in omega (arith, e, c .before .before .before .pre .1)
 
 element-copy-out-in-turn : tie.Need-element-copy-out-in-turn
-element-copy-out-in-turn c = search needs
-
-mul-in-turn-2 : tie.Need-mul-in-turn-2
-mul-in-turn-2 c = search needs
-
-element-copy-out-in-turn-2 : tie.Need-element-copy-out-in-turn-2
-element-copy-out-in-turn-2 c = search needs
+element-copy-out-in-turn c = let e = ap (λ (x : Cut). x .dimension) (c .before .before .cut-at .ensures) in omega (arith, e, c .before .before .before .pre .1)
 
 in-turn-requires : tie.Need-in-turn-requires
 in-turn-requires c κs = search needs
 
 returns : tie.Need-returns
-returns c = rw (← c .before .before .before .before .before .wide16 .ensures .0) (c .in-turn .ensures)
+returns c = rw (c .before .before .before .before .before .cut-at .ensures) at (c .in-turn .ensures)
 
 pub step-at-spec : {M : Type 1} → statement M
 step-at-spec =
     tie.close
     (tie.spec
-    mul-wide16
-    index-1-wide16
-    index-2-wide16
-    wide16-requires
+    cut-at-requires
     mul-left
     index-1-left
     index-2-left
@@ -67,7 +52,5 @@ step-at-spec =
     index-2-right
     mul-in-turn
     element-copy-out-in-turn
-    mul-in-turn-2
-    element-copy-out-in-turn-2
     in-turn-requires
     returns)

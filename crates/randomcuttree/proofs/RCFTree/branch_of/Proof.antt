@@ -15,23 +15,17 @@ field-at-requires c κs = search needs
 returns-2 : tie.Need-returns-2
 returns-2 c = sym (empty-row (c .before .before .before .args .self) _ _ _ (omega arith) (sym (c .before .field-at .ensures) ∙ c .if2 .taken))
 
+cut-at-requires : tie.Need-cut-at-requires
+cut-at-requires c κs = search needs
+
 field-at-requires-2 : tie.Need-field-at-requires-2
 field-at-requires-2 c κs = search needs
-
-mul-t9 : tie.Need-mul-t9
-mul-t9 c = search needs
-
-element-copy-out-t12 : tie.Need-element-copy-out-t12
-element-copy-out-t12 c = search needs
 
 field-at-requires-3 : tie.Need-field-at-requires-3
 field-at-requires-3 c κs = search needs
 
-field-at-requires-4 : tie.Need-field-at-requires-4
-field-at-requires-4 c κs = search needs
-
 returns-3 : tie.Need-returns-3
-returns-3 c = rw (c .before .before .before .field-at2 .ensures, c .before .field-at3 .ensures, c .field-at4 .ensures, c .before .before .before .before .before .field-at .ensures) (sym (a-row (c .before .before .before .before .before .before .before .args .self) _ _ _ (omega arith) (λ e. c .before .before .before .before .if2 .left (c .before .before .before .before .before .field-at .ensures ∙ e))))
+returns-3 c = rw (c .before .before .cut-at .ensures, c .before .field-at2 .ensures, c .field-at3 .ensures, c .before .before .before .before .field-at .ensures) (sym (a-row (c .before .before .before .before .before .before .args .self) _ _ _ (omega arith) (λ e. c .before .before .before .if2 .left (c .before .before .before .before .field-at .ensures ∙ e))))
 
 pub branch-of-spec : {M : Type 1} → statement M
 branch-of-spec =
@@ -40,9 +34,7 @@ branch-of-spec =
     returns
     field-at-requires
     returns-2
+    cut-at-requires
     field-at-requires-2
-    mul-t9
-    element-copy-out-t12
     field-at-requires-3
-    field-at-requires-4
     returns-3)
