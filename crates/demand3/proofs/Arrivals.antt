@@ -22,12 +22,13 @@ use Rattle.samplerplustree.specs.Updates.{updateSays, headUpdated}
 use Rattle.demand3.specs.Heard.{heardUpdate}
 use Rattle.demand3.specs.Steps.{Sample, Kept, headIn, ArrivalStep}
 use Rattle.demand3.specs.Answered.{countArrival, ArrivalClaim}
-use Rattle.demand3.specs.Claim.{Gives}
+use Rattle.demand3.specs.Claim.{bareOf, Gives, CountsAsCalls}
 use Rattle.demand3.proofs.Heard.{refusal-is}
 use Rattle.demand3.proofs.Asked.{asked-is}
 use Rattle.demand3.proofs.Answered.{accepted-as}
 use Rattle.demand3.proofs.Sampled.{sampledAt, SampledAs, OfWorld}
 use Rattle.demand3.proofs.Steps.{Stands}
+use Rattle.demand3.proofs.Calls.{calls-made}
 
 module _ (d c : ℕ) (s : Float) where
   -- what is heard of an arrival's answer is that answer, and the header after it is the sampled world's
@@ -42,13 +43,13 @@ module _ (d c : ℕ) (s : Float) where
   pub stands-at : (W : World (whole d)) (x : Kept) (p : Sample) → x .sample ≡ some p → SampledAs d c s x p W → Stands d c s W x
   stands-at W x p e B = (subst (λ (t : RCFTree). State d c s W t (x .arrays) (x .points) (x .marks)) (sym (ap (λ (h : SamplerPlusTree). h .tree) (B .state .head-is))) (B .state .tree-is), subst (OfWorld d c s W x) (sym e) B)
 
-  module _ (W : World (whole d)) (K : Counts (whole d)) (x : Kept) (i : ℕ) (w : Float) (t : ℕ) (ws : List ℕ) (I : Inv (whole d) c W K) where
+  module _ (W : World (whole d)) (K : Counts (whole d)) (x : Kept) (i : ℕ) (w : Float) (t : ℕ) (ws : List ℕ) (B : Stands d c s W x) (I : Inv (whole d) c W K) where
     -- what is left of an arrival: the world after it, what is kept of it, the counts, and the claim
     pub record Left (o : SampledAnswer (whole d)) (y : Kept) : Type 0 where
       pub world : World (whole d)
       pub stands : Stands d c s world y
       pub counts : Inv (whole d) c world (countArrival d c i ws o K)
-      pub claim : ArrivalClaim d c (viewOf (whole d) c W K) (Gives d c s y) K i ws o
+      pub claim : ArrivalClaim d c (viewOf (whole d) c W K) (Gives d c s y) (CountsAsCalls d c s x y K) K i ws o
 
     left-by : (f : Float) (ks : List Entry) (o : SampledAnswer (whole d)) (y : Kept) (q : Sample) → y .sample ≡ some q → (z : SampledAnswer (whole d) × Sampled (whole d)) → Arrives (whole d) (sampledAt d c s f W ks) i w ws z → o ≡ z .0
         → SampledState d s (z .1) (headIn (y .tree) q) (y .arrays) (y .points) (y .marks) (q .weights) (q .held) → Left o y
@@ -60,16 +61,17 @@ module _ (d c : ℕ) (s : Float) where
         rw h (record { world = W; stands = T; counts = I; claim = asked-is d c s W y (T .0) })
     left-by f ks o y q e (accepted j m, Y) (A, top, agrees) h S =
         let after = worldAfter (whole d) c W (countsAs (whole d) m i ws) in
-        let B : SampledAs d c s y q after = record { initial = f; entries = A .entries; state = subst (λ (Z : Sampled (whole d)). SampledState d s Z (headIn (y .tree) q) (y .arrays) (y .points) (y .marks) (q .weights) (q .held)) (A .leaves) S } in
-        let T = stands-at after y q e B in
+        let M : SampledAs d c s y q after = record { initial = f; entries = A .entries; state = subst (λ (Z : Sampled (whole d)). SampledState d s Z (headIn (y .tree) q) (y .arrays) (y .points) (y .marks) (q .weights) (q .held)) (A .leaves) S } in
+        let T = stands-at after y q e M in
         let (counts, claim) = accepted-as d c (Gives d c s y) W K i ws j (A .words) m I (A .answered) (λ K′ I′. asked-is d c s after y (T .0)) in
-        rw h (record { world = after; stands = T; counts = counts; claim = (A .words, claim) })
+        let made = calls-made d c s W (bareOf x) K (countsAs (whole d) m i ws) (bareOf y) (B .0) refl I (T .0) refl in
+        rw h (record { world = after; stands = T; counts = counts; claim = (A .words, claim, rw (A .answered) at made) })
 
-    pub arrival-is : OfWorld d c s W x (x .sample) → (o : SampledAnswer (whole d)) (y : Kept) → ArrivalStep d x i w t ws o y → Left o y
-    arrival-is B o y step =
+    pub arrival-is : (o : SampledAnswer (whole d)) (y : Kept) → ArrivalStep d x i w t ws o y → Left o y
+    arrival-is o y step =
         let p = step .before in
         let q = step .after in
-        let M : SampledAs d c s x p W = subst (OfWorld d c s W x) (step .before-is) B in
+        let M : SampledAs d c s x p W = subst (OfWorld d c s W x) (step .before-is) (B .1) in
         let X = sampledAt d c s (M .initial) W (M .entries) in
         let z = call (whole d) X (arrive i w t ws) in
         let A = every-arrival (whole d) (whole-laws d) X i w t ws (M .state .agrees) in

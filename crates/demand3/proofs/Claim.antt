@@ -9,48 +9,33 @@ use Rattle.cuttree.specs.Run.{World, call, fresh}
 use Rattle.cuttree.specs.Counts.{Counts, nothing}
 use Rattle.cuttree.specs.Demand3.{viewOf}
 use Rattle.cuttree.proofs.Keeps.{Inv, inv-call, inv-fresh}
-use Rattle.cuttree.proofs.Claims.{tree-claim, call-claim}
+use Rattle.cuttree.proofs.Claims.{call-claim}
 use Rattle.wholetree.specs.Whole.{whole}
 use Rattle.wholetree.proofs.Laws.{whole-laws}
 use Rattle.pointstore.proofs.Empty.{unwritten}
 use Rattle.demand3.specs.Steps.{Kept, Event, calls, arrives, reports, AnswerTo, Step}
-use Rattle.demand3.specs.Claim.{StateClaim, countEvent, EventClaim, Holds, started, Demand3OfCode}
-use Rattle.demand3.proofs.Asked.{asked-is}
-use Rattle.demand3.proofs.Boxes.{cached-boxes}
-use Rattle.demand3.proofs.Channels.{on-channels}
-use Rattle.demand3.proofs.Sampled.{of-sample, stands-sampled}
+use Rattle.demand3.specs.Claim.{countEvent, EventClaim, Holds, started, Demand3OfCode}
 use Rattle.demand3.proofs.Steps.{Stands, call-is}
+use Rattle.demand3.proofs.Calls.{state-claim}
 use Rattle.demand3.proofs.Arrivals.{stands-at, arrival-is}
 use Rattle.demand3.proofs.Reports.{answer-rows}
 
 module _ (d c : ℕ) (s : Float) where
-  state-claim : (W : World (whole d)) (x : Kept) (K : Counts (whole d)) → Stands d c s W x → Inv (whole d) c W K → StateClaim d c s x K
-  state-claim W x K (S, B) I = record {
-    view = viewOf (whole d) c W K;
-    asked = asked-is d c s W x S;
-    value = λ n. refl;
-    tree = tree-claim (whole d) c (whole-laws d) W K I;
-    boxes = cached-boxes d c s W x K S I;
-    sample = of-sample d c s W K x I B;
-    channels = on-channels d c W K I (S .reachable .on-channels);
-    stands = (record { channels = d; capacity = c; share = s; world = W; state = S }, stands-sampled d c s W x B);
-  }
-
   -- an event's claim, and what it leaves
   event-is : (W : World (whole d)) (x : Kept) (K : Counts (whole d)) (e : Event d) → Stands d c s W x → Inv (whole d) c W K → (o : AnswerTo d e) (y : Kept) → Step d x e o y
-      → EventClaim d c s (viewOf (whole d) c W K) K e o y × ((W′ : World (whole d)) × Stands d c s W′ y × Inv (whole d) c W′ (countEvent d c s e o K))
+      → EventClaim d c s x (viewOf (whole d) c W K) K e o y × ((W′ : World (whole d)) × Stands d c s W′ y × Inv (whole d) c W′ (countEvent d c s e o K))
   event-is W x K (calls e) S I a y step =
       let (p, T) = call-is d c s W x e a y S step in
       rw p (call-claim (whole d) c (whole-laws d) W K e I, (call (whole d) c W e .1, T, inv-call (whole d) c (whole-laws d) W K e I))
-  event-is W x K (arrives i w t ws) S I o y step = let F = arrival-is d c s W K x i w t ws I (S .1) o y step in (F .claim, (F .world, F .stands, F .counts))
+  event-is W x K (arrives i w t ws) S I o y step = let F = arrival-is d c s W K x i w t ws S I o y step in (F .claim, (F .world, F .stands, F .counts))
   event-is W x K (reports lent xs) S I (r, rows) y (told, same) =
       let D = told d c s W (x .arrays) (x .marks) (S .0) (record { nodes-are = refl; cuts-are = refl; copies-are = refl; boxes-are = refl }) in
       ((λ n e. answer-rows d c K (length lent) xs W I n (sym (D .answer) ∙ e)), (W, subst (Stands d c s W) (sym same) S, I))
 
   holds : (W : World (whole d)) (x : Kept) (K : Counts (whole d)) (es : List (Event d)) → Stands d c s W x → Inv (whole d) c W K → Holds d c s x K es
   unfolding state-claim
-  holds W x K [] S I = state-claim W x K S I
-  holds W x K (e ∷ es) S I = (state-claim W x K S I, λ o y step. let (C, (W′, T, J)) = event-is W x K e S I o y step in (C, holds W′ y (countEvent d c s e o K) es T J))
+  holds W x K [] S I = state-claim d c s W x K S I
+  holds W x K (e ∷ es) S I = (state-claim d c s W x K S I, λ o y step. let (C, (W′, T, J)) = event-is W x K e S I o y step in (C, holds W′ y (countEvent d c s e o K) es T J))
 
 pub demand3-of-code : Demand3OfCode
 demand3-of-code = record {

@@ -5,6 +5,7 @@ pub mod Channels
 pub mod Answered
 pub mod Sampled
 pub mod Steps
+pub mod Calls
 pub mod Arrivals
 pub mod Reports
 pub mod Claim

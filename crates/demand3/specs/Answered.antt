@@ -51,10 +51,11 @@ module _ (d c : ℕ) where
 
   -- Of an arrival's answer, where G is the tree before it and P is said of the tree after it. Refused or not accepted it leaves G; an
   -- accepted one is the calls that it counts as, each answered as demand 3 says and none refused, 'and leaves the tree that these two leave'.
-  abbrev pub ArrivalClaim : View (whole d) → (View (whole d) → Type 0) → Counts (whole d) → ℕ → List ℕ → SampledAnswer (whole d) → Type 0
-  ArrivalClaim G P K i ws (plain a) = ((r : Refusal) × (a ≡ refused r)) × P G
-  ArrivalClaim G P K i ws notAccepted = P G
-  ArrivalClaim G P K i ws (accepted j e) = (n : ℕ) × Answered P G K (countsAs (whole d) e i ws) (answersAs (whole d) e j n)
+  -- Q is what is said besides of these calls and their answers.
+  abbrev pub ArrivalClaim : View (whole d) → (View (whole d) → Type 0) → (List (Call (whole d)) → List (Answer (whole d)) → Type 0) → Counts (whole d) → ℕ → List ℕ → SampledAnswer (whole d) → Type 0
+  ArrivalClaim G P Q K i ws (plain a) = ((r : Refusal) × (a ≡ refused r)) × P G
+  ArrivalClaim G P Q K i ws notAccepted = P G
+  ArrivalClaim G P Q K i ws (accepted j e) = (n : ℕ) × Answered P G K (countsAs (whole d) e i ws) (answersAs (whole d) e j n) × Q (countsAs (whole d) e i ws) (answersAs (whole d) e j n)
 
   -- Of n arrivals that are kept, the entries ks: there are at most c, and the copies of a value in the tree, which the counts number, are the
   -- kept arrivals of that value.

@@ -10,7 +10,7 @@ use lib.Ieee.{Float, le}
 use Rattle.limits.specs.Limits.{width, branchLimit, pointLimit}
 use Rattle.boundingbox.specs.Ends.{channel}
 use Rattle.readings.specs.Share.{cachedPart}
-use Rattle.cuttree.specs.Run.{Query, query, Row, Answer}
+use Rattle.cuttree.specs.Run.{Query, query, Row, Call, Answer}
 use Rattle.cuttree.specs.Counts.{Counts, nothing, count}
 use Rattle.cuttree.specs.Graph.{View, IsBranch, Under}
 use Rattle.cuttree.specs.Demand3.{TreeClaim, CallClaim}
@@ -34,6 +34,10 @@ use Rattle.demand3.specs.Answered.{countArrival, ArrivalClaim, SampleCla
 -- what is kept as the box of the branch b: its ends in channel i, the lower for k = 0, the upper for k = 1
 abbrev pub endKept : Kept → ℕ → ℕ → ℕ → Float
 endKept x b k i = channel (getD (getD (x .arrays .boxes) b []) k []) i
+
+-- the header, the arrays and the table of x, as those of a bare tree
+abbrev pub bareOf : Kept → Kept
+bareOf x = record { tree = x .tree; arrays = x .arrays; points = x .points; marks = x .marks; sample = none }
 
 -- of a sampled tree: what `update` asks of its caller
 abbrev pub SampleStands : Kept → Option Sample → Type 0
@@ -81,16 +85,32 @@ module _ (d c : ℕ) (s : Float) where
   countEvent (arrives i w x ws) o K = countArrival d c i ws o K
   countEvent (reports lent xs) r K = K
 
-  -- Of an event's answer, and of what it leaves: an arrival leaves the tree that the queries give after it.
-  abbrev pub EventClaim : View (whole d) → Counts (whole d) → (e : Event d) → AnswerTo d e → Kept → Type 0
-  EventClaim G K (calls e) a y = CallClaim (whole d) c G K e a
-  EventClaim G K (arrives i w x ws) o y = ArrivalClaim d c G (Gives y) K i ws o
-  EventClaim G K (reports lent xs) r y = (n : ℕ) → r .0 ≡ Rows n → ReportClaim d c G xs n
+  -- The code's own calls on x, one after another, with these answers. Before each call what is kept is as demand 3 says, and the call may be
+  -- made; its answer is as demand 3 says of the tree that the code's queries give just before it. Whatever its contract lets it answer and
+  -- leave, it answers that; and what the last one leaves is y.
+  abbrev pub CallsMade : Kept → Counts (whole d) → List (Call (whole d)) → List (Answer (whole d)) → Kept → Type 0
+  CallsMade x K [] [] y = x ≡ y
+  CallsMade x K (e ∷ es) (a ∷ as′) y = (H : StateClaim x K) × CallClaim (whole d) c (H .view) K e a × ((o : Answer (whole d)) (z : Kept) → CallStep d x e o z → (o ≡ a) × CallsMade z (count (whole d) e a K) es as′ y)
+  CallsMade x K [] (a ∷ as′) y = ⊥
+  CallsMade x K (e ∷ es) [] y = ⊥
+
+  -- 'Accepted arrival: it counts as a delete of the evicted index, if any, then an add of its own index with its c words, and leaves the tree
+  -- that these two leave.' 'The words taken are the number that the add answers, for an arrival the add that it counts as.' Of an arrival on x
+  -- that leaves y: `RCFTree::delete` and `add`, called with header, arrays and table of x, answer so and leave header, arrays and table of y.
+  abbrev pub CountsAsCalls : Kept → Kept → Counts (whole d) → List (Call (whole d)) → List (Answer (whole d)) → Type 0
+  CountsAsCalls x y K es as′ = CallsMade (bareOf x) K es as′ (bareOf y)
+
+  -- Of an event on x, where the queries give G, its answer and what it leaves: an arrival leaves the tree that the queries give after it, and
+  -- an accepted one counts as the code's own calls, with the same words taken.
+  abbrev pub EventClaim : Kept → View (whole d) → Counts (whole d) → (e : Event d) → AnswerTo d e → Kept → Type 0
+  EventClaim x G K (calls e) a y = CallClaim (whole d) c G K e a
+  EventClaim x G K (arrives i w t ws) o y = ArrivalClaim d c G (Gives y) (CountsAsCalls x y K) K i ws o
+  EventClaim x G K (reports lent xs) r y = (n : ℕ) → r .0 ≡ Rows n → ReportClaim d c G xs n
 
   -- Before each event and after the last; and of each event, whatever its contract lets it answer and leave. The counts are fed its answer.
   abbrev pub Holds : Kept → Counts (whole d) → List (Event d) → Type 0
   Holds x K [] = StateClaim x K
-  Holds x K (e ∷ es) = (H : StateClaim x K) × ((o : AnswerTo d e) (y : Kept) → Step d x e o y → EventClaim (H .view) K e o y × Holds y (countEvent e o K) es)
+  Holds x K (e ∷ es) = (H : StateClaim x K) × ((o : AnswerTo d e) (y : Kept) → Step d x e o y → EventClaim x (H .view) K e o y × Holds y (countEvent e o K) es)
 
 -- a tree that is made, with its arrays, a table with nothing written, and the sample of a sampled tree
 abbrev pub started : RCFTree → Lent → Option Sample → Kept

@@ -55,12 +55,12 @@ module _ (d c : ℕ) (s : Float) where
       → putLines (putSays d (Bare.call (whole d) (X .capacity) (X .world) (Bare.put i xs) .0)) r ≡ toldRow d (Bare.call (whole d) (X .capacity) (X .world) (Bare.put i xs) .0) r
   put-told X i xs r = by-put (whole d) (X .capacity) (λ x. putLines (putSays d (x .0)) r ≡ toldRow d (x .0) r) (X .world) (λ m. refl) i xs (λ U _. refl)
 
-  arrival-told : (h : SamplerPlusTree) (G : View (whole d)) (Q : View (whole d) → Type 0) (K : Counts (whole d)) (i : ℕ) (ws : List ℕ) (r : ℕ) (o : SampledAnswer (whole d)) → ArrivalClaim d c G Q K i ws o
+  arrival-told : (h : SamplerPlusTree) (G : View (whole d)) (P : View (whole d) → Type 0) (Q : List (Bare.Call (whole d)) → List (Bare.Answer (whole d)) → Type 0) (K : Counts (whole d)) (i : ℕ) (ws : List ℕ) (r : ℕ) (o : SampledAnswer (whole d)) → ArrivalClaim d c G P Q K i ws o
       → arrivalLines (updateSays d h o) r ≡ arrivalTold d o r
-  arrival-told h G Q K i ws r (bare a) ((x, e), q) = rw e refl
-  arrival-told h G Q K i ws r notAccepted q = refl
-  arrival-told h G Q K i ws r (accepted j none) A = refl
-  arrival-told h G Q K i ws r (accepted j (some e)) A = refl
+  arrival-told h G P Q K i ws r (bare a) ((x, e), q) = rw e refl
+  arrival-told h G P Q K i ws r notAccepted q = refl
+  arrival-told h G P Q K i ws r (accepted j none) A = refl
+  arrival-told h G P Q K i ws r (accepted j (some e)) A = refl
 
   module _ (P : View (whole d) → Counts (whole d) → Type 0) where
     rows-told : (X : Sampled (whole d)) (r : ℕ) (G : View (whole d)) (K : Counts (whole d)) (rows : List ArchiveRow) → RunAnswered d c P G K (callsIn d rows) (answersTo d s X (callsIn d rows))
@@ -69,7 +69,7 @@ module _ (d c : ℕ) (s : Float) where
     rows-told X r G K (puts i xs ∷ rows) (S, (H, C, A)) = ap₂ _++_ (put-told X i xs r) (rows-told (rowLeaves d X (puts i xs)) (r + 1) H _ rows A)
     rows-told X r G K (arrives i w x ws ∷ rows) (S, (H, C, A)) =
         let (o, Y) = call (whole d) X (arrive i w x ws) in
-        ap₂ _++_ (arrival-told (headOf d s Y) G _ K i ws r o C) (rows-told Y (r + 1) H _ rows A)
+        ap₂ _++_ (arrival-told (headOf d s Y) G _ _ K i ws r o C) (rows-told Y (r + 1) H _ rows A)
     rows-told X r G K (reports xs ∷ rows) (S, (H, C, A)) = ap (λ (l : List ℕ). linesOfReport (reportTo d X xs) r ++ l) (rows-told X (r + 1) H _ rows A)
     rows-told X r G K (outOfForm ∷ rows) A = ap (λ (l : List ℕ). refusedLine outNumber r ++ l) (rows-told X (r + 1) G K rows A)
 

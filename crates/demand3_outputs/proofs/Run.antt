@@ -98,7 +98,7 @@ module _ (d c : ℕ) (s : Float) (few : d ≤ width) (sampled : Bool) (f : Float
           entries = A .entries;
           leaves = A .leaves;
           kept = record { counts = I; agrees = λ _. subst (Agrees (whole d)) (A .leaves) agree };
-          claim = (A .words, answered);
+          claim = (A .words, answered, tt);
           numbers-are = arrival-numbers d s (at W ks) i w ws (accepted j m, Y) (A, top, agree);
         }
 

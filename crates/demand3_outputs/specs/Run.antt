@@ -76,10 +76,10 @@ module _ (d c : ℕ) where
 
   -- Of a call's answer, G being the tree before it and H the tree after it: puts, adds, deletes, queries and arrivals are answered as demand 3
   -- says. A report has as many rows as its walk has nodes; each number in them is settled by `outcome`. The sample's entries are the copies in the
-  -- tree, value by value. Neither changes the tree.
+  -- tree, value by value. Neither changes the tree. The words that an arrival's add takes are in no byte, so nothing more is said of its calls.
   abbrev pub RunClaim : View (whole d) → Counts (whole d) → (e : RunCall d) → RunAnswer d e → View (whole d) → Type 0
   RunClaim G K (plain e) a H = CallClaim (whole d) c G K e a × Leaves d c G e a H
-  RunClaim G K (arrives i w x ws) o H = ArrivalClaim d c G (λ T. SameTree d c T H) K i ws o
+  RunClaim G K (arrives i w x ws) o H = ArrivalClaim d c G (λ T. SameTree d c T H) (λ es as′. Unit {0}) K i ws o
   RunClaim G K (reports n xs) x H = ((rs : List ReportRow) → x ≡ rows rs → ReportClaim d c G xs (length rs)) × SameTree d c G H
   RunClaim G K sample ks H = SampleClaim d c (length ks) ks K × SameTree d c G H
 
