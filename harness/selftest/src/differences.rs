@@ -1,19 +1,19 @@
-//! What docs/DIFFERENCES.md says of the Rust, each on its smallest input.
+//! What docs/DIFFERENCES.md says of the Rust, each on its smallest input. Where document 01 refuses a making or
+//! a call for its arguments alone, that is in `refused_makings` and `refused_calls`.
 use crate::examples::line;
 use oracle::rcflib::samplerplustree::boundingbox::BoundingBox;
 use oracle::rcflib::samplerplustree::cut::Cut;
 use oracle::rcflib::samplerplustree::randomcuttree::RCFTree;
-use oracle::rcflib::samplerplustree::samplerplustree::SamplerPlusTree;
-use oracle::{
-    cut_choice, feed, nodes, printed, report, Added, BareTree, Choice, Node, Sampler, Table,
-};
+use oracle::{cut_choice, feed, nodes, printed, report, BareTree, Choice, Node, Sampler, Table};
 use std::panic::{catch_unwind, set_hook, take_hook, AssertUnwindSafe};
 
-const HALF: u64 = 1 << 63;
+pub const HALF: u64 = 1 << 63;
+/// A number that falls below 0, in a build with checks.
+pub const BELOW_ZERO: &str = "attempt to subtract with overflow";
 
 /// Runs all and answers how many there are.
 pub fn run() -> usize {
-    let listed: [fn(); 18] = [
+    let listed: [fn(); 14] = [
         mass_of_copies,
         mass_is_history,
         words_from_leaf_to_root,
@@ -23,15 +23,11 @@ pub fn run() -> usize {
         branch_seeded_with_17,
         wrong_node,
         full_store,
-        capacities_too_small,
         report_on_an_empty_tree,
         reheap_moves_nothing,
         empty_sampler,
         largest_masses,
         largest_masses_of_u8,
-        index_never_written,
-        weight_of_a_drawn_zero,
-        shares_out_of_range,
     ];
     for look in listed {
         look();
@@ -40,7 +36,7 @@ pub fn run() -> usize {
 }
 
 /// The message of the panic that `call` ends in.
-fn panic_of<T>(call: impl FnOnce() -> T) -> String {
+pub fn panic_of<T>(call: impl FnOnce() -> T) -> String {
     let loud = take_hook();
     set_hook(Box::new(|_| {}));
     let ended = catch_unwind(AssertUnwindSafe(call));
@@ -53,7 +49,7 @@ fn panic_of<T>(call: impl FnOnce() -> T) -> String {
 }
 
 /// A bare tree of one channel after adds of these indices, each with words of one half.
-fn grown(table: &Table, capacity: usize, indices: &[usize]) -> BareTree {
+pub fn grown(table: &Table, capacity: usize, indices: &[usize]) -> BareTree {
     let mut bare = BareTree::make(1, capacity, 1.0).unwrap();
     for &index in indices {
         bare.add(table, index, &[HALF; 4]).unwrap();
@@ -155,7 +151,7 @@ fn wrong_node() {
     assert_eq!(bare.tree().oracle_tree_mass(), 0);
     assert_eq!(nodes(bare.tree(), &table), before);
     let again = panic_of(|| bare.delete(&table, 1));
-    assert_eq!(again, "attempt to subtract with overflow");
+    assert_eq!(again, BELOW_ZERO);
 }
 
 /// Capacity 2 and a third reading: an error after all words are taken, and a mass one more.
@@ -170,13 +166,6 @@ fn full_store() {
     );
     assert_eq!((bare.tree().oracle_tree_mass(), feed::taken()), (3, 2));
     assert_eq!(nodes(bare.tree(), &table), before);
-}
-
-fn capacities_too_small() {
-    for capacity in [0, 1] {
-        let message = panic_of(|| BareTree::make(1, capacity, 1.0));
-        assert_eq!(message, "attempt to subtract with overflow");
-    }
 }
 
 fn report_on_an_empty_tree() {
@@ -216,18 +205,17 @@ fn reheap_moves_nothing() {
 /// weight that lay there.
 fn empty_sampler() {
     let mut sampler: Sampler<u16> = Sampler::new(2, false).unwrap();
-    let overflow = "attempt to subtract with overflow";
     let offer = |sampler: &Sampler<u16>, weight: f32| {
         let mut copy = sampler.clone();
         copy.accept_point(false, weight, 7, usize::MAX)
             .map(|_| copy.add_point(7).is_ok())
     };
-    assert_eq!(panic_of(|| offer(&sampler, -1.0)), overflow);
+    assert_eq!(panic_of(|| offer(&sampler, -1.0)), BELOW_ZERO);
     assert_eq!(offer(&sampler, 0.0), Ok(false));
     sampler.accept_point(true, 5.0, 3, usize::MAX).unwrap();
     sampler.add_point(3).unwrap();
     sampler.evict_max().unwrap();
-    assert_eq!(panic_of(|| offer(&sampler, 3.0)), overflow);
+    assert_eq!(panic_of(|| offer(&sampler, 3.0)), BELOW_ZERO);
     assert_eq!(offer(&sampler, 5.0), Ok(false));
 }
 
@@ -258,34 +246,4 @@ fn largest_masses_of_u8() {
         narrow.add(n % 2, usize::MAX, &table).unwrap();
     }
     panic_of(|| narrow.add(0, usize::MAX, &table));
-}
-
-/// An add to an empty tree doesn't look at the point, and a delete counts down before it looks.
-fn index_never_written() {
-    let unwritten = Table::new();
-    let mut bare = BareTree::make(1, 2, 1.0).unwrap();
-    assert_eq!(
-        bare.add(&unwritten, 5, &[]),
-        Ok(Added { leaf: 5, words: 0 })
-    );
-    assert_eq!(bare.tree().oracle_tree_mass(), 1);
-    assert!(bare.delete(&unwritten, 6).is_err());
-    assert_eq!(bare.tree().oracle_tree_mass(), 0);
-}
-
-/// A drawn 0 makes the weight ln(-ln(0)), which is infinite, and it is taken.
-fn weight_of_a_drawn_zero() {
-    let made = SamplerPlusTree::new(1, 2, false, 0, false, false, false, 0.0, 1.0, 1.0);
-    let mut both: SamplerPlusTree<u8, u16, u16> = made.unwrap();
-    feed::set(&[0, 0]);
-    both.update(0, usize::MAX, &line(&[0.0])).unwrap();
-    assert_eq!(both.oracle_sampler().oracle_heap(), [(f32::INFINITY, 0)]);
-}
-
-/// The Rust takes every cached share; below 0 and NaN nothing is cached.
-fn shares_out_of_range() {
-    for (share, cached) in [(-1.0, 0), (f64::NAN, 0), (-0.0, 0), (2.0, 8)] {
-        let bare = BareTree::make(1, 4, share).unwrap();
-        assert_eq!(bare.tree().oracle_store().oracle_cache_limit(), cached);
-    }
 }

@@ -10,6 +10,8 @@ mod differences;
 mod examples;
 mod kept;
 mod model;
+mod refused_calls;
+mod refused_makings;
 mod replayed;
 mod runs_read;
 mod sampled;
@@ -18,7 +20,7 @@ mod texts_read;
 fn main() {
     let shown = examples::run();
     println!("examples of document 01: {shown} hold");
-    let listed = differences::run();
+    let listed = differences::run() + refused_makings::run() + refused_calls::run();
     println!("listed differences: {listed} seen in the Rust");
     let draws = oracle::feed::seed17_draws();
     let steps = bare::run(400);
