@@ -1,29 +1,23 @@
 -- That the walk between an arrival's steps tells how many of its words are looked at, and that no others are. Assumes nothing.
 use mathlib.Core.Path.{_≡_, sym, ap, _∙_}
-use mathlib.Core.Option.{Option, some}
 use mathlib.Core.List.{List}
 use Prim.Native.Nat.{ℕ, _<_}
 use native.Mathlib.Omega.{arith}
-use lib.Dec.{eqb}
 use lib.ListN.{length, getD, take}
 use lib.Seq.{getD-take}
 use lib.Ieee.{Float}
-use borrow.Author.Tests.{eqb-true, eqb-false}
-use Rattle.cuttree.specs.Tree.{Tree}
 use Rattle.cuttree.specs.Run.{World}
 use Rattle.cuttree.proofs.Tests.{by-test, cond-true, cond-false}
-use Rattle.wholetree.specs.Reading.{Reading}
 use Rattle.wholetree.specs.Whole.{whole}
 use Rattle.sampledtree.specs.Sampled.{Sampled, admitted, arrive, call}
 use Rattle.treestore.specs.declared.Found.{Found}
 use Rattle.treestore.specs.Arrays.{Lent}
-use Rattle.randomcuttree.specs.Finds.{Sees}
-use Rattle.randomcuttree.proofs.Calls as Calls
 use Rattle.samplerplustree.specs.declared.Remaining.{Remaining}
 use Rattle.samplerplustree.specs.declared.Offer.{Offer}
 use Rattle.samplerplustree.specs.Offers.{offered}
 use Rattle.samplerplustree.specs.Entering.{takes, worldRemaining, entriesRemaining, RemainingState, SeesBy}
 use Rattle.samplerplustree.proofs.Parts.{tree-of}
+use Rattle.samplerplustree.proofs.Paths.{by-seen}
 use Rattle.samplerplustree.proofs.Entered.{evictedBy, Ready, ready, written-remaining}
 use Rattle.arrivals.specs.Words.{walkIn, wordsUsed}
 use Rattle.arrivals.proofs.Enough.{add-within}
@@ -34,19 +28,9 @@ module _ {d : ℕ} {s : Float} {X : Sampled (whole d)} {o : Offer} {l : Remainin
   abbrev W : World (whole d)
   W = worldRemaining d X o
 
-  -- the walk in the tree that is left, which may be empty
-  module _ (p : Reading) (P : W .table i ≡ some p) {before path : List (List ℕ)} {f : Found} (F : Sees (l .tree .tree) (a .nodes) (a .cuts) points i before f path) where
-    walk-is : f .walk ≡ walkIn (whole d) (W .tree) (W .table i)
-    walk-is =
-        let S = tree-of (L .arrays) in
-        by-test (eqb (l .tree .tree .total) 0)
-        (λ e. let z = eqb-true (l .tree .tree .total) 0 e in ap (λ (r : Found). r .walk) (F .empty z .0) ∙ ap (λ (t : Option (Tree (whole d))). walkIn (whole d) t (W .table i)) (sym (Calls.no-tree S z)))
-        (λ e. let z = eqb-false (l .tree .tree .total) 0 e in let (t, T) = Calls.a-tree S z in Calls.found-in S T (S .reachable .sound .inside i p P) P (F .walked z) .walked .count
-        ∙ ap (λ (q : Option Reading). walkIn (whole d) (some t) q) (sym P) ∙ ap (λ (r : Option (Tree (whole d))). walkIn (whole d) r (W .table i)) (sym T))
-
   pub used-is : {before path : List (List ℕ)} {f : Found} → SeesBy l o (a .nodes) (a .cuts) points i before f path → f .walk ≡ wordsUsed d X i o
-  used-is F = by-test (takes o)
-      (λ t. let (p, P) = written-remaining d X i w n (L .agrees) x o told t in walk-is p P (F .taken t) ∙ sym (cond-true (takes o) _ 0 t))
+  used-is {before} {path} {f} F = by-test (takes o)
+      (λ t. let (p, P) = written-remaining d X i w n (L .agrees) x o told t in by-seen (tree-of (L .arrays)) P (F .taken t) (λ q r. f .walk ≡ walkIn (whole d) q r) (λ e. ap (λ (r : Found). r .walk) (e .0)) (λ u G. G .walked .count) ∙ sym (cond-true (takes o) _ 0 t))
       (λ t. ap (λ (r : Found). r .walk) (F .untaken t .0) ∙ sym (cond-false (takes o) _ 0 t))
 
   -- ---- that no others are looked at

@@ -15,7 +15,7 @@ use Rattle.sampler.proofs.Counts.{pop-length}
 use Rattle.cuttree.specs.Tree.{sumOf}
 use Rattle.cuttree.specs.Run as Bare
 use Rattle.cuttree.specs.Run.{World, delete, totalOf}
-use Rattle.cuttree.proofs.Tests.{cond-false}
+use Rattle.cuttree.proofs.Tests.{cond-true, cond-false}
 use Rattle.cuttree.proofs.Refused.{by-delete}
 use Rattle.cuttree.proofs.Intervals.{is-same}
 use Rattle.wholetree.specs.Whole.{whole}
@@ -30,7 +30,8 @@ use Rattle.samplerplustree.specs.declared.Offer.{Offer}
 use Rattle.samplerplustree.specs.declared.Offer.the-variants as Offered
 use Rattle.samplerplustree.specs.State.{SampledState, heldOf, samplerOf}
 use Rattle.samplerplustree.specs.Leaves.{SomeCopy, LeafDeleted, DeletesLeaf}
-use Rattle.samplerplustree.specs.Entering.{evicts, firstIndex, worldRemaining, SomeLeaving, LeaveDone}
+use Rattle.samplerplustree.specs.Paths.{pathTo, WalksTo}
+use Rattle.samplerplustree.specs.Entering.{evicts, firstIndex, worldRemaining, SomeLeaving, LeaveDone, LeavesPath}
 use Rattle.samplerplustree.proofs.Parts.{arrays-of, tree-state, size-is, small, head-after}
 use Rattle.samplerplustree.proofs.Slots.{one-less}
 
@@ -65,6 +66,9 @@ module _ (h : SamplerPlusTree) (a : Lent) (points : List (List Float)) (weights 
   pub none-leaves : (o : Offer) → evicts o ≡ false → LeaveDone h o a points weights held (record { tree = h; gone = 0 }) a weights held
   none-leaves o e d s X marks S = record { arrays = rw e (arrays-of S); gone-is = sym (cond-false (evicts o) _ 0 e); agrees = S .agrees; initial-is = S .initial-is }
 
+  pub path-stays : (o : Offer) → evicts o ≡ false → (path : List (List ℕ)) → LeavesPath h o a points weights held path path
+  path-stays o e path d s X marks S = sym (cond-false (evicts o) _ path e)
+
   -- ---- THE EVICTION
   module _ (o : Offer) (evicting : evicts o ≡ true) (Q : SomeLeaving h o a points weights held) where
     kept-size : 0 < length (Q .sampled .world .sample)
@@ -87,6 +91,9 @@ module _ (h : SamplerPlusTree) (a : Lent) (points : List (List Float)) (weights 
       state = tree-state (S .state);
       copy = rw (gone-first (S .channels) (S .share) (S .world) (Q .marks) (S .state)) (copy (S .channels) (S .world) (S .state .agrees) (kept-size o evicting Q));
     }
+
+    pub evict-path : (o : Offer) → evicts o ≡ true → (path path′ : List (List ℕ)) → WalksTo (h .tree) a points gone path path′ → LeavesPath h o a points weights held path path′
+    evict-path o evicting path path′ D d s X marks S = D d (X .capacity) s (X .world) marks (tree-state S) ∙ ap (λ (j : ℕ). pathTo d (X .capacity) (X .world) j path) (gone-first d s X marks S) ∙ sym (cond-true (evicts o) _ path evicting)
 
     pub evict-done : (o : Offer) → evicts o ≡ true → SomeLeaving h o a points weights held → (weights′ : List Float) (held′ : List ℕ) (left : RCFTree) (b : Lent)
         → Evicts (h .sampler .«current_size») weights held weights′ held′ → DeletesLeaf (h .tree) a points gone left b

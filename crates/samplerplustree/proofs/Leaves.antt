@@ -102,7 +102,7 @@ module _ {tree : RCFTree} {a : Lent} {points : List (List Float)} {i : ℕ} (A :
   copy-written = in-table (A .channels) (A .capacity) (A .world .table) (A .world .tree) (A .world .free) i (A .state .reachable .sound) (A .copy)
 
   -- so it is in every world that these arrays stand for: they have its copies
-  written-there : {d c : ℕ} {s : Float} {W : World (whole d)} {marks : List ℕ} → State d c s W tree a points marks → (q : Reading) × (W .table i ≡ some q)
+  pub written-there : {d c : ℕ} {s : Float} {W : World (whole d)} {marks : List ℕ} → State d c s W tree a points marks → (q : Reading) × (W .table i ≡ some q)
   written-there {d} {c} {s} {W} S =
       let inside = A .state .reachable .sound .inside i (copy-written .0) (copy-written .1) in
       in-table d c (W .table) (W .tree) (W .free) i (S .reachable .sound) (subst (λ (n : ℕ). 0 < n) (sym (copies-at (A .state) i inside) ∙ copies-at S i inside) (A .copy))

@@ -1,6 +1,7 @@
 pub mod Makings
 pub mod Tested
 pub mod Leaves
+pub mod Paths
 pub mod Slots
 pub mod Parts
 pub mod Taken

@@ -30,6 +30,7 @@ use Rattle.samplerplustree.specs.declared.Admitted.{Admitted}
 use Rattle.samplerplustree.specs.State.{weightsOf, heldOf, headOf, SampledState, SomeSampled}
 use Rattle.samplerplustree.specs.Updates.{Updated}
 use Rattle.samplerplustree.specs.Offers.{offered}
+use Rattle.samplerplustree.specs.Paths.{pathTo}
 
 -- whether an offer takes the arrival
 abbrev pub takes : Offer → Bool
@@ -96,6 +97,13 @@ pub record SomeLeaving (h : SamplerPlusTree) (o : Offer) (a : Lent) (points : Li
 abbrev pub LeaveDone : SamplerPlusTree → Offer → Lent → List (List Float) → List Float → List ℕ → Remaining → Lent → List Float → List ℕ → Type 0
 LeaveDone h o before points weights held l after weights′ held′ =
     (d : ℕ) (s : Float) (X : Sampled (whole d)) (marks : List ℕ) → SampledState d s X h before points marks weights held → RemainingState d s X o l after points marks weights′ held′
+
+-- the path after it: as the walk to the index that is gone leaves it, and as before where the offer evicts none
+abbrev pub pathLeft : (d : ℕ) → Sampled (whole d) → Offer → List (List ℕ) → List (List ℕ)
+pathLeft d X o path = cond (evicts o) (pathTo d (X .capacity) (X .world) (firstIndex (X .sample)) path) path
+
+abbrev pub LeavesPath : SamplerPlusTree → Offer → Lent → List (List Float) → List Float → List ℕ → List (List ℕ) → List (List ℕ) → Type 0
+LeavesPath h o a points weights held path path′ = (d : ℕ) (s : Float) (X : Sampled (whole d)) (marks : List ℕ) → SampledState d s X h a points marks weights held → path′ ≡ pathLeft d X o path
 
 -- ---- what is looked for between them, where the arrival is taken
 abbrev pub SeeksBy : Remaining → Offer → List (List ℕ) → List Float → List (List Float) → ℕ → Type 0

@@ -30,7 +30,8 @@ ghost use Rattle.samplerplustree.specs.Making.{refusalBy, SampledMade};
 ghost use Rattle.samplerplustree.specs.Updates.{UpdateDone};
 ghost use Rattle.samplerplustree.specs.Offers.{refusalRead, startsRead, OfferTold, SomeOffered, TakeDone};
 ghost use Rattle.samplerplustree.specs.Leaves.{SomeAdmits, AddsLeaf, SomeCopy, DeletesLeaf};
-ghost use Rattle.samplerplustree.specs.Entering.{takes, evicts, answerBy, SomeLeaving, LeaveDone, SeeksBy, SeesBy, SomeEntering, EnterDone, AdmitDone};
+ghost use Rattle.samplerplustree.specs.Paths.{WalksTo};
+ghost use Rattle.samplerplustree.specs.Entering.{takes, evicts, answerBy, SomeLeaving, LeaveDone, LeavesPath, SeeksBy, SeesBy, SomeEntering, EnterDone, AdmitDone};
 
 // The header: the tree's, the sample's, and the initial share.
 pub struct SamplerPlusTree {
@@ -180,7 +181,8 @@ fn delete_leaf(
     path: &mut Path,
 ) -> RCFTree
     requires { ⌜ SomeCopy tree (lent (now nodes) (now cuts) (now copies) (now free) (now boxes)) (now points) index ⌝ }
-    ensures { λ r. ⌜ DeletesLeaf tree (lent (now (nodes .entry)) (now (cuts .entry)) (now (copies .entry)) (now (free .entry)) (now (boxes .entry))) (now (points .entry)) index r (lent (now (nodes .exit)) (now (cuts .exit)) (now (copies .exit)) (now (free .exit)) (now (boxes .exit))) ⌝ }
+    ensures done { λ r. ⌜ DeletesLeaf tree (lent (now (nodes .entry)) (now (cuts .entry)) (now (copies .entry)) (now (free .entry)) (now (boxes .entry))) (now (points .entry)) index r (lent (now (nodes .exit)) (now (cuts .exit)) (now (copies .exit)) (now (free .exit)) (now (boxes .exit))) ⌝ }
+    ensures path { λ _. ⌜ WalksTo tree (lent (now (nodes .entry)) (now (cuts .entry)) (now (copies .entry)) (now (free .entry)) (now (boxes .entry))) (now (points .entry)) index (now (path .entry)) (now (path .exit)) ⌝ }
 {
     let found = tree.find(nodes, cuts, points, index, path);
     match tree.delete_found(nodes, cuts, copies, free, boxes, points, index, path, found) {
@@ -298,7 +300,8 @@ impl SamplerPlusTree {
     }
 
     // The first step of an arrival: where its offer evicts, the first entry leaves the sample, and its index the tree. No word of the arrival is needed
-    // for it. The path is working memory: whatever it holds before, and what it holds after is free.
+    // for it. The path is working memory, whatever it holds before. After an eviction the walk to the index that is gone stands in its first rows; each
+    // other row is as before.
     // Rules out an entry that leaves the sample and whose index stays in the tree, and an eviction for an offer that evicts nothing.
     pub fn leave(
         self,
@@ -314,8 +317,9 @@ impl SamplerPlusTree {
         path: &mut Path,
     ) -> Remaining
         requires { ⌜ SomeLeaving self offer (lent (now nodes) (now cuts) (now copies) (now free) (now boxes)) (now points) (now weights) (now held) ⌝ }
-        ensures { λ r. ⌜ LeaveDone self offer (lent (now (nodes .entry)) (now (cuts .entry)) (now (copies .entry)) (now (free .entry)) (now (boxes .entry))) (now (points .entry)) (now (weights .entry)) (now (held .entry)) r
+        ensures done { λ r. ⌜ LeaveDone self offer (lent (now (nodes .entry)) (now (cuts .entry)) (now (copies .entry)) (now (free .entry)) (now (boxes .entry))) (now (points .entry)) (now (weights .entry)) (now (held .entry)) r
             (lent (now (nodes .exit)) (now (cuts .exit)) (now (copies .exit)) (now (free .exit)) (now (boxes .exit))) (now (weights .exit)) (now (held .exit)) ⌝ }
+        ensures path { λ _. ⌜ LeavesPath self offer (lent (now (nodes .entry)) (now (cuts .entry)) (now (copies .entry)) (now (free .entry)) (now (boxes .entry))) (now (points .entry)) (now (weights .entry)) (now (held .entry)) (now (path .entry)) (now (path .exit)) ⌝ }
     {
         if !is_evicting(offer) {
             return Remaining {

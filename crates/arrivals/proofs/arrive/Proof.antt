@@ -20,19 +20,19 @@ leave-requires c κs =
 find-requires : tie.Need-find-requires
 find-requires c κs =
     let s = c .before .before .before .before .before .before .before .before .before .before .before .before .before .before in
-    seeking (s .args .tree) _ _ _ _ _ (s .args .index) (s .args .weight) (s .args .n) (some-offered (s .args .tree) _ _ _ _ _ _ _ _ _ (s .args .n) (c .before .before .before .before .before .before .before .before .before .before .before .before .test-arrival .ensures) (s .pre .1)) _ _ _ _ (c .before .before .before .leave .ensures)
+    seeking (s .args .tree) _ _ _ _ _ (s .args .index) (s .args .weight) (s .args .n) (some-offered (s .args .tree) _ _ _ _ _ _ _ _ _ (s .args .n) (c .before .before .before .before .before .before .before .before .before .before .before .before .test-arrival .ensures) (s .pre .1)) _ _ _ _ (c .before .before .before .leave .ensures .0)
 
 enter-requires : tie.Need-enter-requires
 enter-requires c κs =
     let s = c .before .before .before .before .before .before .before .before .before .before .before .before .before .before .before .before .before .before .before .before .before .before .before .before in
-    (s .pre .0, entering (s .args .tree) _ _ _ _ _ (s .args .index) (s .args .weight) (s .args .n) (some-offered (s .args .tree) _ _ _ _ _ _ _ _ _ (s .args .n) (c .before .before .before .before .before .before .before .before .before .before .before .before .before .before .before .before .before .before .before .before .before .before .test-arrival .ensures) (s .pre .1)) _ _ _ _ (c .before .before .before .before .before .before .before .before .before .before .before .before .before .leave .ensures) _ _ _ (c .before .before .before .before .before .before .before .before .before .find .ensures))
+    (s .pre .0, entering (s .args .tree) _ _ _ _ _ (s .args .index) (s .args .weight) (s .args .n) (some-offered (s .args .tree) _ _ _ _ _ _ _ _ _ (s .args .n) (c .before .before .before .before .before .before .before .before .before .before .before .before .before .before .before .before .before .before .before .before .before .before .test-arrival .ensures) (s .pre .1)) _ _ _ _ (c .before .before .before .before .before .before .before .before .before .before .before .before .before .leave .ensures .0) _ _ _ (c .before .before .before .before .before .before .before .before .before .find .ensures))
 
 returns : tie.Need-returns
 returns c =
     let s = c .before .before .before .before .before .before .before .before .before .before .before .before .before .before .before .before .before .before .before .before .before .before .before .before .before in
     let offer = c .before .before .before .before .before .before .before .before .before .before .before .before .before .before .before .before .before .before .before .before .before .before .before .test-arrival in
     let done = c .enter .ensures in
-    λ ws e d t X S. done .1 (s .args .chance) ws _ (ap length (sym e) ∙ done .0) d t X (c .before .before .before .before .before .before .before .before .before .before .before .before .before .before .leave .ensures d t X _ S) (offer .ensures .told d t X (lent (s .args .nodes .now) (s .args .cuts .now) (s .args .copies .now) (s .args .free .now) (s .args .boxes .now)) (s .args .points .now) (s .args .held .now) S) (ap (take (wordsUsed d X (s .args .index) (offer .result))) e)
+    λ ws e d t X S. done .1 (s .args .chance) ws _ (ap length (sym e) ∙ done .0) d t X (c .before .before .before .before .before .before .before .before .before .before .before .before .before .before .leave .ensures .0 d t X _ S) (offer .ensures .told d t X (lent (s .args .nodes .now) (s .args .cuts .now) (s .args .copies .now) (s .args .free .now) (s .args .boxes .now)) (s .args .points .now) (s .args .held .now) S) (ap (take (wordsUsed d X (s .args .index) (offer .result))) e)
 
 pub arrive-spec : {M : Type 1} → statement M
 arrive-spec =

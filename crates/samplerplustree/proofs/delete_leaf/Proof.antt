@@ -1,6 +1,7 @@
 -- `delete_leaf` meets its contract: the delete is done, and never refused. Assumes nothing.
 use Rattle.randomcuttree.proofs.Calls.{seeks, some-seen}
-use Rattle.samplerplustree.proofs.Leaves.{copy-written, leaf-deleted, always-held}
+use Rattle.samplerplustree.proofs.Leaves.{copy-written, written-there, leaf-deleted, always-held}
+use Rattle.samplerplustree.proofs.Paths.{path-seen}
 use borrow.Author.Needs.{needs}
 use Rattle.samplerplustree.proofs.delete_leaf.Statement.{statement}
 use Rattle.samplerplustree.proofs.delete_leaf.Tie as tie
@@ -18,7 +19,9 @@ enum-told : tie.Need-enum-told
 enum-told c = search needs
 
 returns : tie.Need-returns
-returns c = leaf-deleted _ _ _ (c .before .before .before .before .before .before .before .before .before .before .before .before .before .before .args .index) _ _ (c .before .before .before .delete-found .ensures) (c .before .before .before .before .before .before .before .before .before .before .before .before .before .before .pre) _ _ (c .before .next .given .1)
+returns c =
+    let s = c .before .before .before .before .before .before .before .before .before .before .before .before .before .before in
+    (leaf-deleted _ _ _ (s .args .index) _ _ (c .before .before .before .delete-found .ensures) (s .pre) _ _ (c .before .next .given .1), λ d n t W marks S. path-seen S (written-there (s .pre) S .1) (c .before .before .before .before .before .before .before .before .before .before .find .ensures))
 
 returns-2 : tie.Need-returns-2
 returns-2 c = absurd (always-held _ _ _ (c .before .before .before .before .before .before .before .before .before .before .before .before .before .args .index) _ _ (c .before .before .delete-found .ensures) (c .before .before .before .before .before .before .before .before .before .before .before .before .before .pre) _ (c .enum-told .given .1))
