@@ -1,5 +1,6 @@
 -- An arrival's answer as numbers, and what an arrival gives and leaves. Definitions.
 use mathlib.Core.Path.{_≡_}
+use mathlib.Core.Bool.{cond}
 use mathlib.Core.List.{List, [], _∷_}
 use Prim.Native.Nat.{ℕ}
 use lib.ListN.{length, take}
@@ -17,7 +18,8 @@ use Rattle.samplerplustree.specs.declared.Remaining.{Remaining}
 use Rattle.samplerplustree.specs.State.{SampledState, headOf}
 use Rattle.samplerplustree.specs.Updates.{updateSays}
 use Rattle.samplerplustree.specs.Offers.{offered}
-use Rattle.samplerplustree.specs.Entering.{RemainingState}
+use Rattle.samplerplustree.specs.Paths.{pathTo}
+use Rattle.samplerplustree.specs.Entering.{takes, worldRemaining, RemainingState, pathLeft}
 use Rattle.answers.specs.Said.{filled, replyWidth}
 use Rattle.arrivals.specs.Words.{wordsUsed}
 
@@ -54,3 +56,13 @@ wordsRead d X i o ws words = sets words 0 (take (wordsUsed d X i o) (take capaci
 abbrev pub ReadsWords : ℕ → Float → ℕ → List ℕ → SamplerPlusTree → Lent → List (List Float) → List ℕ → List Float → List ℕ → List ℕ → List ℕ → Type 0
 ReadsWords i w x ws tree a points marks weights held words words′ =
     (d : ℕ) (s : Float) (X : Sampled (whole d)) → SampledState d s X tree a points marks weights held → words′ ≡ wordsRead d X i (offered d X i w x (length ws)) ws words
+
+-- the path after an arrival that the offer o is told for: as the first step leaves it, and over that the walk of its reading in the tree that remains;
+-- as before where the offer doesn't take the arrival
+abbrev pub pathArrived : (d : ℕ) → Sampled (whole d) → ℕ → Offer → List (List ℕ) → List (List ℕ)
+pathArrived d X i o path = cond (takes o) (pathTo d (X .capacity) (worldRemaining d X o) i (pathLeft d X o path)) path
+
+-- the path before an arrival and after it, whichever sampled world's the lent state is
+abbrev pub WalksPath : ℕ → Float → ℕ → List ℕ → SamplerPlusTree → Lent → List (List Float) → List ℕ → List Float → List ℕ → List (List ℕ) → List (List ℕ) → Type 0
+WalksPath i w x ws tree a points marks weights held path path′ =
+    (d : ℕ) (s : Float) (X : Sampled (whole d)) → SampledState d s X tree a points marks weights held → path′ ≡ pathArrived d X i (offered d X i w x (length ws)) path

@@ -21,11 +21,11 @@ use Rattle.samplerplustree.specs.declared.Offer.{Offer}
 use Rattle.samplerplustree.specs.declared.Remaining.{Remaining}
 use Rattle.samplerplustree.specs.State.{SampledState}
 use Rattle.samplerplustree.specs.Offers.{offered, OfferTold}
-use Rattle.samplerplustree.specs.Entering.{LeaveDone, SeesBy}
+use Rattle.samplerplustree.specs.Entering.{LeaveDone, LeavesPath, SeesBy}
 use Rattle.arrivals.specs.Words.{wordsUsed}
-use Rattle.arrivals.specs.Arrived.{Arrives, EntersBy, wordsRead, ReadsWords}
+use Rattle.arrivals.specs.Arrived.{Arrives, EntersBy, wordsRead, ReadsWords, pathArrived, WalksPath}
 use Rattle.arrivals.proofs.Alike.{offered-alike}
-use Rattle.arrivals.proofs.Used.{used-is}
+use Rattle.arrivals.proofs.Used.{used-is, path-arrived}
 use Rattle.runlayout.specs.Layout.{size, number, double, callWidth, standsAt, arrivalWordsAt}
 use Rattle.runlayout.proofs.Rest.{within}
 use Rattle.rungiven.proofs.Taken.{take-tab}
@@ -58,7 +58,7 @@ module _ (bytes : List ℕ) (p : ℕ) where
 
     -- what remains of the arrival's first step, and what was found of its reading there
     module _ (remaining : Remaining) (b : Lent) (weights₁ : List Float) (held₁ : List ℕ) (L : LeaveDone tree o a points weights held remaining b weights₁ held₁)
-        (before path : List (List ℕ)) (f : Found) (F : SeesBy remaining o (b .nodes) (b .cuts) points i before f path) (k : ℕ) (used : k ≡ min n (f .walk)) (l₀ l : List ℕ)
+        (path₀ before path : List (List ℕ)) (left : LeavesPath tree o a points weights held path₀ before) (f : Found) (F : SeesBy remaining o (b .nodes) (b .cuts) points i before f path) (k : ℕ) (used : k ≡ min n (f .walk)) (l₀ l : List ℕ)
         (read : (l ≡ sets l₀ 0 (tab k (λ (j : ℕ). double bytes (p + 6 + 2 * j)))) × (take k l ≡ tab k (λ (j : ℕ). double bytes (p + 6 + 2 * j)))) where
       module _ (d : ℕ) (s : Float) (X : Sampled (whole d)) (S : SampledState d s X tree a points marks weights held) where
         k-is : k ≡ min n (wordsUsed d X i o)
@@ -70,17 +70,22 @@ module _ (bytes : List ℕ) (p : ℕ) where
         agree : take (wordsUsed d X i o) (take n l) ≡ take (wordsUsed d X i o) (take capacityLimit (arrivalWordsAt bytes p))
         agree = taken-both n (wordsUsed d X i o) l ∙ ap (λ (j : ℕ). take j l) (sym k-is) ∙ read .1 ∙ sym own
 
+        by-all : o ≡ offered d X i w x (length (arrivalWordsAt bytes p))
+        by-all = told .told d s X a points held S ∙ ap (offered d X i w x) (sym long) ∙ offered-alike d X i w (S .tree-is .limits .3) x (arrivalWordsAt bytes p)
+
         reads : l ≡ wordsRead d X i (offered d X i w x (length (arrivalWordsAt bytes p))) (arrivalWordsAt bytes p) l₀
-        reads =
-            let ws = arrivalWordsAt bytes p in
-            let q : o ≡ offered d X i w x (length ws) = told .told d s X a points held S ∙ ap (offered d X i w x) (sym long) ∙ offered-alike d X i w (S .tree-is .limits .3) x ws in
-            read .0 ∙ ap (sets l₀ 0) (sym own) ∙ ap (λ (z : Offer). wordsRead d X i z ws l₀) q
+        reads = read .0 ∙ ap (sets l₀ 0) (sym own) ∙ ap (λ (z : Offer). wordsRead d X i z (arrivalWordsAt bytes p) l₀) by-all
+
+        walks : path ≡ pathArrived d X i (offered d X i w x (length (arrivalWordsAt bytes p))) path₀
+        walks = path-arrived (L d s X marks S) i w x n (told .told d s X a points held S) path₀ (left d s X marks S) F ∙ ap (λ (z : Offer). pathArrived d X i z path₀) by-all
 
       pub arrival-given : (tree′ : SamplerPlusTree) (a′ : Lent) (weights′ : List Float) (held′ reply : List ℕ)
           → ((y : ℕ) (ws marks : List ℕ) → length (take capacityLimit ws) ≡ n → EntersBy o n i w y (take n l) ws remaining b points marks weights₁ held₁ tree′ a′ weights′ held′ reply)
           → Arrives (number bytes (p + 1)) (ofBits binary32 (number bytes (p + 2))) (double bytes (p + 3)) (arrivalWordsAt bytes p) tree a points marks weights held tree′ a′ weights′ held′ reply
-          × ReadsWords (number bytes (p + 1)) (ofBits binary32 (number bytes (p + 2))) (double bytes (p + 3)) (arrivalWordsAt bytes p) tree a points marks weights held l₀ l
+          × (ReadsWords (number bytes (p + 1)) (ofBits binary32 (number bytes (p + 2))) (double bytes (p + 3)) (arrivalWordsAt bytes p) tree a points marks weights held l₀ l
+          × WalksPath (number bytes (p + 1)) (ofBits binary32 (number bytes (p + 2))) (double bytes (p + 3)) (arrivalWordsAt bytes p) tree a points marks weights held path₀ path)
       arrival-given tree′ a′ weights′ held′ reply A =
           let does : Arrives i w x (arrivalWordsAt bytes p) tree a points marks weights held tree′ a′ weights′ held′ reply = λ d s X S. A x (arrivalWordsAt bytes p) marks long d s X (L d s X marks S) (told .told d s X a points held S) (agree d s X S) in
           let words : ReadsWords i w x (arrivalWordsAt bytes p) tree a points marks weights held l₀ l = reads in
-          rw (← index, ← pattern, ← weight, ← chance) (does, words)
+          let rows : WalksPath i w x (arrivalWordsAt bytes p) tree a points marks weights held path₀ path = walks in
+          rw (← index, ← pattern, ← weight, ← chance) (does, (words, rows))

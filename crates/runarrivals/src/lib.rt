@@ -19,12 +19,13 @@ ghost use Prim.Native.Nat.{_+_};
 ghost use lib.Ieee.{binary32, ofBits};
 ghost use Rattle.treestore.specs.Arrays.{lent};
 ghost use Rattle.samplerplustree.specs.State.{SomeSampled};
-ghost use Rattle.arrivals.specs.Arrived.{Arrives, ReadsWords};
+ghost use Rattle.arrivals.specs.Arrived.{Arrives, ReadsWords, WalksPath};
 ghost use Rattle.runlayout.specs.Layout.{number, double, standsAt, arrivalWordsAt};
 
 // The arrival at a place of the run: its answer's numbers in the reply, with 0 after them, and the header after it. What it evicts is gone before its
 // words are read: those that are looked at go to the front of the lent ones, whose others stay. Of a long run most of the time would go to the rest. The
-// path is working memory: whatever it holds before, and what it holds after is free.
+// path is working memory, whatever it holds before. After an arrival that is taken the walk of its reading stands in the first rows, over the walk to the
+// index that it evicts, if any; each other row is as before.
 // Rules out the word for the starting chance read from another place, and the last word of a walk unread.
 pub fn arrival_at(
     tree: SamplerPlusTree,
@@ -51,6 +52,9 @@ pub fn arrival_at(
     ensures words { λ _. ⌜ ReadsWords (number (now (run .entry)) (p + 1)) (ofBits binary32 (number (now (run .entry)) (p + 2))) (double (now (run .entry)) (p + 3)) (arrivalWordsAt (now (run .entry)) p)
         tree (lent (now (nodes .entry)) (now (cuts .entry)) (now (copies .entry)) (now (free .entry)) (now (boxes .entry))) (now (points .entry)) (now (written .entry)) (now (weights .entry)) (now (held .entry))
         (now (words .entry)) (now (words .exit)) ⌝ }
+    ensures path { λ _. ⌜ WalksPath (number (now (run .entry)) (p + 1)) (ofBits binary32 (number (now (run .entry)) (p + 2))) (double (now (run .entry)) (p + 3)) (arrivalWordsAt (now (run .entry)) p)
+        tree (lent (now (nodes .entry)) (now (cuts .entry)) (now (copies .entry)) (now (free .entry)) (now (boxes .entry))) (now (points .entry)) (now (written .entry)) (now (weights .entry)) (now (held .entry))
+        (now (path .entry)) (now (path .exit)) ⌝ }
 {
     let index = runlayout::number_at(run, p + 1);
     let weight = little::float_of(runlayout::bits_at(run, p + 2));

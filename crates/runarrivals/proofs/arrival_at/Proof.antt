@@ -77,7 +77,7 @@ returns c =
     let t = after .before .before .before .before .before .before .before .before .before in
     let r = t .before .before .before in
     let s = r .before .before .before .before .before .before .before in
-    arrival-given (s .args .run .now) _ _ (lent (s .args .nodes .now) (s .args .cuts .now) (s .args .copies .now) (s .args .free .now) (s .args .boxes .now)) _ _ _ _ _ _ _ _ _ _ _ (r .before .before .before .before .before .number-at .ensures .0) (r .before .before .before .before .bits-at .ensures) (r .before .before .before .float-of .ensures) (r .before .before .double-at .ensures) (r .before .number-at2 .ensures .0) (r .at-most .ensures) (t .test-arrival .ensures) _ _ _ _ (after .leave .ensures .0) _ _ _ (c .before .before .before .before .before .before .before .before .before .before .before .before .before .before .find .ensures) _ (c .before .before .before .before .before .before .before .before .before .before .before .before .before .at-most2 .ensures) (s .args .words .now) _ (c .before .before .before .before .before .before .before .before .before .before .before .read-words .ensures) _ _ _ _ _ (c .enter .ensures .1)
+    arrival-given (s .args .run .now) _ _ (lent (s .args .nodes .now) (s .args .cuts .now) (s .args .copies .now) (s .args .free .now) (s .args .boxes .now)) _ _ _ _ _ _ _ _ _ _ _ (r .before .before .before .before .before .number-at .ensures .0) (r .before .before .before .before .bits-at .ensures) (r .before .before .before .float-of .ensures) (r .before .before .double-at .ensures) (r .before .number-at2 .ensures .0) (r .at-most .ensures) (t .test-arrival .ensures) _ _ _ _ (after .leave .ensures .0) (s .args .path .now) _ _ (after .leave .ensures .1) _ (c .before .before .before .before .before .before .before .before .before .before .before .before .before .before .find .ensures) _ (c .before .before .before .before .before .before .before .before .before .before .before .before .before .at-most2 .ensures) (s .args .words .now) _ (c .before .before .before .before .before .before .before .before .before .before .before .read-words .ensures) _ _ _ _ _ (c .enter .ensures .1)
 
 pub arrival-at-spec : {M : Type 1} → statement M
 arrival-at-spec =
