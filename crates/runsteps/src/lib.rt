@@ -19,11 +19,12 @@ ghost use mathlib.Core.Bool.{true};
 ghost use mathlib.Core.List.{List};
 ghost use Prim.Native.Nat.{ℕ, _+_, _*_, _≤_};
 ghost use lib.ListN.{length, take};
-ghost use lib.Ieee.{Float};
+ghost use lib.Ieee.{Float, binary32, ofBits};
 ghost use lib.Seq.{sets};
 ghost use Rattle.little.specs.Little.{bytesOf};
 ghost use Rattle.treestore.specs.Arrays.{lent};
-ghost use Rattle.runlayout.specs.Layout.{number, IsPlain, channels, capacity, standsAt};
+ghost use Rattle.arrivals.specs.Arrived.{WalksPath};
+ghost use Rattle.runlayout.specs.Layout.{number, double, IsPlain, channels, capacity, standsAt, arrivalWordsAt};
 ghost use Rattle.runlayout.specs.Check.{widthOfKind};
 ghost use Rattle.runsteps.specs.Standing.{kept, SomeStanding, SomePlain};
 ghost use Rattle.runsteps.specs.Steps.{room, Steps};
@@ -110,8 +111,11 @@ fn arrival_step(
     requires arrival { ⌜ (number (now run) p ≡ 6) × (standsAt (now run) p ≡ true) ⌝ }
     requires state { ⌜ SomeStanding (now run) current (kept (lent (now nodes) (now cuts) (now copies) (now free) (now boxes)) (now points) (now written) (now weights) (now held)) ⌝ }
     requires room { ⌜ 4 * (out + 4) ≤ length (now answers) ⌝ }
-    ensures { λ r. ⌜ ((rows : List (List ℕ)) → Steps (now (run .entry)) p out current (kept (lent (now (nodes .entry)) (now (cuts .entry)) (now (copies .entry)) (now (free .entry)) (now (boxes .entry))) (now (points .entry)) (now (written .entry)) (now (weights .entry)) (now (held .entry))) (room (now (words .entry)) (now (reply .entry)) rows (now (answers .entry)))
+    ensures done { λ r. ⌜ ((rows : List (List ℕ)) → Steps (now (run .entry)) p out current (kept (lent (now (nodes .entry)) (now (cuts .entry)) (now (copies .entry)) (now (free .entry)) (now (boxes .entry))) (now (points .entry)) (now (written .entry)) (now (weights .entry)) (now (held .entry))) (room (now (words .entry)) (now (reply .entry)) rows (now (answers .entry)))
         r (kept (lent (now (nodes .exit)) (now (cuts .exit)) (now (copies .exit)) (now (free .exit)) (now (boxes .exit))) (now (points .entry)) (now (written .entry)) (now (weights .exit)) (now (held .exit))) (room (now (words .exit)) (now (reply .exit)) rows (now (answers .exit)))) ⌝ }
+    ensures path { λ _. ⌜ WalksPath (number (now (run .entry)) (p + 1)) (ofBits binary32 (number (now (run .entry)) (p + 2))) (double (now (run .entry)) (p + 3)) (arrivalWordsAt (now (run .entry)) p)
+        current (lent (now (nodes .entry)) (now (cuts .entry)) (now (copies .entry)) (now (free .entry)) (now (boxes .entry))) (now (points .entry)) (now (written .entry)) (now (weights .entry)) (now (held .entry))
+        (now (path .entry)) (now (path .exit)) ⌝ }
 {
     let next = runarrivals::arrival_at(
         current,

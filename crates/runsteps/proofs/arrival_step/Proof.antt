@@ -29,7 +29,7 @@ returns : tie.Need-returns
 returns c =
     let s = c .before .before .before .before .before .before .before .before .before .before .before .before .before .before .before .before .before .before .before in
     let d = c .before .before .before .before .before .before .arrival-at .ensures in
-    λ rows X S. stepped (s .args .run .now) (s .args .p) (s .pre .0 .0) (s .pre .0 .1) (s .args .out) (s .args .current) (kept (lent (s .args .nodes .now) (s .args .cuts .now) (s .args .copies .now) (s .args .free .now) (s .args .boxes .now)) (s .args .points .now) (s .args .written .now) (s .args .weights .now) (s .args .held .now)) (room (s .args .words .now) (s .args .reply .now) rows (s .args .answers .now)) _ _ _ _ _ _ _ (d .0) (d .1 .0) X S (c .before .before .write-reply .ensures)
+    (λ rows X S. stepped (s .args .run .now) (s .args .p) (s .pre .0 .0) (s .pre .0 .1) (s .args .out) (s .args .current) (kept (lent (s .args .nodes .now) (s .args .cuts .now) (s .args .copies .now) (s .args .free .now) (s .args .boxes .now)) (s .args .points .now) (s .args .written .now) (s .args .weights .now) (s .args .held .now)) (room (s .args .words .now) (s .args .reply .now) rows (s .args .answers .now)) _ _ _ _ _ _ _ (d .0) (d .1 .0) X S (c .before .before .write-reply .ensures), d .1 .1)
 
 pub arrival-step-spec : {M : Type 1} → statement M
 arrival-step-spec =

@@ -21,7 +21,7 @@ same-length c = search needs
 returns : tie.Need-returns
 returns c =
     let s = c .before .before .before .before .before .before .before .before .before .before .before .before .before .before .before .before .before .before .before in
-    c .before .before .arrival-step .ensures (s .args .rows .now)
+    c .before .before .arrival-step .ensures .0 (s .args .rows .now)
 
 report-at-requires : tie.Need-report-at-requires
 report-at-requires c κs =
