@@ -76,21 +76,8 @@ fn report_first(
     ensures long { λ _. ⌜ length (now (rows .entry)) ≡ capacityLimit ⌝ }
     ensures told { λ r. ⌜ ReportTold tree (now (nodes .entry)) (now (cuts .entry)) (now (copies .entry)) (now (points .entry)) (now (boxes .entry)) (take n (now (coordinates .entry))) (now (rows .entry)) r (now (rows .exit)) ⌝ }
 {
-    let mut path = [[0u16; 2]; CAPACITY];
-    let mut chances = [0.0f64; CAPACITY];
     let all: &[f32] = coordinates;
-    nodeview::traverse(
-        tree,
-        nodes,
-        cuts,
-        copies,
-        points,
-        boxes,
-        &all[..n],
-        rows,
-        &mut path,
-        &mut chances,
-    )
+    nodeview::traverse(tree, nodes, cuts, copies, points, boxes, &all[..n], rows)
 }
 
 // The report of a row whose coordinates start at a place: those that a report looks at.

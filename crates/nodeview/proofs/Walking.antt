@@ -1,12 +1,12 @@
--- The walk down at the row n of its path: the walk so far, and the chance of each cached branch above; where it starts, the way on, and its end. Assumes nothing.
+-- The walk down at the row n of its path: the walk so far, the chance of each cached branch above, and what else stays; where it starts, the way on, and its end. Assumes nothing.
 use mathlib.Core.Path.{_≡_, refl, sym, ap, _∙_}
 use mathlib.Core.Bool.{cond}
 use mathlib.Core.List.{List, [], _∷_}
 use Prim.Native.Nat.{ℕ, _+_, _-_, _≤_, _<_}
 use native.Mathlib.Omega.{arith}
 use lib.Dec.{ltb, ltb→lt, nltb→le}
-use lib.ListN.{length, getD, set}
-use lib.Seq.{getD-set-same, getD-set-other}
+use lib.ListN.{length, getD, drop, set, length-set}
+use lib.Seq.{getD-set-same, getD-set-other, drop-set-lt}
 use lib.Ieee.{Float, nan}
 use borrow.Author.Tests.{lt-ltb}
 use Rattle.limits.specs.Limits.{width, capacityLimit}
@@ -22,12 +22,12 @@ use Rattle.wholetree.proofs.Draws.{are-readings}
 use Rattle.layout.specs.Slots.{field}
 use Rattle.layout.specs.Stands.{noSibling}
 use Rattle.walk.specs.Walks.{stepOf, nodeOf, Walks, Walked}
-use Rattle.walk.proofs.Paths.{Reaching, Turn, start, turn, arrived}
+use Rattle.walk.proofs.Paths.{Reaching, Turn, start, turn, arrived, drop-next}
 use Rattle.boxstore.specs.Boxed.{Boxed}
 use Rattle.boxstore.specs.Written.{lowIn, highIn}
 use Rattle.boxstore.proofs.Parts.{at-cached}
 use Rattle.boxstore.proofs.Standing.{boxed-in}
-use Rattle.nodeview.specs.Walking.{keptChance, Chanced, SomeWalking}
+use Rattle.nodeview.specs.Walking.{keptChance, Chanced, Unchanced, SomeWalking}
 
 -- the box kept for a node of a tree and the point are coordinates
 kept-readings : {d c k node : ℕ} {nodes : List (List ℕ)} {points : List (List Float)} {boxes : List (List (List Float))} {point : List Float} {u t : Tree (whole d)} (p : Reading) → node < c → node < k → node ≡ id (whole d) c u → In (whole d) u t → Boxed d c k nodes points boxes t → point ≡ p .row
@@ -36,28 +36,34 @@ kept-readings {d} {c} {k} {node} {nodes} {points} {boxes} {point} {u} p h l e i 
     let v = at-cached c k node nodes points boxes h l .whole-box (record { «min_values» = lowIn boxes node; «max_values» = highIn boxes node }) refl refl d u (sym e) (boxed-in d c i B) in
     rw (v .0, v .1, q) (are-readings (tree-box d u) p)
 
-module _ (c k : ℕ) (nodes : List (List ℕ)) (cuts : List Float) (boxes : List (List (List Float))) (point : List Float) (root : ℕ) where
+-- path₀ and chances₀ are those that the loop starts with
+module _ (c k : ℕ) (nodes : List (List ℕ)) (cuts : List Float) (boxes : List (List (List Float))) (point : List Float) (root : ℕ) (path₀ : List (List ℕ)) (chances₀ : List Float) where
   pub record Walking (path : List (List ℕ)) (n node : ℕ) (chances : List Float) : Type 0 where
     pub few : c ≤ capacityLimit
     pub some : 1 ≤ n
     pub stands : SomeWalking c k nodes cuts boxes point root
     pub reaching : (d : ℕ) (t : Tree (whole d)) (p : Reading) → Walks d c nodes cuts point root t p → Reaching c nodes cuts point d p t path n node
     pub top : field path (n - 1) 0 ≡ node
+    pub rest : drop n path ≡ drop n path₀
     pub chanced : Chanced k boxes point path n chances
+    pub unchanced : Unchanced k path n chances₀ chances
 
-  pub walking-starts : c ≤ capacityLimit → SomeWalking c k nodes cuts boxes point root → (path path′ : List (List ℕ)) → length path ≡ capacityLimit → path′ ≡ set path 0 (root ∷ noSibling ∷ []) → (chances : List Float) → Walking path′ 1 root chances
-  walking-starts m s path path′ l e chances = record {
+  pub walking-starts : c ≤ capacityLimit → SomeWalking c k nodes cuts boxes point root → (path : List (List ℕ)) → length path ≡ capacityLimit → path₀ ≡ set path 0 (root ∷ noSibling ∷ []) → Walking path₀ 1 root chances₀
+  walking-starts m s path l e = record {
     few = m;
     some = omega arith;
     stands = s;
     reaching = λ d t p w. rw e (start c nodes cuts point d p root path t l w);
     top = ap (λ (x : List (List ℕ)). field x 0 0) e ∙ ap (λ (x : List ℕ). getD x 0 0) (getD-set-same path 0 (root ∷ noSibling ∷ []) [] (omega (arith, l)));
+    rest = refl;
     chanced = λ i h. absurd (omega arith);
+    unchanced = record { as-many = refl; others = λ i h. refl };
   }
 
   module _ (path : List (List ℕ)) (n node : ℕ) (chances : List Float) (G : Walking path n node chances) where
-    pub walking-ends : c ≤ node → ((d : ℕ) (t : Tree (whole d)) (p : Reading) → Walks d c nodes cuts point root t p → Walked d c path n t p) × Chanced k boxes point path n chances
-    walking-ends h = ((λ d t p w. arrived c nodes cuts point d p t path n node (G .few) (G .reaching d t p w) h), G .chanced)
+    pub walking-ends : c ≤ node → (before : List (List ℕ)) → path₀ ≡ set before 0 (root ∷ noSibling ∷ [])
+        → ((d : ℕ) (t : Tree (whole d)) (p : Reading) → Walks d c nodes cuts point root t p → Walked d c path n t p) × ((drop n path ≡ drop n before) × (Chanced k boxes point path n chances × Unchanced k path n chances₀ chances))
+    walking-ends h before e = ((λ d t p w. arrived c nodes cuts point d p t path n node (G .few) (G .reaching d t p w) h), (G .rest ∙ ap (drop n) e ∙ drop-set-lt n before 0 _ (G .some), (G .chanced, G .unchanced)))
 
     -- at a branch
     module _ (h : node < c) where
@@ -92,6 +98,17 @@ module _ (c k : ℕ) (nodes : List (List ℕ)) (cuts : List Float) (boxes : List
             let z : field (set path n s) i 0 ≡ node = above i (omega arith) ∙ ap (λ (j : ℕ). field path j 0) y ∙ G .top in
             rw (z, y) (now (rw z at q)))
 
+        other : (i : ℕ) → (i + 1 < n + 1 → field (set path n s) i 0 < k → ⊥) → getD chances′ i nan ≡ getD chances i nan
+        other i m = ap (λ (x : List Float). getD x i nan) f ∙ by-cond (λ (x : List Float). getD x i nan ≡ getD chances i nan) (ltb node k) _ chances
+            (λ t. getD-set-other chances (n - 1) i _ nan (λ q. m (omega (arith, G .some)) (rw (above i (omega (arith, G .some)), q, G .top) (ltb→lt node k (yes t)))))
+            (λ _. refl)
+
+        stay : Unchanced k (set path n s) (n + 1) chances₀ chances′
+        stay = record {
+          as-many = ap length f ∙ by-cond (λ (x : List Float). length x ≡ length chances) (ltb node k) _ chances (λ _. length-set chances (n - 1) _) (λ _. refl) ∙ G .unchanced .as-many;
+          others = λ i m. other i m ∙ G .unchanced .others i (λ x y. m (omega arith) (rw (above i (omega arith)) y));
+        }
+
         pub walking-on : Walking (set path n s) (n + 1) (nodeOf s) chances′
         walking-on =
             let back : n + 1 - 1 ≡ n = omega arith in
@@ -101,5 +118,7 @@ module _ (c k : ℕ) (nodes : List (List ℕ)) (cuts : List Float) (boxes : List
               stands = G .stands;
               reaching = λ d t p w. rw e (turn c nodes cuts point d p t path n node (G .few) (w .point-is) (G .reaching d t p w) h .next);
               top = rw back (ap (λ (x : List ℕ). getD x 0 0) (getD-set-same path n s [] (omega (arith, here .long, this .room, G .few))));
+              rest = drop-next path n s path₀ (G .rest);
               chanced = kept;
+              unchanced = stay;
             }

@@ -15,7 +15,7 @@ ghost use Prim.Native.Nat.{ℕ, _≤_, _<_};
 ghost use mathlib.Core.Bool.{cond};
 ghost use mathlib.Core.List.{[], _∷_};
 ghost use lib.Dec.{ltb};
-ghost use lib.ListN.{length, set};
+ghost use lib.ListN.{length, drop, set};
 ghost use lib.Ieee.{binary64, toBits};
 ghost use Rattle.limits.specs.Limits.{width, capacityLimit, branchLimit};
 ghost use Rattle.readings.specs.Number.{nought};
@@ -30,7 +30,7 @@ ghost use Rattle.boxstore.specs.Boxed.{SomeBoxed};
 ghost use Rattle.boxstore.specs.Grown.{EndsGrownBy};
 ghost use Rattle.boxstore.specs.Written.{lowIn, highIn};
 ghost use Rattle.nodeview.specs.Told.{ReportTold, SomeReportRead};
-ghost use Rattle.nodeview.specs.Walking.{keptChance, Chanced, SomeWalking};
+ghost use Rattle.nodeview.specs.Walking.{keptChance, Chanced, Unchanced, MemoryLeft, SomeWalking};
 ghost use Rattle.nodeview.specs.Writing.{endOr, SomeWriting, Writes};
 
 // The chance of each cached branch of a walk, by its depth: working memory.
@@ -104,7 +104,9 @@ fn walk_down(
     requires few { ⌜ capacity ≤ capacityLimit ⌝ }
     requires stands { ⌜ SomeWalking capacity cached (now nodes) (now cuts) (now boxes) (now point) root ⌝ }
     ensures walked { λ r. ⌜ ((d : ℕ) (t : Tree (whole d)) (p : Reading) → Walks d capacity (now (nodes .entry)) (now (cuts .entry)) (now (point .entry)) root t p → Walked d capacity (now (path .exit)) r t p) ⌝ }
+    ensures rest { λ r. ⌜ drop r (now (path .exit)) ≡ drop r (now (path .entry)) ⌝ }
     ensures chances { λ r. ⌜ Chanced cached (now (boxes .entry)) (now (point .entry)) (now (path .exit)) r (now (chances .exit)) ⌝ }
+    ensures others { λ r. ⌜ Unchanced cached (now (path .exit)) r (now (chances .entry)) (now (chances .exit)) ⌝ }
 {
     walk::begin(path, root);
     let mut n: usize = 1;
@@ -219,10 +221,10 @@ fn write_rows(
     }
 }
 
-// The report of a query: a row for each node of its walk, from the leaf to the root, written to the lent rows; or a refusal, in document 01's order, and
-// nothing written. The path and the chances are working memory: whatever they hold before, and what they hold after is free.
-// Rules out depths counted from the leaf, and a row written before too few are told.
-pub fn traverse(
+// The report of `traverse`, with a lent path and chances to work in: whatever they hold before, and after it the walk and the chances of its cached branches,
+// each in its place. A query that is refused for its coordinates or for want of a tree leaves them; too few rows are told after the walk.
+// Rules out a path written for a query that is refused for its coordinates, and a chance put beyond the walk's depth.
+pub fn traverse_in(
     tree: RCFTree,
     nodes: &Nodes,
     cuts: &Cuts,
@@ -235,7 +237,8 @@ pub fn traverse(
     chances: &mut Chances,
 ) -> ReportAnswer
     requires { ⌜ SomeReportRead tree (now nodes) (now cuts) (now copies) (now points) (now boxes) ⌝ }
-    ensures { λ r. ⌜ ReportTold tree (now (nodes .entry)) (now (cuts .entry)) (now (copies .entry)) (now (points .entry)) (now (boxes .entry)) (now (query .entry)) (now (rows .entry)) r (now (rows .exit)) ⌝ }
+    ensures told { λ r. ⌜ ReportTold tree (now (nodes .entry)) (now (cuts .entry)) (now (copies .entry)) (now (points .entry)) (now (boxes .entry)) (now (query .entry)) (now (rows .entry)) r (now (rows .exit)) ⌝ }
+    ensures memory { λ _. ⌜ MemoryLeft tree (now (nodes .entry)) (now (cuts .entry)) (now (copies .entry)) (now (points .entry)) (now (boxes .entry)) (now (query .entry)) (now (path .entry)) (now (chances .entry)) (now (path .exit)) (now (chances .exit)) ⌝ }
 {
     let refusal = pointstore::check_point(tree.dimensions, query);
     if refusal != 0 {
@@ -273,4 +276,36 @@ pub fn traverse(
         rows,
     );
     ReportAnswer::Rows(n)
+}
+
+// The report of a query: a row for each node of its walk, from the leaf to the root, written to the lent rows; or a refusal, in document 01's order, and
+// nothing written.
+// Rules out depths counted from the leaf, and a row written before too few are told.
+pub fn traverse(
+    tree: RCFTree,
+    nodes: &Nodes,
+    cuts: &Cuts,
+    copies: &Copies,
+    points: &Points,
+    boxes: &Boxes,
+    query: &[f32],
+    rows: &mut [[u64; 4]],
+) -> ReportAnswer
+    requires { ⌜ SomeReportRead tree (now nodes) (now cuts) (now copies) (now points) (now boxes) ⌝ }
+    ensures { λ r. ⌜ ReportTold tree (now (nodes .entry)) (now (cuts .entry)) (now (copies .entry)) (now (points .entry)) (now (boxes .entry)) (now (query .entry)) (now (rows .entry)) r (now (rows .exit)) ⌝ }
+{
+    let mut path = [[0u16; 2]; CAPACITY];
+    let mut chances = [0.0f64; CAPACITY];
+    traverse_in(
+        tree,
+        nodes,
+        cuts,
+        copies,
+        points,
+        boxes,
+        query,
+        rows,
+        &mut path,
+        &mut chances,
+    )
 }

@@ -112,7 +112,7 @@ fn report_first(
     requires state { ⌜ SomeReportRead tree (now nodes) (now cuts) (now copies) (now points) (now boxes) ⌝ }
     ensures { λ r. ⌜ ReportFirst tree (now (nodes .entry)) (now (cuts .entry)) (now (copies .entry)) (now (points .entry)) (now (boxes .entry)) (take k (now (coordinates .entry))) n (now (rows .entry)) r (now (rows .exit)) ⌝ }
 {
-    nodeview::traverse(
+    nodeview::traverse_in(
         tree,
         nodes,
         cuts,

@@ -15,7 +15,7 @@ traverse-requires : tie.Need-traverse-requires
 traverse-requires c κs = search needs
 
 returns : tie.Need-returns
-returns c = (omega (arith, c .before .before .before .traverse-arg2 .given), c .traverse .ensures)
+returns c = (omega (arith, c .before .traverse-arg2 .given), c .traverse .ensures)
 
 pub report-first-spec : {M : Type 1} → statement M
 report-first-spec = tie.close (tie.spec slice-aggregate-traverse traverse-requires returns)

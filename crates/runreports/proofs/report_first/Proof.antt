@@ -8,17 +8,17 @@ use borrow.Author.Needs.{needs}
 use Rattle.runreports.proofs.report_first.Statement.{statement}
 use Rattle.runreports.proofs.report_first.Tie as tie
 
-slice-aggregate-traverse : tie.Need-slice-aggregate-traverse
-slice-aggregate-traverse c = let s = c .before .before in sym (length-take-le (s .args .k) (s .args .coordinates .now) (omega arith))
+slice-aggregate-traverse-in : tie.Need-slice-aggregate-traverse-in
+slice-aggregate-traverse-in c = let s = c .before .before in sym (length-take-le (s .args .k) (s .args .coordinates .now) (omega arith))
 
-slice-relend-prefix-traverse : tie.Need-slice-relend-prefix-traverse
-slice-relend-prefix-traverse c = search needs
+slice-relend-prefix-traverse-in : tie.Need-slice-relend-prefix-traverse-in
+slice-relend-prefix-traverse-in c = search needs
 
-slice-aggregate-traverse-2 : tie.Need-slice-aggregate-traverse-2
-slice-aggregate-traverse-2 c = let s = c .before .before .before in sym (length-take-le (s .args .n) (s .args .rows .now) (omega arith))
+slice-aggregate-traverse-in-2 : tie.Need-slice-aggregate-traverse-in-2
+slice-aggregate-traverse-in-2 c = let s = c .before .before .before in sym (length-take-le (s .args .n) (s .args .rows .now) (omega arith))
 
-traverse-requires : tie.Need-traverse-requires
-traverse-requires c κs = search needs
+traverse-in-requires : tie.Need-traverse-in-requires
+traverse-in-requires c κs = search needs
 
 same-length : tie.Need-same-length
 same-length c = search needs
@@ -27,15 +27,15 @@ returns : tie.Need-returns
 returns c =
     let t = c .before in
     let s = t .before .before .before .before .before .before .args in
-    first-told _ _ _ _ _ _ (take (s .k) (s .coordinates .now)) (s .n) (s .rows .now) _ _ _ (omega arith) refl (t .traverse .ensures)
+    first-told _ _ _ _ _ _ (take (s .k) (s .coordinates .now)) (s .n) (s .rows .now) _ _ _ (omega arith) refl (t .traverse-in .ensures .0)
 
 pub report-first-spec : {M : Type 1} → statement M
 report-first-spec =
     tie.close
     (tie.spec
-    slice-aggregate-traverse
-    slice-relend-prefix-traverse
-    slice-aggregate-traverse-2
-    traverse-requires
+    slice-aggregate-traverse-in
+    slice-relend-prefix-traverse-in
+    slice-aggregate-traverse-in-2
+    traverse-in-requires
     same-length
     returns)
