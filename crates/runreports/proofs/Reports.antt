@@ -1,11 +1,11 @@
--- A report by the first coordinates of its query and the first of the working rows is that of all; its answer's numbers are the report's. Assumes nothing.
+-- A report by the first coordinates of its query and the first of the working rows is that of all, and so is what it leaves; its answer's numbers are the report's. Assumes nothing.
 use mathlib.Core.Path.{_≡_, refl, sym, ap, _∙_}
-use mathlib.Core.Bool.{not}
+use mathlib.Core.Bool.{false, not}
 use mathlib.Core.Option.{Option, none, some}
 use mathlib.Core.List.{List, [], _∷_, _++_, map, append-assoc}
 use Prim.Native.Nat.{ℕ, _+_, _*_, _≤_, min, zero-le}
 use native.Mathlib.Omega.{arith}
-use lib.Dec.{leb, ltb}
+use lib.Dec.{eqb, leb, ltb}
 use lib.ListN.{length, take, drop, length-map, length-take, take-append-drop}
 use lib.Seq.{sets, take-at, drop-append-le, length-take-le}
 use lib.Ieee.{Float, binary32, ofBits}
@@ -14,9 +14,9 @@ use Rattle.limits.specs.Limits.{width, capacityLimit}
 use Rattle.little.specs.Little.{bytesOf}
 use Rattle.cuttree.specs.Tree.{Tree, walk}
 use Rattle.cuttree.specs.Run.{World}
-use Rattle.cuttree.proofs.Tests.{by-test, by-cond, cond-true}
+use Rattle.cuttree.proofs.Tests.{by-test, by-cond, cond-true, cond-false}
 use Rattle.cuttree.proofs.Leaves.{walk-leaves}
-use Rattle.wholetree.specs.Reading.{Reading}
+use Rattle.wholetree.specs.Reading.{Reading, reading}
 use Rattle.wholetree.specs.Whole.{whole, tab}
 use Rattle.wholetree.proofs.Readings.{tab-length}
 use Rattle.treestore.specs.Arrays.{Lent}
@@ -28,6 +28,7 @@ use Rattle.answers.proofs.Told.{filled-length}
 use Rattle.nodeview.specs.declared.ReportAnswer.{ReportAnswer}
 use Rattle.nodeview.specs.Report.{ReportRow, coordinateCount, badCoordinate, fewRows, Report, refused, rows, refuse, rowAt, rowsOf, reportIn, reportOf}
 use Rattle.nodeview.specs.Told.{numbersOf, reportSays, rowsAfter, Reported, ReportTold, SomeReportRead}
+use Rattle.nodeview.specs.Walking.{treeWalked, Left, MemoryLeft}
 use Rattle.runlayout.specs.Layout.{number, coordinatesAt}
 use Rattle.runreports.specs.Numbers.{rowNumbers, reportNumbers, ReportWidth}
 use Rattle.runreports.specs.Written.{fiveOf, lentNumbers, rowsIn, answerNumbers, ReportFirst, ReportAt}
@@ -93,14 +94,25 @@ module _ {d c : ℕ} {s : Float} {W : World (whole d)} {tree : RCFTree} {a : Len
   few-rows : (n m : ℕ) (xs : List Float) → m ≡ min n capacityLimit → reportOf d c W m xs ≡ reportOf d c W n xs
   few-rows n m xs e = ap (λ (x : Report). refuse coordinateCount (not (whole d .counted xs)) (refuse badCoordinate (not (whole d .good xs)) x)) (in-few (W .tree) refl n m (whole d .point xs) e)
 
-  -- a list of another length is refused whatever is in it, and nine coordinates are more than any tree's
-  few-coordinates : (n : ℕ) (f : ℕ → Float) (m k : ℕ) → k ≡ min m (width + 1) → reportOf d c W n (tab k f) ≡ reportOf d c W n (tab m f)
-  few-coordinates n f m k e = by-test (leb m (width + 1))
-      (λ t. ap (λ (j : ℕ). reportOf d c W n (tab j f)) (omega (arith, e, leb-true m (width + 1) t)))
-      (λ t. let long = leb-false m (width + 1) t in uncounted k (λ x. omega (arith, x, e, S .limits .1, long)) ∙ sym (uncounted m (λ x. omega (arith, x, S .limits .1, long))))
+  -- the first nine coordinates are all, or there are more than any tree's channels, and so are the first nine
+  first-or-long : {P : Type 0} (f : ℕ → Float) (m k : ℕ) → k ≡ min m (width + 1) → (tab k f ≡ tab m f → P) → (whole d .counted (tab k f) ≡ false → whole d .counted (tab m f) ≡ false → P) → P
+  first-or-long f m k e g h = by-test (leb m (width + 1))
+      (λ t. g (ap (λ (j : ℕ). tab j f) (omega (arith, e, leb-true m (width + 1) t))))
+      (λ t. let long = leb-false m (width + 1) t in h (uncounted k (λ x. omega (arith, x, e, S .limits .1, long))) (uncounted m (λ x. omega (arith, x, S .limits .1, long))))
     where
-      uncounted : (j : ℕ) → (j ≡ d → ⊥) → reportOf d c W n (tab j f) ≡ refused coordinateCount
-      uncounted j h = cond-true _ _ _ (ap not (ne-eqb (length (tab j f)) d (λ x. h (sym (tab-length j f) ∙ x))))
+      uncounted : (j : ℕ) → (j ≡ d → ⊥) → eqb (length (tab j f)) d ≡ false
+      uncounted j h = ne-eqb (length (tab j f)) d (λ x. h (sym (tab-length j f) ∙ x))
+
+  -- so many are refused whatever they are, and nothing is walked
+  few-coordinates : (n : ℕ) (f : ℕ → Float) (m k : ℕ) → k ≡ min m (width + 1) → reportOf d c W n (tab k f) ≡ reportOf d c W n (tab m f)
+  few-coordinates n f m k e = first-or-long f m k e (ap (reportOf d c W n)) (λ x y. cond-true _ _ _ (ap not x) ∙ sym (cond-true _ _ _ (ap not y)))
+
+  few-walked : (boxes : List (List (List Float))) (path : List (List ℕ)) (chances : List Float) (path′ : List (List ℕ)) (chances′ : List Float) (f : ℕ → Float) (m k : ℕ) → k ≡ min m (width + 1)
+      → Left d c (tree .cached) boxes (treeWalked d W (tab k f)) (reading (tab k f)) path chances path′ chances′
+      → Left d c (tree .cached) boxes (treeWalked d W (tab m f)) (reading (tab m f)) path chances path′ chances′
+  few-walked boxes path chances path′ chances′ f m k e left = first-or-long f m k e
+      (λ x. rw x at left)
+      (λ x y. rw (cond-false _ _ _ y) (rw (cond-false _ _ _ x) at left))
 
 -- ---- the report at a place
 module _ (tree : RCFTree) (nodes : List (List ℕ)) (cuts : List Float) (copies : List ℕ) (points : List (List Float)) (boxes : List (List (List Float))) (xs : List Float) (n m : ℕ) (few : m ≡ min n capacityLimit) (work work′ : List (List ℕ)) (r : ReportAnswer)
@@ -124,3 +136,9 @@ module _ (tree : RCFTree) (nodes : List (List ℕ)) (cuts : List Float) (copies 
       let after : work′ ≡ rowsAfter x work = D .after ∙ ap (λ (y : Report). rowsAfter y work) same in
       let said : answerNumbers n r work′ ≡ reportNumbers (number run (p + 1)) x = rw (answer, after, e) (answer-is (number run (p + 1)) x work) in
       record { numbers = w ∙ ap (λ (l : List ℕ). sets answers (4 * out) (bytesOf l)) said; rows = after }
+
+pub memory-there : (tree : RCFTree) (nodes : List (List ℕ)) (cuts : List Float) (copies : List ℕ) (points : List (List Float)) (boxes : List (List (List Float))) (xs : List Float) (path : List (List ℕ)) (chances : List Float) (path′ : List (List ℕ)) (chances′ : List Float)
+    (run : List ℕ) (p j k : ℕ) → j ≡ number run (p + 2) → k ≡ min j (width + 1) → xs ≡ tab k (λ (i : ℕ). ofBits binary32 (number run (p + 3 + i)))
+    → MemoryLeft tree nodes cuts copies points boxes xs path chances path′ chances′ → MemoryLeft tree nodes cuts copies points boxes (coordinatesAt run p) path chances path′ chances′
+memory-there tree nodes cuts copies points boxes xs path chances path′ chances′ run p j k e f g left d c s W a marks S R =
+    few-walked S boxes path chances path′ chances′ (λ (i : ℕ). ofBits binary32 (number run (p + 3 + i))) (number run (p + 2)) k (f ∙ ap (λ (i : ℕ). min i (width + 1)) e) (rw g at (left d c s W a marks S R))

@@ -18,7 +18,8 @@ ghost use Rattle.limits.specs.Limits.{capacityLimit};
 ghost use Rattle.little.specs.Little.{bytesOf};
 ghost use Rattle.answers.specs.Said.{filled};
 ghost use Rattle.nodeview.specs.Told.{SomeReportRead};
-ghost use Rattle.runlayout.specs.Layout.{size, number};
+ghost use Rattle.nodeview.specs.Walking.{MemoryLeft};
+ghost use Rattle.runlayout.specs.Layout.{size, number, coordinatesAt};
 ghost use Rattle.runreports.specs.Written.{fiveOf, lentNumbers, noRow, refusalIn, rowsIn, answerNumbers, ReportFirst, ReportAt};
 
 // The rows that a report is written to before its numbers are: no walk has more nodes than a tree has leaves.
@@ -110,7 +111,8 @@ fn report_first(
 ) -> ReportAnswer
     requires lent { ⌜ (k ≤ length (now coordinates)) × (n ≤ length (now rows)) ⌝ }
     requires state { ⌜ SomeReportRead tree (now nodes) (now cuts) (now copies) (now points) (now boxes) ⌝ }
-    ensures { λ r. ⌜ ReportFirst tree (now (nodes .entry)) (now (cuts .entry)) (now (copies .entry)) (now (points .entry)) (now (boxes .entry)) (take k (now (coordinates .entry))) n (now (rows .entry)) r (now (rows .exit)) ⌝ }
+    ensures told { λ r. ⌜ ReportFirst tree (now (nodes .entry)) (now (cuts .entry)) (now (copies .entry)) (now (points .entry)) (now (boxes .entry)) (take k (now (coordinates .entry))) n (now (rows .entry)) r (now (rows .exit)) ⌝ }
+    ensures memory { λ _. ⌜ MemoryLeft tree (now (nodes .entry)) (now (cuts .entry)) (now (copies .entry)) (now (points .entry)) (now (boxes .entry)) (take k (now (coordinates .entry))) (now (path .entry)) (now (chances .entry)) (now (path .exit)) (now (chances .exit)) ⌝ }
 {
     nodeview::traverse_in(
         tree,
@@ -127,8 +129,8 @@ fn report_first(
 }
 
 // The report at a place of the run: its answer's numbers from the answer number `out` on, and its rows in the working ones. No walk has more rows than
-// those, and a query of nine coordinates is refused like any longer one. The path and the chances are working memory too: whatever they hold before, and what
-// they hold after is free.
+// those, and a query of nine coordinates is refused like any longer one. The path and the chances are working memory too: whatever they hold before, and after
+// it what the report's walk leaves.
 // Rules out a row left from the report before told beyond those written, and the halves of a probability in turn.
 pub fn report_at(
     tree: RCFTree,
@@ -148,7 +150,8 @@ pub fn report_at(
     requires place { ⌜ p + 3 + number (now run) (p + 2) ≤ size (now run) ⌝ }
     requires room { ⌜ 4 * (out + 2 + 5 * number (now run) (p + 1)) ≤ length (now answers) ⌝ }
     requires state { ⌜ SomeReportRead tree (now nodes) (now cuts) (now copies) (now points) (now boxes) ⌝ }
-    ensures { λ _. ⌜ ReportAt tree (now (nodes .entry)) (now (cuts .entry)) (now (copies .entry)) (now (points .entry)) (now (boxes .entry)) (now (run .entry)) p out (now (answers .entry)) (now (rows .entry)) (now (answers .exit)) (now (rows .exit)) ⌝ }
+    ensures told { λ _. ⌜ ReportAt tree (now (nodes .entry)) (now (cuts .entry)) (now (copies .entry)) (now (points .entry)) (now (boxes .entry)) (now (run .entry)) p out (now (answers .entry)) (now (rows .entry)) (now (answers .exit)) (now (rows .exit)) ⌝ }
+    ensures memory { λ _. ⌜ MemoryLeft tree (now (nodes .entry)) (now (cuts .entry)) (now (copies .entry)) (now (points .entry)) (now (boxes .entry)) (coordinatesAt (now (run .entry)) p) (now (path .entry)) (now (chances .entry)) (now (path .exit)) (now (chances .exit)) ⌝ }
 {
     let n = runlayout::number_at(run, p + 1);
     let k = casts::at_most(runlayout::number_at(run, p + 2), COORDINATES);

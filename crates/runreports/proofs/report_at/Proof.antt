@@ -1,7 +1,7 @@
 -- `runreports::report_at` meets its contract. Assumes nothing.
 use native.Mathlib.Omega.{arith}
 use lib.ListN.{take}
-use Rattle.runreports.proofs.Reports.{rows-limit, report-there}
+use Rattle.runreports.proofs.Reports.{rows-limit, report-there, memory-there}
 use borrow.Author.Needs.{needs}
 use Rattle.runreports.proofs.report_at.Statement.{statement}
 use Rattle.runreports.proofs.report_at.Tie as tie
@@ -43,7 +43,7 @@ write-report-requires c κs =
     let read = most .before .before .before in
     let number = read .before .before .before in
     let s = number .before .before .before in
-    (rows-limit _ _ _ _ _ _ (take (read .before .at-most .result) (read .coordinates-at .result)) _ _ (most .at-most2 .ensures) _ _ _ (first .report-first .ensures) (s .pre .1 .1), omega (arith, s .pre .1 .0, number .number-at .ensures .0))
+    (rows-limit _ _ _ _ _ _ (take (read .before .at-most .result) (read .coordinates-at .result)) _ _ (most .at-most2 .ensures) _ _ _ (first .report-first .ensures .0) (s .pre .1 .1), omega (arith, s .pre .1 .0, number .number-at .ensures .0))
 
 same-length : tie.Need-same-length
 same-length c = search needs
@@ -55,7 +55,10 @@ returns c =
     let most = first .before .before .before in
     let read = most .before .before .before in
     let s = read .before .before .before .before .before .before .args in
-    report-there _ _ _ _ _ _ _ _ _ (most .at-most2 .ensures) _ _ _ (first .report-first .ensures) (s .run .now) (s .p) (s .out) _ _ (s .answers .now) _ (read .before .before .before .number-at .ensures .0) (read .before .before .number-at2 .ensures .0) (read .before .at-most .ensures) (read .coordinates-at .ensures .1) (written .write-report .ensures)
+    let j = read .before .before .number-at2 .ensures .0 in
+    let k = read .before .at-most .ensures in
+    let xs = read .coordinates-at .ensures .1 in
+    (report-there _ _ _ _ _ _ _ _ _ (most .at-most2 .ensures) _ _ _ (first .report-first .ensures .0) (s .run .now) (s .p) (s .out) _ _ (s .answers .now) _ (read .before .before .before .number-at .ensures .0) j k xs (written .write-report .ensures), memory-there _ _ _ _ _ _ _ _ _ _ _ (s .run .now) (s .p) _ _ j k xs (first .report-first .ensures .1))
 
 pub report-at-spec : {M : Type 1} → statement M
 report-at-spec =

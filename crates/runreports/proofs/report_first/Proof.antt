@@ -27,7 +27,7 @@ returns : tie.Need-returns
 returns c =
     let t = c .before in
     let s = t .before .before .before .before .before .before .args in
-    first-told _ _ _ _ _ _ (take (s .k) (s .coordinates .now)) (s .n) (s .rows .now) _ _ _ (omega arith) refl (t .traverse-in .ensures .0)
+    (first-told _ _ _ _ _ _ (take (s .k) (s .coordinates .now)) (s .n) (s .rows .now) _ _ _ (omega arith) refl (t .traverse-in .ensures .0), t .traverse-in .ensures .1)
 
 pub report-first-spec : {M : Type 1} → statement M
 report-first-spec =

@@ -36,7 +36,7 @@ returns-2 : tie.Need-returns-2
 returns-2 c =
     let s = c .before .before .before .before .before .before .before .before .before .before .before .before .before .before .before .before in
     let seven = sym (s .pre .0 .1) ∙ c .before .before .before .before .before .before .before .before .before .before .before .before .if2 .taken in
-    reported (s .args .run .now) (s .args .p) (s .pre .0 .0) seven (s .args .out) (s .args .current) (kept (lent (s .args .nodes .now) (s .args .cuts .now) (s .args .copies .now) (s .args .free .now) (s .args .boxes .now)) (s .args .points .now) (s .args .written .now) (s .args .weights .now) (s .args .held .now)) (room (s .args .words .now) (s .args .reply .now) (s .args .rows .now) (s .args .answers .now)) _ _ (c .before .before .report-at .ensures)
+    reported (s .args .run .now) (s .args .p) (s .pre .0 .0) seven (s .args .out) (s .args .current) (kept (lent (s .args .nodes .now) (s .args .cuts .now) (s .args .copies .now) (s .args .free .now) (s .args .boxes .now)) (s .args .points .now) (s .args .written .now) (s .args .weights .now) (s .args .held .now)) (room (s .args .words .now) (s .args .reply .now) (s .args .rows .now) (s .args .answers .now)) _ _ (c .before .before .report-at .ensures .0)
 
 write-sample-requires : tie.Need-write-sample-requires
 write-sample-requires c κs =
