@@ -4,3 +4,4 @@ pub mod Capacity
 pub mod Plain
 pub mod Arrival
 pub mod Asks
+pub mod Works

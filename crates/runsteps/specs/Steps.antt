@@ -1,4 +1,4 @@
--- A call of the run as a step: what it leaves of the tree, and of the room that it is lent for its work and its answer. Definitions.
+-- A call of the run as a step: what it leaves of the tree, of the room that it is lent for its work and its answer, and of the path and the chances. Definitions.
 use mathlib.Core.Path.{_≡_}
 use mathlib.Core.List.{List}
 use Prim.Native.Nat.{ℕ, _*_}
@@ -15,7 +15,8 @@ use Rattle.samplerplustree.specs.Offers.{offered}
 use Rattle.answers.specs.Said.{filled, replyWidth}
 use Rattle.nodeview.specs.Report.{reportOf}
 use Rattle.nodeview.specs.Told.{rowsAfter}
-use Rattle.arrivals.specs.Arrived.{wordsRead}
+use Rattle.nodeview.specs.Walking.{treeWalked, Left}
+use Rattle.arrivals.specs.Arrived.{wordsRead, pathArrived}
 use Rattle.runlayout.specs.Layout.{RunCall, plain, arrives, reports, sample, channels, share, callAt}
 use Rattle.runsteps.specs.Told.{told, left}
 use Rattle.runsteps.specs.Standing.{Kept, Standing}
@@ -57,6 +58,19 @@ module _ (d : ℕ) (s : Float) where
   -- all of the room after a call whose answer begins at the answer number `out`
   abbrev pub roomLeft : ℕ → Sampled (whole d) → RunCall d → Room → Room
   roomLeft out X e r = room (wordsLeft X e (r .words)) (replyLeft X e (r .reply)) (rowsLeft X e (r .rows)) (sets (r .answers) (4 * out) (bytesOf (told d s X e)))
+
+-- The path and the chances that arrivals and reports work in, k branches cached: an arrival leaves in the path and a report in both what their walks do, any
+-- other call what they held.
+abbrev pub WorkLeft : (d k : ℕ) → List (List (List Float)) → Sampled (whole d) → RunCall d → List (List ℕ) → List Float → List (List ℕ) → List Float → Type 0
+WorkLeft d k boxes X (plain e) path chances path′ chances′ = (path′ ≡ path) × (chances′ ≡ chances)
+WorkLeft d k boxes X (arrives i w x ws) path chances path′ chances′ = (path′ ≡ pathArrived d X i (offered d X i w x (length ws)) path) × (chances′ ≡ chances)
+WorkLeft d k boxes X (reports n xs) path chances path′ chances′ = Left d (X .capacity) k boxes (treeWalked d (X .world) xs) (whole d .point xs) path chances path′ chances′
+WorkLeft d k boxes X sample path chances path′ chances′ = (path′ ≡ path) × (chances′ ≡ chances)
+
+module _ (run : List ℕ) (p : ℕ) where
+  -- after the call at the place p, whichever tree the lent state is
+  abbrev pub Works : SamplerPlusTree → Kept → List (List ℕ) → List Float → List (List ℕ) → List Float → Type 0
+  Works h k path chances path′ chances′ = (X : Sampled (whole (channels run))) → Standing run X h k → WorkLeft (channels run) (h .tree .cached) (k .arrays .boxes) X (callAt run (channels run) p) path chances path′ chances′
 
 module _ (run : List ℕ) (p out : ℕ) where
   -- the call at the place p, answered from the answer number `out` on

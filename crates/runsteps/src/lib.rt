@@ -27,7 +27,7 @@ ghost use Rattle.arrivals.specs.Arrived.{WalksPath};
 ghost use Rattle.runlayout.specs.Layout.{number, double, IsPlain, channels, capacity, standsAt, arrivalWordsAt};
 ghost use Rattle.runlayout.specs.Check.{widthOfKind};
 ghost use Rattle.runsteps.specs.Standing.{kept, SomeStanding, SomePlain};
-ghost use Rattle.runsteps.specs.Steps.{room, Steps};
+ghost use Rattle.runsteps.specs.Steps.{room, Steps, Works};
 
 // Writes the first n numbers of a reply, from the answer number `out` on.
 fn write_reply(answers: &mut [u8], out: usize, reply: &[usize], n: usize)
@@ -139,7 +139,8 @@ fn arrival_step(
 }
 
 // The call at a place of the run, of the kind that stands there, answered from the answer number `out` on; its answer has `width` numbers.
-// Gives the header after it. The path and the chances are working memory of arrivals and reports: whatever they hold before, and what they hold after is free.
+// Gives the header after it. The path and the chances are working memory of arrivals and reports: whatever they hold before. After either they hold what its
+// walks leave, after any other call what they held before.
 // Rules out the sample's arrays written by a put, and an answer that begins where the one before it does.
 pub fn step(
     current: SamplerPlusTree,
@@ -167,8 +168,9 @@ pub fn step(
     requires stands { ⌜ (standsAt (now run) p ≡ true) × (kind ≡ number (now run) p) ⌝ }
     requires state { ⌜ SomeStanding (now run) current (kept (lent (now nodes) (now cuts) (now copies) (now free) (now boxes)) (now points) (now written) (now weights) (now held)) ⌝ }
     requires room { ⌜ (width ≡ widthOfKind (channels (now run)) (capacity (now run)) (number (now run) p) (number (now run) (p + 1))) × (4 * (out + width) ≤ length (now answers)) ⌝ }
-    ensures { λ r. ⌜ Steps (now (run .entry)) p out current (kept (lent (now (nodes .entry)) (now (cuts .entry)) (now (copies .entry)) (now (free .entry)) (now (boxes .entry))) (now (points .entry)) (now (written .entry)) (now (weights .entry)) (now (held .entry))) (room (now (words .entry)) (now (reply .entry)) (now (rows .entry)) (now (answers .entry)))
+    ensures told { λ r. ⌜ Steps (now (run .entry)) p out current (kept (lent (now (nodes .entry)) (now (cuts .entry)) (now (copies .entry)) (now (free .entry)) (now (boxes .entry))) (now (points .entry)) (now (written .entry)) (now (weights .entry)) (now (held .entry))) (room (now (words .entry)) (now (reply .entry)) (now (rows .entry)) (now (answers .entry)))
         r (kept (lent (now (nodes .exit)) (now (cuts .exit)) (now (copies .exit)) (now (free .exit)) (now (boxes .exit))) (now (points .exit)) (now (written .exit)) (now (weights .exit)) (now (held .exit))) (room (now (words .exit)) (now (reply .exit)) (now (rows .exit)) (now (answers .exit))) ⌝ }
+    ensures memory { λ _. ⌜ Works (now (run .entry)) p current (kept (lent (now (nodes .entry)) (now (cuts .entry)) (now (copies .entry)) (now (free .entry)) (now (boxes .entry))) (now (points .entry)) (now (written .entry)) (now (weights .entry)) (now (held .entry))) (now (path .entry)) (now (chances .entry)) (now (path .exit)) (now (chances .exit)) ⌝ }
 {
     if kind == 6 {
         return arrival_step(

@@ -95,7 +95,7 @@ loop-again c =
     let R = l .inv .3 _ _ (s .pre .1 .running) in
     let h = below _ _ _ (c .before .before .before .before .before .before .before .before .before .before .before .before .before .before .before .before .before .before .before .before .before .loop-test .taken) (c .before .before .before .before .before .before .before .before .before .before .before .before .before .before .before .before .before .before .before .before .before .before .before .before .before .size-of .ensures) in
     let w = c .before .before .before .before .before .before .before .before .before .before .before .before .before .before .before .before .before .before .before .before .answer-width in
-    let d = c .before .before .step .ensures in
+    let d = c .before .before .step .ensures .0 in
     let g = c .before .before .before .before .before .before .before .before .before .before .before .before .before .before .before .before .before .before .before .width-at .ensures .0 in (
       omega (arith, g, within (s .args .run .now) (l .p) (stands (s .args .run .now) _ _ _ (kept (lent (l .nodes) (l .cuts) (l .copies) (l .free) (l .boxes)) (l .points) (l .written) (l .weights) (l .held)) _ _ _ R h)),
       answers-length (s .args .run .now) _ _ _ (kept (lent (l .nodes) (l .cuts) (l .copies) (l .free) (l .boxes)) (l .points) (l .written) (l .weights) (l .held)) _ _ _ R h _ (w .ensures .0) (room (l .words) (l .reply) (l .rows) (l .answers)) _ _ _ d refl ∙ l .inv .1,
