@@ -75,7 +75,8 @@ fn is_there(head: Head) -> bool {
     }
 }
 
-// Reads until the first three lines are there, or more bytes than they may have, or no more comes; how many bytes are in the text.
+// Reads until the first three lines are there, or more bytes than they may have, or no more comes; how many bytes are in the text. Which bytes come is free, and
+// so is what stands in the text beyond them: the logic says nothing of what a read brings.
 // Rules out a count beyond the text, and a wait without end for lines that do not come.
 pub fn read_head(text: &mut [u8]) -> usize
     requires { ⌜ 8192 ≤ length (now text) ⌝ }
