@@ -51,7 +51,6 @@ if [ "$part" != --port ]; then
 fi
 [ "$part" != --rust ] || exit 0
 
-rt staticlib run
 rt staticlib leaves
 listed=
 if grep -q '^treelist:' crates.txt; then
@@ -67,24 +66,39 @@ if grep -q '^regrow:' crates.txt; then
 else
   echo "harness: crates.txt has no regrow, no archives are compared"
 fi
-built run --package compare -- --fault
-# The comparison of byte runs has one core for its time; leaves, texts and archives are compared on the other meanwhile.
+
+# Leaves and texts need no library of the whole port: they are compared on one core while that is made on the other.
+beside=
 compared=$(mktemp)
-built run --package compare -- "${COMPARE:-45s}" >"$compared" 2>&1 &
-comparing=$!
-trap 'kill "$comparing" 2>/dev/null || true; rm -f "$compared"' EXIT
-built run --package compare_leaves -- --fault
-built run --package compare_leaves -- "${LEAVES:-1000000}"
-if [ -n "$listed" ]; then
+trap '[ -z "$beside" ] || kill "$beside" 2>/dev/null || true; rm -f "$compared"' EXIT
+leaves_and_texts() {
+  set -e
+  built run --package compare_leaves -- --fault
+  built run --package compare_leaves -- "${LEAVES:-1000000}"
+  [ -n "$listed" ] || return 0
   built run --package compare_texts -- --fault
   built run --package compare_texts -- "${TEXTS:-2000}"
-fi
+}
+# waits for what runs beside, and prints what it printed
+joined() {
+  local status=0
+  wait "$beside" || status=$?
+  beside=
+  cat "$compared"
+  [ "$status" -eq 0 ]
+}
+(leaves_and_texts) >"$compared" 2>&1 &
+beside=$!
+rt staticlib run
+joined
+
+built run --package compare -- --fault
+# The comparison of byte runs has one core for its time; archives are compared on the other meanwhile.
+built run --package compare -- "${COMPARE:-45s}" >"$compared" 2>&1 &
+beside=$!
 if [ -n "$regrown" ]; then
   built run --package compare_archives -- --fault
   built run --package compare_archives -- "${ARCHIVES:-1000}"
   harness/statuses.sh
 fi
-status=0
-wait "$comparing" || status=$?
-cat "$compared"
-exit "$status"
+joined
