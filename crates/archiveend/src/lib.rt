@@ -25,8 +25,7 @@ fn put_entry(out: &mut [u8], at: usize, bits: usize, index: usize) -> usize
 {
     let p = lines::put_hex(out, at, 8, bits);
     let q = lines::put_bytes(out, p, b" ");
-    let r = lines::put_decimal(out, q, index);
-    lines::put_bytes(out, r, b"\n")
+    lines::put_last(out, q, index)
 }
 
 // The lines of the first n slots.

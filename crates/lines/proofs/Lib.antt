@@ -1,4 +1,5 @@
 pub mod Digits
 pub mod Writes
+pub mod Placed
 pub mod Lengths
 pub mod Back

@@ -1,14 +1,13 @@
--- What a writer leaves: one thing after another, a number digit by digit, and a list byte by byte. Laws.
-use mathlib.Core.Path.{_≡_, refl, sym}
+-- What a writer leaves: one thing after another, a hexadecimal number digit by digit, and a list byte by byte. Laws.
+use mathlib.Core.Path.{_≡_, refl}
 use mathlib.Core.List.{List, [], _∷_, _++_}
-use Prim.Native.Nat.{ℕ, suc, _+_, _-_, _/_, _%_, _^_, _≤_, _<_}
+use Prim.Native.Nat.{ℕ, suc, _+_, _-_, _/_, _%_, _≤_, _<_}
 use native.Mathlib.Nat.{add-zero}
 use native.Mathlib.Numerals.{add-one}
 use native.Mathlib.Omega.{arith}
 use lib.ListN.{length, getD, take, set, length-append}
-use lib.Seq.{sets, length-sets, set-out, take-suc, take-all, length-take-le}
-use Rattle.lines.specs.Lines.{digit, decimal, hex, Wrote}
-use Rattle.lines.proofs.Digits.{decimal-low, decimal-more, decimal-length}
+use lib.Seq.{sets, length-sets, take-suc, take-all, length-take-le}
+use Rattle.lines.specs.Lines.{digit, hex, Wrote}
 
 sets-append : (l : List ℕ) (i : ℕ) (xs ys : List ℕ) → sets l i (xs ++ ys) ≡ sets (sets l i xs) (i + length xs) ys
 sets-append l i [] ys = rw (add-zero i)
@@ -26,23 +25,14 @@ then {l} {at} {xs} {q} {m} {ys} {p} {o} a b = record {
 pub long : {l : List ℕ} {at : ℕ} {xs : List ℕ} {q : ℕ} {m : List ℕ} → Wrote l at xs q m → length m ≡ length l
 long {l} {at} {xs} {q} {m} w = rw (w .left) (length-sets l at xs)
 
--- ONE BYTE, within the buffer or beyond it
-pub byte-in : {l : List ℕ} {at b : ℕ} → Wrote l at (b ∷ []) (at + 1) (set l at b)
-byte-in = record { next = refl; left = refl }
+-- ONE BYTE
+pub byte-set : {l m : List ℕ} {at b : ℕ} → m ≡ set l at b → Wrote l at (b ∷ []) (at + 1) m
+byte-set e = record { next = refl; left = e }
 
-pub byte-out : {l : List ℕ} {at b : ℕ} → length l ≤ at → Wrote l at (b ∷ []) (at + 1) l
-byte-out {l} {at} {b} h = record { next = refl; left = sym (set-out l at b h) }
+pub byte-set-here : {l m : List ℕ} {at b : ℕ} → m ≡ set l (at + 0) b → Wrote l at (b ∷ []) (at + 1) m
+byte-set-here {at = at} e = byte-set (rw (add-zero at) at e)
 
--- NUMBERS: the last digit after the others
-pub one-digit : {l : List ℕ} {at n b q : ℕ} {m : List ℕ} → n < 10 → b ≡ digit n → Wrote l at (b ∷ []) q m → Wrote l at (decimal n) q m
-one-digit {l} {at} {n} h e w = rw (decimal-low n h) (rw e at w)
-
-pub last-digit : {l : List ℕ} {at n p b q : ℕ} {k m : List ℕ} → 10 ≤ n → Wrote l at (decimal (n / 10)) p k → b ≡ digit (n % 10) → Wrote k p (b ∷ []) q m → Wrote l at (decimal n) q m
-last-digit {l} {at} {n} h v e w = rw (decimal-more n h) (then v (rw e at w))
-
-pub twenty : {l : List ℕ} {at n q : ℕ} {m : List ℕ} → n < 2 ^ 64 → Wrote l at (decimal n) q m → q ≤ at + 20
-twenty {l} {at} {n} h w = let g = decimal-length 19 n (omega arith) in omega arith
-
+-- HEXADECIMAL NUMBERS: the last digit after the others
 pub hex-none : {l : List ℕ} {at k : ℕ} (n : ℕ) → k ≡ 0 → Wrote l at (hex k n) at l × (at ≡ at + k)
 unfolding hex
 hex-none n e = (record { next = rw e (omega arith); left = rw e }, omega arith)

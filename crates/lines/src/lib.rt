@@ -3,8 +3,9 @@
 ghost use mathlib.Core.Path.{_≡_};
 ghost use mathlib.Core.List.{[], _∷_};
 ghost use Prim.Native.Nat.{_+_, _≤_, _<_};
-ghost use lib.ListN.{length};
+ghost use lib.ListN.{length, set};
 ghost use Rattle.lines.specs.Lines.{digit, decimal, hex, numberField, lastNumberField, branchLine, leafLine, refusedLine, namesLine, Wrote};
+ghost use Rattle.lines.specs.Placed.{placed};
 
 // The byte of a digit, `0` to `9` and `A` to `F`.
 fn digit_of(d: usize) -> u8
@@ -17,30 +18,40 @@ fn digit_of(d: usize) -> u8
     (55 + d) as u8
 }
 
+// Sets a byte so many places after a place, if the line has that place.
+fn set_after(out: &mut [u8], at: usize, count: usize, b: u8)
+    ensures { λ _. ⌜ now (out .exit) ≡ set (now (out .entry)) (at + count) b ⌝ }
+{
+    if at < out.len() {
+        if count < out.len() - at {
+            out[at + count] = b;
+        }
+    }
+}
+
 // Stores a byte at a place, if the buffer has it, and gives the next place.
 fn put_byte(out: &mut [u8], at: usize, b: u8) -> usize
     requires { ⌜ at < 1099511627776 ⌝ }
     ensures { λ r. ⌜ Wrote (now (out .entry)) at (b ∷ []) r (now (out .exit)) ⌝ }
 {
-    if at < out.len() {
-        out[at] = b;
-        return at + 1;
-    }
+    set_after(out, at, 0, b);
     at + 1
 }
 
-// Writes a number in decimal. The place asked for is one from which the next can be counted.
-// Rules out the last digit first, and a leading zero.
+// Writes a number in decimal: sets each digit in the line at its place, and keeps none besides. Answers how many there are; those beyond the line's end are
+// counted and not set.
+// Rules out a digit at the neighbouring place, and a leading zero, with which a byte beyond the number is touched.
 pub fn put_decimal(out: &mut [u8], at: usize, n: usize) -> usize
-    requires { ⌜ at < 1000000000000 ⌝ }
-    ensures wrote { λ r. ⌜ Wrote (now (out .entry)) at (decimal n) r (now (out .exit)) ⌝ }
-    ensures few { λ r. ⌜ r ≤ at + 20 ⌝ }
+    ensures placed { λ r. ⌜ (r, now (out .exit)) ≡ placed (now (out .entry)) at (decimal n) ⌝ }
+    ensures few { λ r. ⌜ r ≤ 20 ⌝ }
 {
     if n < 10 {
-        return put_byte(out, at, digit_of(n));
+        set_after(out, at, 0, digit_of(n));
+        return 1;
     }
-    let p = put_decimal(out, at, n / 10);
-    put_byte(out, p, digit_of(n % 10))
+    let count = put_decimal(out, at, n / 10);
+    set_after(out, at, count, digit_of(n % 10));
+    count + 1
 }
 
 // Writes the last `count` hexadecimal digits of a number, upper-case.
@@ -81,8 +92,8 @@ pub fn put_field(out: &mut [u8], at: usize, n: usize) -> usize
     ensures wrote { λ r. ⌜ Wrote (now (out .entry)) at (numberField n) r (now (out .exit)) ⌝ }
     ensures few { λ r. ⌜ r ≤ at + 21 ⌝ }
 {
-    let p = put_decimal(out, at, n);
-    put_byte(out, p, 32)
+    let count = put_decimal(out, at, n);
+    put_byte(out, at + count, 32)
 }
 
 // The last number of a line, with the line feed after it.
@@ -92,8 +103,8 @@ pub fn put_last(out: &mut [u8], at: usize, n: usize) -> usize
     ensures wrote { λ r. ⌜ Wrote (now (out .entry)) at (lastNumberField n) r (now (out .exit)) ⌝ }
     ensures few { λ r. ⌜ r ≤ at + 21 ⌝ }
 {
-    let p = put_decimal(out, at, n);
-    put_byte(out, p, 10)
+    let count = put_decimal(out, at, n);
+    put_byte(out, at + count, 10)
 }
 
 // Writes `refused N R`.

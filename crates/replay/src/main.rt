@@ -50,7 +50,7 @@ fn answer(kind: usize, given: &[u8], out: &mut [u8]) -> usize
 // Prints a number, after a space.
 fn say_number(n: usize) {
     let mut field = [b' '; FIELD];
-    let end = lines::put_decimal(&mut field, 1, n);
+    let end = 1 + lines::put_decimal(&mut field, 1, n);
     io::write_all(STDOUT_FILENO, &field[..end]);
 }
 

@@ -1,13 +1,14 @@
--- `put_byte` meets its contract, within the buffer and beyond it. Assumes nothing.
-use Rattle.lines.proofs.Writes.{byte-in, byte-out}
+-- `put_byte` meets its contract. Assumes nothing.
+use Rattle.lines.proofs.Writes.{byte-set-here}
 use borrow.Author.Needs.{needs}
 use Rattle.lines.proofs.put_byte.Statement.{statement}
 use Rattle.lines.proofs.put_byte.Tie as tie
 use Rattle.lines.proofs.put_byte.Reads as reads
 use Rattle.lines.proofs.put_byte.Lts as lts
+use Rattle.lines.proofs.set_after.Reads as set-after-reads
 
-slice-write-out : tie.Need-slice-write-out
-slice-write-out c = search needs
+set-after-requires : tie.Need-set-after-requires
+set-after-requires c κs = search needs
 
 add-result : tie.Need-add-result
 add-result c = search needs
@@ -16,14 +17,7 @@ same-length : tie.Need-same-length
 same-length c = search needs
 
 returns : tie.Need-returns
-returns c = byte-in
-
-add-result-2 : tie.Need-add-result-2
-add-result-2 c = search needs
-
-returns-2 : tie.Need-returns-2
-returns-2 c = byte-out (c .if1 .left)
+returns c = byte-set-here (c .before .before .set-after .ensures)
 
 pub put-byte-spec : {M : Type 1} → statement M
-put-byte-spec =
-    tie.close (tie.spec slice-write-out add-result same-length returns add-result-2 returns-2)
+put-byte-spec = tie.close (tie.spec set-after-requires add-result same-length returns)

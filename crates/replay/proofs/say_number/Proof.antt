@@ -12,11 +12,14 @@ slice-aggregate-put-decimal c = search needs
 put-decimal-requires : tie.Need-put-decimal-requires
 put-decimal-requires c κs = search needs
 
+add-end : tie.Need-add-end
+add-end c = search needs
+
 array-share-prefix-field : tie.Need-array-share-prefix-field
 array-share-prefix-field c = search needs
 
 slice-aggregate-write-all : tie.Need-slice-aggregate-write-all
-slice-aggregate-write-all c = let w = c .before .before .put-decimal in sym (length-take-le (w .result) (w .last .0) (omega (arith, w .ensures .1, w .kept .0)))
+slice-aggregate-write-all c = let w = c .before .before .put-decimal in sym (length-take-le _ (w .last .0) (omega (arith, w .ensures .1, w .kept .0)))
 
 write-all-requires : tie.Need-write-all-requires
 write-all-requires c κs = search needs
@@ -30,6 +33,7 @@ say-number-spec =
     (tie.spec
     slice-aggregate-put-decimal
     put-decimal-requires
+    add-end
     array-share-prefix-field
     slice-aggregate-write-all
     write-all-requires
