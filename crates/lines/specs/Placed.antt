@@ -1,4 +1,5 @@
--- A text in a lent line (request A.5): what stands at each place of the line once the text is written. Definitions, and the law that this is the text of `Wrote`.
+-- A text in a lent line, byte by byte (document 02, A.5): what stands at each place of the line once the text is written. Definitions, and the law that this is
+-- what `Wrote` says.
 use mathlib.Core.Path.{_≡_, refl}
 use mathlib.Core.Bool.{cond}
 use mathlib.Core.List.{List, [], _∷_}
@@ -8,7 +9,8 @@ use lib.ListN.{length, getD}
 use Rattle.text.specs.Quoted.{bytes}
 use Rattle.lines.specs.Lines.{digit, decimalIn, decimal, Wrote}
 
--- What stands at place i, where b stood, with a text written from `at` on: the text's byte; before the text and behind it, b.
+-- 'the number's digits at their places, every other byte as before': what stands at place i, where b stood, with a text written from `at` on. It is the text's
+-- byte for that place; before the text and behind it, b.
 abbrev pub byteAt : (at : ℕ) (text : List ℕ) (i b : ℕ) → ℕ
 byteAt at text i b = cond (ltb i at) b (getD text (i - at) b)
 
