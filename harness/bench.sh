@@ -1,7 +1,7 @@
 #!/bin/bash
 # Times the Rust and the port and prints Markdown tables for docs/BENCHMARK.md; writes nothing there.
-#   harness/bench.sh [OPERATIONS [REPETITIONS]]      adds and deletes, arrivals, reports
-#   harness/bench.sh --only WORD [OPERATIONS ..]     those tables alone with that word in their name, as Reports
+#   harness/bench.sh [OPERATIONS [REPETITIONS]]      adds and deletes, arrivals, reports, words from a key
+#   harness/bench.sh --only WORD [OPERATIONS ..]     those tables alone with that word in their name, as reports or words
 #   harness/bench.sh --growth [MOST [REPETITIONS]]   by capacity and calls of a run, up to a million if MOST is
 #                                                    not given: that takes 4 gigabytes and some minutes
 # KRCF_SRC as for run.sh. Needs cargo, the Rust and rt.

@@ -1,14 +1,14 @@
 #!/bin/bash
 # Holds the rules of docs/ARCHIVE.md against the recorded answers, the oracle against document 01, the recorded
-# answers against the Rust, the generated runs against faults in the Rust, and the port, its leaves and the
-# programs treelist and regrow against the Rust.
+# answers against the Rust, the generated runs against faults in the Rust, the port, its leaves and the
+# programs treelist and regrow against the Rust, and the port's words of a key against RFC 8439.
 #   harness/run.sh [--rust | --port] [--digests]
 # --rust does what needs no port, --port the rest; without either both are done.
 # KRCF_SRC names the folder that holds crates/rcflib/src, seen from the project's root; the default
 # is ../shared/docs/src. COMPARE says for how long the port is compared, 45s if unset, LEAVES on how many
-# values each leaf is, 1000000 if unset, TEXTS on how many texts treelist is, 2000 if unset, ARCHIVES on how
-# many archives regrow is, 1000 if unset. Where the Rust is not at hand, one line says so and all is well.
-# Where it is but cargo or rt is not, one line says which and the run fails, so that nothing that could be
+# values each leaf is, 1000000 if unset, WORDS on how many words of keys it is, 1000000 if unset, TEXTS on how many
+# texts treelist is, 2000 if unset, ARCHIVES on how many archives regrow is, 1000 if unset. Where the Rust is not at
+# hand, one line says so and all is well. Where it is but cargo or rt is not, one line says which and the run fails, so that nothing that could be
 # compared is left out unseen. Where crates.txt has no treelist, no texts are compared, where it has no regrow,
 # no archives. Where python3 is not at hand, a line says so and the rules of the page are not compared. --digests
 # prints the digest of each given file. Needs no network.
@@ -24,6 +24,7 @@ if [ "$part" = --port ]; then
   :
 elif command -v python3 >/dev/null; then
   python3 harness/reader/reader.py crates/replay/stdin
+  python3 harness/reader/words.py crates/rfc8439/stdin
 else
   echo "harness: python3 is not at hand, the reader is left out"
 fi
@@ -93,9 +94,11 @@ rt staticlib run
 joined
 
 built run --package compare -- --fault
-# The comparison of byte runs has one core for its time; archives are compared on the other meanwhile.
+# The comparison of byte runs has one core for its time; words and archives are compared on the other meanwhile.
 built run --package compare -- "${COMPARE:-45s}" >"$compared" 2>&1 &
 beside=$!
+built run --package compare_words -- --fault
+built run --package compare_words -- "${WORDS:-1000000}"
 if [ -n "$regrown" ]; then
   built run --package compare_archives -- --fault
   built run --package compare_archives -- "${ARCHIVES:-1000}"

@@ -2,9 +2,11 @@
 # Times the program regrow on archives and prints Markdown tables; writes nothing into the project.
 #   harness/speed_archives.sh [SCALE [REPETITIONS]]
 # First one archive after another on one core: 20,000 arrivals at capacity 256, which bring 5 million words, a million
-# at capacity 8 and half a million at 16. Then 8 archives of a folder, one at a time and two at a time. SCALE divides all
-# numbers of arrivals, 1 if not given; each time is the least of 3 repetitions if not told otherwise. REGROW names the
-# program, target/bin/regrow if unset. KRCF_SRC as for run.sh. Needs cargo and the Rust; about 400 MB of disk.
+# at capacity 8 and half a million at 16; and behind each the same with keyed arrivals, a fifth of a million where there are
+# more, which stand for 256 words each beside that of the starting chance. Then 8 archives of a folder, one at a time and two
+# at a time. SCALE divides all numbers of arrivals, 1 if not given; each time is the least of 3 repetitions if not told
+# otherwise. REGROW names the program, target/bin/regrow if unset. KRCF_SRC as for run.sh. Needs cargo and the Rust; about 400
+# MB of disk.
 set -euo pipefail
 
 root=$(cd "$(dirname "$0")/.." && pwd)
@@ -51,18 +53,25 @@ seconds() {
 
 echo "$(sed -n 's/^model name[^:]*: //p' /proc/cpuinfo | head -n 1), $(date -u +%F), least of $repetitions repetitions"
 echo
-echo "| Capacity | Rows | Words | Bytes | Seconds | Words a second | Rows a second | MB a second |"
-echo "|---|---|---|---|---|---|---|---|"
-for shape in "256 $((20000 / scale))" "8 $((1000000 / scale))" "16 $((500000 / scale))"; do
-  read -r capacity arrivals <<<"$shape"
-  archive=$folder/one.txt
-  "$made" "$capacity" "$arrivals" >"$archive"
+echo "| Capacity | Words are | Rows | Words | Bytes | Seconds | Words a second | Rows a second | MB a second |"
+echo "|---|---|---|---|---|---|---|---|---|"
+# timed_row CAPACITY WHAT WORDS, WORDS being those of an arrival
+timed_row() {
+  local archive=$folder/one.txt rows words bytes ns
   rows=$(($(wc -l <"$archive") - 3))
-  words=$(($(grep -c '^3 ' "$archive") * capacity))
+  words=$(($(grep -c '^3 ' "$archive") * $3))
   bytes=$(stat -c %s "$archive")
   ns=$(least alone "$archive")
   if grep -q '^refused 17' "$folder/printed"; then echo "speed: the archive is out of form"; exit 1; fi
-  echo "| $capacity | $rows | $words | $bytes | $(seconds "$ns") | $(per_second "$words" "$ns") | $(per_second "$rows" "$ns") | $(per_second "$bytes" "$ns" | awk '{ printf "%.1f", $1 / 1e6 }') |"
+  echo "| $1 | $2 | $rows | $words | $bytes | $(seconds "$ns") | $(per_second "$words" "$ns") | $(per_second "$rows" "$ns") | $(per_second "$bytes" "$ns" | awk '{ printf "%.1f", $1 / 1e6 }') |"
+}
+for shape in "256 $((20000 / scale))" "8 $((1000000 / scale))" "16 $((500000 / scale))"; do
+  read -r capacity arrivals <<<"$shape"
+  "$made" "$capacity" "$arrivals" >"$folder/one.txt"
+  timed_row "$capacity" written "$capacity"
+  most=$((200000 / scale))
+  "$made" --keyed "$capacity" "$((arrivals < most ? arrivals : most))" >"$folder/one.txt"
+  timed_row "$capacity" "a key's" 256
 done
 rm -f "$folder/one.txt"
 

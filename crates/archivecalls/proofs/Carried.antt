@@ -18,10 +18,10 @@ use Rattle.calls.specs.Done.{Does}
 use Rattle.nodeview.specs.Told.{SomeReportRead}
 use Rattle.arrivals.specs.Arrived.{Arrives}
 use Rattle.archiverow.specs.declared.Line.{Line}
-use Rattle.archiverow.specs.Rows.{ArchiveRow, puts, arrives, reports, outOfForm, rowOf}
+use Rattle.archiverow.specs.Rows.{ArchiveRow, puts, arrives, reports, beyond, outOfForm, rowOf}
 use Rattle.archiverow.specs.Read.{readLine, lineSays}
 use Rattle.archiverow.proofs.Tells.{line-tells}
-use Rattle.archivecalls.specs.Carried.{outNumber, Carries, ReportDone}
+use Rattle.archivecalls.specs.Carried.{outNumber, beyondNumber, Carries, ReportDone}
 
 -- ---- the row of a line
 pub row-read : (line : List ℕ) (read : Line) → read ≡ readLine line → (q : Line) → read ≡ q → rowOf line ≡ lineSays line q
@@ -54,12 +54,15 @@ module _ (row : ArchiveRow) (h : SamplerPlusTree) (a : Lent) (points : List (Lis
       → Carries row h a points marks weights held rows h′ a′ points marks weights′ held′ rows reply
   arrival-carried i w x ws h′ a′ weights′ held′ reply e A d s X S = let D = A d s X S in rw e (record { reply-is = D .reply-is; rows-are = refl; state = D .state })
 
-  -- a report, and a row out of form: they leave all but the reply and a report's rows
+  -- a report, a row that names words beyond the stream's end, and one out of form: they leave all but the reply and a report's rows
   pub report-carried : (xs : List Float) (rows′ : List (List ℕ)) (reply : List ℕ) → row ≡ reports xs → ReportDone (h .tree) (a .nodes) (a .cuts) (a .copies) points (a .boxes) xs rows rows′ reply
       → Carries row h a points marks weights held rows h a points marks weights held rows′ reply
   report-carried xs rows′ reply e R d s X S =
       let D = R d (X .capacity) s (X .world) a marks (tree-state S) (record { nodes-are = refl; cuts-are = refl; copies-are = refl; boxes-are = refl }) in
       rw e (record { reply-is = D .reply-is; rows-are = D .rows-are; state = S })
+
+  pub beyond-carried : (reply : List ℕ) → row ≡ beyond → reply ≡ filled replyWidth (beyondNumber ∷ []) → Carries row h a points marks weights held rows h a points marks weights held rows reply
+  beyond-carried reply e f d s X S = rw e (record { reply-is = f; rows-are = refl; state = S })
 
   pub out-carried : (reply : List ℕ) → row ≡ outOfForm → reply ≡ filled replyWidth (outNumber ∷ []) → Carries row h a points marks weights held rows h a points marks weights held rows reply
   out-carried reply e f d s X S = rw e (record { reply-is = f; rows-are = refl; state = S })

@@ -21,11 +21,15 @@ use Rattle.nodeview.specs.declared.ReportAnswer.the-variants.{Rows, NoReport}
 use Rattle.nodeview.specs.Report.{Report, reportOf}
 use Rattle.nodeview.specs.Told.{ReportRead, reportSays, rowsAfter}
 use Rattle.arrivals.specs.Arrived.{arrivalNumbers}
-use Rattle.archiverow.specs.Rows.{ArchiveRow, puts, arrives, reports, outOfForm}
+use Rattle.archiverow.specs.Rows.{ArchiveRow, puts, arrives, reports, beyond, outOfForm}
 
 -- Document 01, 'Printed tree': 'a bad text prints only `refused 17 R`'
 abbrev pub outNumber : ℕ
 outNumber = 17
+
+-- Document 02, A.6: '22: a start at 2^35 or above, or a stretch running past word 2^35 − 1'
+abbrev pub beyondNumber : ℕ
+beyondNumber = 22
 
 -- a report's refusal, 0 where there is none, and how many rows it has
 abbrev pub reportSaid : ReportAnswer → List ℕ
@@ -34,11 +38,13 @@ reportSaid (NoReport r) = r ∷ 0 ∷ []
 
 -- a sampled tree of d channels
 module _ (d : ℕ) where
-  -- The sampled calls of a row: one of a put and of an arrival. 'Queries and reports change none of these', and a row out of form is no call.
+  -- The sampled calls of a row: one of a put and of an arrival. 'Queries and reports change none of these', and a row that names words beyond the stream's
+  -- end is no call, nor is one out of form.
   abbrev pub callsOf : ArchiveRow → List (SampledCall (whole d))
   callsOf (puts i xs) = put i xs ∷ []
   callsOf (arrives i w x ws) = arrive i w x ws ∷ []
   callsOf (reports xs) = []
+  callsOf beyond = []
   callsOf outOfForm = []
 
   -- so the sampled tree that a row leaves
@@ -54,6 +60,7 @@ module _ (d : ℕ) where
   rowsLeft X (puts i xs) rows = rows
   rowsLeft X (arrives i w x ws) rows = rows
   rowsLeft X (reports xs) rows = rowsAfter (reportTo X xs) rows
+  rowsLeft X beyond rows = rows
   rowsLeft X outOfForm rows = rows
 
   -- what a row answers, of a tree of the cached share s: 'refusal'; of an arrival what became of it, its leaf and the evicted index; of a report how many rows
@@ -61,6 +68,7 @@ module _ (d : ℕ) where
   rowNumbers s X (puts i xs) = putNumbers (putSays d (Bare.call (whole d) (X .capacity) (X .world) (Bare.put i xs) .0))
   rowNumbers s X (arrives i w x ws) = arrivalNumbers (updateSays d (headOf d s (call (whole d) X (arrive i w x ws) .1)) (call (whole d) X (arrive i w x ws) .0))
   rowNumbers s X (reports xs) = reportSaid (reportSays (reportTo X xs))
+  rowNumbers s X beyond = beyondNumber ∷ []
   rowNumbers s X outOfForm = outNumber ∷ []
 
 -- what a row answers and leaves of the sampled tree X: header, arrays, table, sample, lent rows and reply after it

@@ -30,13 +30,15 @@ ghost use Rattle.nodeview.specs.Told.{ReportTold, SomeReportRead};
 ghost use Rattle.arrivals.specs.Arrived.{Arrives};
 ghost use Rattle.archiverow.specs.Rows.{coordinatesIn, weightIn, chanceIn, arrivalWordsIn, rowOf};
 ghost use Rattle.archiverow.specs.Read.{readLine};
-ghost use Rattle.archivecalls.specs.Carried.{outNumber, reportSaid, ReportDone, Carries};
+ghost use Rattle.archivecalls.specs.Carried.{reportSaid, ReportDone, Carries};
 
 // The rows that a report is written to: no walk has more nodes than a tree has leaves.
 pub type Rows = [[u64; 4]; CAPACITY];
 
-// Document 01's number for a text out of form.
+// Document 01's number for a text out of form, and document 02's for words that the stream has not.
 const OUT_OF_FORM: usize = 17;
+
+const BEYOND: usize = 22;
 
 // The numbers of a report's answer, with 0 after them: the refusal, and how many rows are written.
 fn tell_report(answer: ReportAnswer, reply: &mut Reply)
@@ -53,11 +55,12 @@ fn tell_report(answer: ReportAnswer, reply: &mut Reply)
     }
 }
 
-fn tell_out_of_form(reply: &mut Reply)
-    ensures { λ _. ⌜ now (reply .exit) ≡ filled replyWidth (outNumber ∷ []) ⌝ }
+// The number of a refusal, with 0 after it.
+fn tell_refused(number: usize, reply: &mut Reply)
+    ensures { λ _. ⌜ now (reply .exit) ≡ filled replyWidth (number ∷ []) ⌝ }
 {
     *reply = [0; REPLY];
-    reply[0] = OUT_OF_FORM;
+    reply[0] = number;
 }
 
 // The report of the first n coordinates.
@@ -229,8 +232,12 @@ pub fn call_row(
             );
             tree
         }
+        Line::Beyond => {
+            tell_refused(BEYOND, reply);
+            tree
+        }
         Line::OutOfForm => {
-            tell_out_of_form(reply);
+            tell_refused(OUT_OF_FORM, reply);
             tree
         }
     }

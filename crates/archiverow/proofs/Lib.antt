@@ -1,3 +1,4 @@
 pub mod Rows
 pub mod Tells
 pub mod Rest
+pub mod Spellings

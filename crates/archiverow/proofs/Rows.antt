@@ -1,7 +1,7 @@
 -- A row by its rest, by its op and by its fields. Assumes nothing.
 use mathlib.Core.Path.{_≡_, sym, _∙_}
 use mathlib.Core.List.{List, _∷_}
-use mathlib.Core.Bool.{Bool, true, false}
+use mathlib.Core.Bool.{Bool, true, false, _||_}
 use Prim.Native.Nat.{ℕ, _+_, _-_, _≤_, _<_}
 use native.Mathlib.Omega.{arith}
 use borrow.Author.Tests.{ne-eqb, eq-eqb, lt-leb, le-leb}
@@ -14,8 +14,9 @@ use Rattle.text.specs.Numbers.{decimalOf, bitsOf}
 use Rattle.text.specs.Fields.{numberInForm}
 use Rattle.text.proofs.Pieces.{from-zero, from-first, from-past, own-end}
 use Rattle.form.specs.Rows.{areCoordinates, areWords, restAt}
+use Rattle.namedwords.specs.Named.{isNamed, isBeyond}
 use Rattle.archiverow.specs.declared.Line.{Line}
-use Rattle.archiverow.specs.declared.Line.the-variants.{Puts, Arrives, Reports, OutOfForm}
+use Rattle.archiverow.specs.declared.Line.the-variants.{Puts, Arrives, Reports, Beyond, OutOfForm}
 use Rattle.archiverow.specs.Rows.{outOfForm, isArrival, isDash, putBy, arrivalBy, reportBy, rowBy, rowByNumber, rowOfFields, longestRow, rowOf}
 use Rattle.archiverow.specs.Read.{answerAt, readLine}
 
@@ -53,11 +54,18 @@ module _ (s : List ℕ) (k : ℕ) where
           let g : e + 1 ≤ length s = omega arith in
           rw (arrival-fields, second (own-end 32 s (e + 1) g), ← p, ← q, z)
 
-      pub arrival-words : {n : Number} {t : Bool} → n ≡ bitsOf (take (e - k) (drop k s)) → t ≡ numberInForm n → t ≡ true → areWords (piecesFrom 32 s (e + 1)) ≡ isArrival (piecesFrom 32 s k)
-      unfolding isArrival
-      arrival-words p q z =
-          let g : e + 1 ≤ length s = omega arith in
-          rw (arrival-fields, second (own-end 32 s (e + 1) g), ← p, ← q, z)
+      module _ {n : Number} {t : Bool} (p : n ≡ bitsOf (take (e - k) (drop k s))) (q : t ≡ numberInForm n) (z : t ≡ true) {u : Bool} (a : u ≡ areWords (piecesFrom 32 s (e + 1))) where
+        weighed : isArrival (piecesFrom 32 s k) ≡ (areWords (piecesFrom 32 s (e + 1)) || isNamed (piecesFrom 32 s (e + 1)))
+        unfolding isArrival
+        weighed =
+            let g : e + 1 ≤ length s = omega arith in
+            rw (arrival-fields, second (own-end 32 s (e + 1) g), ← p, ← q, z)
+
+        pub arrival-words : u ≡ true → true ≡ isArrival (piecesFrom 32 s k)
+        arrival-words y = rw (weighed, sym a ∙ y)
+
+        pub arrival-named : u ≡ false → isNamed (piecesFrom 32 s (e + 1)) ≡ isArrival (piecesFrom 32 s k)
+        arrival-named y = rw (weighed, sym a ∙ y)
 
 -- ---- by the rest, whose fields are ps and which starts at the place k
 module _ (ps : List (List ℕ)) (k : ℕ) where
@@ -68,11 +76,16 @@ module _ (ps : List (List ℕ)) (k : ℕ) where
     pub put-bad : t ≡ areCoordinates ps → t ≡ false → OutOfForm ≡ answerAt k (putBy n ps)
     put-bad q z = rw (e, sym q ∙ z)
 
-    pub arrival-good : t ≡ isArrival ps → t ≡ true → Arrives i k ≡ answerAt k (arrivalBy n ps)
-    arrival-good q z = rw (e, sym q ∙ z)
-
     pub arrival-not : t ≡ isArrival ps → t ≡ false → OutOfForm ≡ answerAt k (arrivalBy n ps)
     arrival-not q z = rw (e, sym q ∙ z)
+
+    -- the fields after the weight are qs
+    module _ (q : t ≡ isArrival ps) (z : t ≡ true) {qs : List (List ℕ)} (a : qs ≡ drop 1 ps) {u : Bool} (b : u ≡ isBeyond qs) where
+      pub arrival-beyond : u ≡ true → Beyond ≡ answerAt k (arrivalBy n ps)
+      arrival-beyond y = rw (e, sym q ∙ z, ← a, sym b ∙ y)
+
+      pub arrival-good : u ≡ false → Arrives i k ≡ answerAt k (arrivalBy n ps)
+      arrival-good y = rw (e, sym q ∙ z, ← a, sym b ∙ y)
 
   module _ (i : List ℕ) {t : Bool} (d : t ≡ isDash i) where
     pub report-indexed : t ≡ false → OutOfForm ≡ answerAt k (reportBy i ps)

@@ -13,7 +13,8 @@ use Rattle.text.specs.Pieces.{piecesFrom, PieceEnds}
 use Rattle.text.specs.Numbers.{decimalOf}
 use Rattle.text.proofs.Pieces.{own-end}
 use Rattle.form.specs.Rows.{areCoordinates}
-use Rattle.archiverow.specs.Rows.{ArchiveRow, outOfForm, isArrival, isDash, putBy, arrivalBy, reportBy, rowBy, rowByNumber, longestRow}
+use Rattle.namedwords.specs.Named.{isBeyond}
+use Rattle.archiverow.specs.Rows.{ArchiveRow, beyond, outOfForm, isArrival, isDash, putBy, arrivalBy, reportBy, rowBy, rowByNumber, longestRow}
 use Rattle.archiverow.specs.Read.{answerAt, readLine, lineSays, LineTells}
 use Rattle.archiverow.proofs.Rows.{row-long, one-field, two-fields, rest-at}
 
@@ -26,13 +27,18 @@ module _ (s : List ℕ) (k : ℕ) where
   tested true r h = h
   tested false r h = refl
 
+  -- and one that is not: the stream has not the words
+  unless : (t : Bool) (r : ArchiveRow) → Told r → Told (cond t beyond r)
+  unless true r h = refl
+  unless false r h = h
+
   told-put : (n : Number) → Told (putBy n (piecesFrom 32 s k))
   told-put NoNumber = refl
   told-put (Is i) = tested (areCoordinates (piecesFrom 32 s k)) _ refl
 
   told-arrival : (n : Number) → Told (arrivalBy n (piecesFrom 32 s k))
   told-arrival NoNumber = refl
-  told-arrival (Is i) = tested (isArrival (piecesFrom 32 s k)) _ refl
+  told-arrival (Is i) = tested (isArrival (piecesFrom 32 s k)) _ (unless (isBeyond (drop 1 (piecesFrom 32 s k))) _ refl)
 
   told-report : (i : List ℕ) → Told (reportBy i (piecesFrom 32 s k))
   unfolding reportBy

@@ -1,2 +1,3 @@
 pub mod Rows
+pub mod Spellings
 pub mod Read

@@ -1,5 +1,5 @@
-// A row of an archive, read from its line: which row it is, its index, and where its rest starts; then weight, chance and words of an arrival's rest. The line is
-// given without its line feed. Coordinates are read by `text::read_coordinates`.
+// A row of an archive, read from its line: which row it is, its index, and where its rest starts; then weight, chance and words of an arrival's rest, written out or
+// named. The line is given without its line feed. Coordinates are read by `text::read_coordinates`.
 use text::Number;
 ghost use mathlib.Core.Path.{_≡_};
 ghost use Prim.Native.Nat.{_+_, _-_, _≤_};
@@ -13,11 +13,12 @@ ghost use Rattle.archiverow.specs.Read.{answerAt, readLine};
 // The longest row in form, without its line feed.
 const LONGEST: usize = 8191;
 
-// A row: the index of a put or an arrival, and the place where the fields of the rest start.
+// A row: the index of a put or an arrival, and the place where the fields of the rest start; or an arrival that names words which the stream has not.
 pub enum Line {
     Puts(u64, usize),
     Arrives(u64, usize),
     Reports(usize),
+    Beyond,
     OutOfForm,
 }
 
@@ -55,7 +56,11 @@ fn is_arrival(row: &[u8], start: usize) -> bool
     if !text::number_in_form(bits_at(row, start, end)) {
         return false;
     }
-    form::all_words(row, end + 1)
+    let words = end + 1;
+    if form::all_words(row, words) {
+        return true;
+    }
+    namedwords::is_named(row, words)
 }
 
 // The put of an index, and the arrival of one, whose rest starts at a place.
@@ -81,10 +86,13 @@ fn arrival_line(row: &[u8], index: Number, rest: usize) -> Line
     match index {
         Number::NoNumber => Line::OutOfForm,
         Number::Is(i) => {
-            if is_arrival(row, rest) {
-                return Line::Arrives(i, rest);
+            if !is_arrival(row, rest) {
+                return Line::OutOfForm;
             }
-            Line::OutOfForm
+            if namedwords::is_beyond(row, text::after_field(row, rest)) {
+                return Line::Beyond;
+            }
+            Line::Arrives(i, rest)
         }
     }
 }
@@ -149,17 +157,6 @@ pub fn read_line(row: &[u8]) -> Line
     line_by_number(row, op, start, second)
 }
 
-// Where the fields after the first from a place on start.
-fn after_field(row: &[u8], start: usize) -> usize
-    ensures { λ r. ⌜ piecesFrom 32 (now (row .entry)) r ≡ drop 1 (piecesFrom 32 (now (row .entry)) start) ⌝ }
-{
-    if row.len() < start {
-        return start;
-    }
-    let end = text::piece_end(row, start, 32);
-    end + 1
-}
-
 // The weight of an arrival's rest that starts at a place, for every bit pattern.
 // Rules out the digits read as a whole number, and the weight of the field after it.
 pub fn read_weight(row: &[u8], start: usize) -> f32
@@ -173,26 +170,29 @@ pub fn read_weight(row: &[u8], start: usize) -> f32
     little::float_of(bits as u32)
 }
 
-// The word for the starting chance of an arrival's rest that starts at a place.
+// The word for the starting chance of an arrival's rest that starts at a place, written out or named.
 // Rules out the weight's field read as it, and the first of the tree's words.
 pub fn read_chance(row: &[u8], start: usize) -> u64
     ensures { λ r. ⌜ r ≡ chanceIn (piecesFrom 32 (now (row .entry)) start) ⌝ }
 {
-    let at = after_field(row, start);
-    if row.len() < at {
-        return 0;
+    let at = text::after_field(row, start);
+    if namedwords::is_named(row, at) {
+        return namedwords::read_chance(row, at);
     }
-    let end = text::piece_end(row, at, 32);
-    text::word_at(row, at, end)
+    text::word_from(row, at)
 }
 
-// The tree's words of an arrival's rest that starts at a place, as many as the lent buffer holds; its other places stay. Gives how many the row has.
+// The tree's words of an arrival's rest that starts at a place, written out or named, as many as the lent buffer holds; its other places stay. Gives how many the row
+// has.
 // Rules out the word for the starting chance as the first of them, and a count of those stored alone.
 pub fn read_arrival_words(row: &[u8], start: usize, words: &mut [u64]) -> usize
     ensures { λ r. ⌜ r ≡ length (arrivalWordsIn (piecesFrom 32 (now (row .entry)) start)) ⌝ }
     ensures { λ r. ⌜ now (words .exit) ≡ sets (now (words .entry)) 0 (arrivalWordsIn (piecesFrom 32 (now (row .entry)) start)) ⌝ }
 {
-    let chance = after_field(row, start);
-    let at = after_field(row, chance);
+    let chance = text::after_field(row, start);
+    if namedwords::is_named(row, chance) {
+        return namedwords::read_words(row, chance, words);
+    }
+    let at = text::after_field(row, chance);
     text::read_words(row, at, words)
 }

@@ -21,8 +21,8 @@ use Rattle.lines.specs.Lines.{refusedLine}
 use Rattle.demand3.specs.Answered.{ArrivalClaim}
 use Rattle.runlayout.proofs.OfKind.{AllOfKind}
 use Rattle.treelist_text.specs.Output.{toldRow}
-use Rattle.archiverow.specs.Rows.{ArchiveRow, puts, arrives, reports, outOfForm}
-use Rattle.archivecalls.specs.Carried.{outNumber, rowLeaves, reportTo}
+use Rattle.archiverow.specs.Rows.{ArchiveRow, puts, arrives, reports, beyond, outOfForm}
+use Rattle.archivecalls.specs.Carried.{outNumber, beyondNumber, rowLeaves, reportTo}
 use Rattle.archiveend.specs.End.{entryLines, sampleNames, endLines}
 use Rattle.regrow_line.specs.Answered.{putLines, arrivalLines, linesOfReport}
 use Rattle.regrow_line.specs.Archive.{rowsOf, rowsLeave, printed}
@@ -39,6 +39,7 @@ module _ (d : ℕ) where
   all-sampled (puts i xs ∷ rows) = (tt, all-sampled rows)
   all-sampled (arrives i w x ws ∷ rows) = (refl, all-sampled rows)
   all-sampled (reports xs ∷ rows) = (tt, all-sampled rows)
+  all-sampled (beyond ∷ rows) = all-sampled rows
   all-sampled (outOfForm ∷ rows) = all-sampled rows
 
   -- they leave what their calls leave
@@ -47,6 +48,7 @@ module _ (d : ℕ) where
   rows-leave s X (puts i xs ∷ rows) = rows-leave s (rowLeaves d X (puts i xs)) rows
   rows-leave s X (arrives i w x ws ∷ rows) = rows-leave s (rowLeaves d X (arrives i w x ws)) rows
   rows-leave s X (reports xs ∷ rows) = rows-leave s X rows
+  rows-leave s X (beyond ∷ rows) = rows-leave s X rows
   rows-leave s X (outOfForm ∷ rows) = rows-leave s X rows
 
 -- Answers that are as demand 3 says are told: a put is done or refused, and an arrival's plain answer is a refusal.
@@ -71,6 +73,7 @@ module _ (d c : ℕ) (s : Float) where
         let (o, Y) = call (whole d) X (arrive i w x ws) in
         ap₂ _++_ (arrival-told (headOf d s Y) G _ _ K i ws r o C) (rows-told Y (r + 1) H _ rows A)
     rows-told X r G K (reports xs ∷ rows) (S, (H, C, A)) = ap (λ (l : List ℕ). linesOfReport (reportTo d X xs) r ++ l) (rows-told X (r + 1) H _ rows A)
+    rows-told X r G K (beyond ∷ rows) A = ap (λ (l : List ℕ). refusedLine beyondNumber r ++ l) (rows-told X (r + 1) G K rows A)
     rows-told X r G K (outOfForm ∷ rows) A = ap (λ (l : List ℕ). refusedLine outNumber r ++ l) (rows-told X (r + 1) G K rows A)
 
 pub archives-answer : ArchivesAnswer

@@ -19,6 +19,7 @@ use Rattle.samplerplustree.specs.declared.MadeSampled.the-variants.{Tree}
 use Rattle.samplerplustree.specs.Making.{emptySampled, sampledBy}
 use Rattle.form.specs.Making.{sixteenthsOf}
 use Rattle.lines.specs.Lines.{digit, decimalIn, decimal, hex, leafLine, refusedLine}
+use Rattle.namedwords.specs.Named.{isNamed, isBeyond}
 use Rattle.archiverow.specs.Rows.{ArchiveRow, puts, arrives, outOfForm, rowOf, rowOfFields, rowBy, isArrival}
 use Rattle.archivelines.specs.Answers.{keptLine}
 use Rattle.archivehead.specs.Head.{archiveMakingOf, makingOfLine}
@@ -39,7 +40,7 @@ abbrev rows : List ArchiveRow
 rows = puts 7 (ofBits binary32 0x4100_0000 ∷ []) ∷ arrives 7 (ofBits binary32 0xbf80_0000) 0x8000_0000_0000_0000 (1 ∷ 2 ∷ []) ∷ outOfForm ∷ []
 
 carried-out : rowsOf (bytes "0 7 8" ∷ bytes "3 7 BF800000 8000000000000000 0000000000000001 0000000000000002" ∷ bytes "2 7" ∷ bytes "0 7 8" ∷ []) ≡ rows
-unfolding rowsOf rowOf rowOfFields rowBy isArrival pieces digitValue digitsFrom decimalOf wordOf bitsOf capped coordinateOf ofInt ofBits
+unfolding rowsOf rowOf rowOfFields rowBy isArrival isBeyond isNamed pieces digitValue digitsFrom decimalOf wordOf bitsOf capped coordinateOf ofInt ofBits
 carried-out = refl
 
 abbrev start : Sampled (whole 1)

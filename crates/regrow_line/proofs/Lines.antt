@@ -24,7 +24,7 @@ use Rattle.arrivals.specs.Arrived.{arrivalNumbers}
 use Rattle.lines.specs.Lines.{Wrote}
 use Rattle.form.specs.Rows.{restAt}
 use Rattle.archiverow.specs.declared.Line.{Line}
-use Rattle.archiverow.specs.Rows.{ArchiveRow, puts, arrives, reports, outOfForm, rowOf}
+use Rattle.archiverow.specs.Rows.{ArchiveRow, puts, arrives, reports, beyond, outOfForm, rowOf}
 use Rattle.archiverow.specs.Read.{answerAt, readLine}
 use Rattle.archivecalls.specs.Carried.{reportSaid, reportTo, rowsLeft, rowNumbers, Carries}
 use Rattle.archivelines.specs.Answers.{reportLines, arrivalLine, answerLines}
@@ -90,12 +90,14 @@ unfolding answerLines filled
 by-row d s X (puts i xs) k lent r = by-put d (Bare.call (whole d) (X .capacity) (X .world) (Bare.put i xs) .0) lent r
 by-row d s X (arrives i w x ws) k lent r = by-arrival d (headOf d s (call (whole d) X (arrive i w x ws) .1)) (call (whole d) X (arrive i w x ws) .0) lent r
 by-row d s X (reports xs) k lent r = by-report (reportTo d X xs) lent r
+by-row d s X beyond k lent r = refl
 by-row d s X outOfForm k lent r = refl
 
 read-row : (row : ArchiveRow) (k : ℕ) → isRead (answerAt k row) ≡ inForm row
 read-row (puts i xs) k = refl
 read-row (arrives i w x ws) k = refl
 read-row (reports xs) k = refl
+read-row beyond k = refl
 read-row outOfForm k = refl
 
 -- ---- of a line: what was read of it, what was carried out, and what was written

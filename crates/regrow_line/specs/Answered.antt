@@ -21,9 +21,9 @@ use Rattle.nodeview.specs.Report.{Report, refused, rows as reportRows, reportNu
 use Rattle.nodeview.specs.Told.{numbersOf}
 use Rattle.lines.specs.Lines.{refusedLine, Wrote}
 use Rattle.archiverow.specs.declared.Line.{Line}
-use Rattle.archiverow.specs.declared.Line.the-variants.{Puts, Arrives, Reports, OutOfForm}
-use Rattle.archiverow.specs.Rows.{ArchiveRow, puts, arrives, reports, outOfForm}
-use Rattle.archivecalls.specs.Carried.{outNumber, reportTo, rowsLeft, rowLeaves}
+use Rattle.archiverow.specs.declared.Line.the-variants.{Puts, Arrives, Reports, Beyond, OutOfForm}
+use Rattle.archiverow.specs.Rows.{ArchiveRow, puts, arrives, reports, beyond, outOfForm}
+use Rattle.archivecalls.specs.Carried.{outNumber, beyondNumber, reportTo, rowsLeft, rowLeaves}
 use Rattle.archivelines.specs.Answers.{passedLine, keptLine, evictedLine, reportLines}
 use Rattle.regrow_line.specs.declared.Done.{Done}
 
@@ -48,13 +48,15 @@ abbrev pub answered : (d : ℕ) → Float → Sampled (whole d) → ArchiveRow �
 answered d s X (puts i xs) r = putLines (putSays d (Bare.call (whole d) (X .capacity) (X .world) (Bare.put i xs) .0)) r
 answered d s X (arrives i w x ws) r = arrivalLines (updateSays d (headOf d s (call (whole d) X (arrive i w x ws) .1)) (call (whole d) X (arrive i w x ws) .0)) r
 answered d s X (reports xs) r = linesOfReport (reportTo d X xs) r
+answered d s X beyond r = refusedLine beyondNumber r
 answered d s X outOfForm r = refusedLine outNumber r
 
--- a row out of form prints `refused 17 R` and ends all
+-- a row out of form prints `refused 17 R` and ends all; after one that names words beyond the stream's end, `refused 22 R`, the rows go on
 abbrev pub inForm : ArchiveRow → Bool
 inForm (puts i xs) = true
 inForm (arrives i w x ws) = true
 inForm (reports xs) = true
+inForm beyond = true
 inForm outOfForm = false
 
 -- ---- a line carried out
@@ -75,12 +77,14 @@ abbrev pub opRead : Line → ℕ
 opRead (Puts i k) = 0
 opRead (Arrives i k) = 3
 opRead (Reports k) = 4
+opRead Beyond = 0
 opRead OutOfForm = 0
 
 abbrev pub isRead : Line → Bool
 isRead (Puts i k) = true
 isRead (Arrives i k) = true
 isRead (Reports k) = true
+isRead Beyond = true
 isRead OutOfForm = false
 
 -- the first four numbers of a reply: no answer of a row has more

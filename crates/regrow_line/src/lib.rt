@@ -29,7 +29,7 @@ pub struct Done {
     pub goes_on: bool,
 }
 
-// The op of a row; 0 of one out of form, which is refused whatever its op.
+// The op of a row; 0 of one that is refused whatever its op.
 fn op_of(read: Line) -> usize
     ensures { λ r. ⌜ r ≡ opRead read ⌝ }
 {
@@ -37,6 +37,7 @@ fn op_of(read: Line) -> usize
         Line::Puts(_, _) => 0,
         Line::Arrives(_, _) => 3,
         Line::Reports(_) => 4,
+        Line::Beyond => 0,
         Line::OutOfForm => 0,
     }
 }
@@ -48,6 +49,7 @@ fn in_form(read: Line) -> bool
         Line::Puts(_, _) => true,
         Line::Arrives(_, _) => true,
         Line::Reports(_) => true,
+        Line::Beyond => true,
         Line::OutOfForm => false,
     }
 }

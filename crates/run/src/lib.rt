@@ -1,4 +1,6 @@
-// The C entry: a byte run, a making and the calls after it, carried out whole (docs/LAYOUT.md). No state outlives it.
+// The C entry: a byte run, a making and the calls after it, carried out whole (docs/LAYOUT.md). No state outlives it. Beside it, in `words`, that of the source of words.
+pub mod words;
+
 use answers::REPLY;
 use limits::BRANCHES;
 use limits::Boxes;

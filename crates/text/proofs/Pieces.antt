@@ -5,10 +5,10 @@ use mathlib.Core.Bool.{Bool, true, false, cond}
 use Prim.Native.Nat.{ℕ, zero, suc, _+_, _-_, _≤_, _<_}
 use native.Mathlib.Nat.{zero-add, add-zero, suc-add}
 use native.Mathlib.Omega.{arith}
-use borrow.Author.Tests.{lt-leb, eq-eqb, ne-eqb}
+use borrow.Author.Tests.{le-leb, lt-leb, eq-eqb, ne-eqb}
 use lib.ListN.{length, getD, take, drop, length-drop}
 use lib.Dec.{eqb, leb·suc-suc, leb·zero}
-use Rattle.text.specs.Pieces.{onto, pieces, piecesFrom, bytesBefore, pieceEnd, PieceEnds}
+use Rattle.text.specs.Pieces.{onto, pieces, piecesFrom, bytesBefore, pieceEnd, nextPiece, PieceEnds}
 use Rattle.text.proofs.Lists.{here, past, rest}
 
 -- ---- the search for a byte: i bytes are passed, and the rest gives what the whole gives
@@ -99,3 +99,11 @@ pub from-some : (b : ℕ) (s : List ℕ) (k : ℕ) → k ≤ length s → length
 from-some b s k h z =
     let a = rw (from-first b s k _ h (own-end b s k h)) at z in
     omega arith
+
+-- where the pieces after the first start
+module _ (s : List ℕ) (k : ℕ) where
+  pub after-none : length s < k → (k ≡ nextPiece 32 s k) × (piecesFrom 32 s k ≡ drop 1 (piecesFrom 32 s k))
+  after-none h = (rw (lt-leb _ _ h), rw (from-past 32 s k h))
+
+  pub after-one : {e : ℕ} → k ≤ length s → PieceEnds 32 s k e → (e + 1 ≡ nextPiece 32 s k) × (piecesFrom 32 s (e + 1) ≡ drop 1 (piecesFrom 32 s k))
+  after-one {e} h w = (rw (le-leb _ _ h, ← w .is), rw (from-first 32 s k e h w))

@@ -1,11 +1,11 @@
--- The values of a row's fields stored in a lent buffer, one by one: how many they are, and what the buffer holds. Assumes nothing.
-use mathlib.Core.Path.{_≡_, refl}
-use mathlib.Core.List.{List, map}
+-- The values of a row's fields stored in a lent buffer, one by one: how many they are, and what the buffer holds, which may be shorter than they are. Assumes nothing.
+use mathlib.Core.Path.{_≡_, refl, sym, ap, _∙_}
+use mathlib.Core.List.{List, [], _∷_, _++_, map}
 use Prim.Native.Nat.{ℕ, suc, _+_, _-_, _≤_, _<_}
 use native.Mathlib.Numerals.{add-one}
 use native.Mathlib.Omega.{arith}
 use lib.ListN.{length, set, take, drop, length-set}
-use lib.Seq.{sets}
+use lib.Seq.{drop-nil, sets}
 use Rattle.text.specs.Pieces.{piecesFrom, PieceEnds}
 use Rattle.text.proofs.Pieces.{from-first, from-past}
 
@@ -37,3 +37,18 @@ module _ {A : Type 0} {f : List ℕ → A} {s : List ℕ} {k : ℕ} {buf₀ : Li
 
     pub store-end : length s < at → buf ≡ sets buf₀ 0 (map f (piecesFrom 32 s k))
     store-end h = rw (from-past 32 s at h) at (w .same)
+
+-- ---- values stored from the front: those that fit, and what stands after them
+module _ {A : Type 0} where
+  sets-none : (i : ℕ) (xs : List A) → _≡_ {A = List A} (sets [] i xs) []
+  sets-none i [] = refl
+  sets-none i (x ∷ xs) = sets-none (suc i) xs
+
+  sets-cons : (i : ℕ) (xs : List A) (y : A) (l : List A) → sets (y ∷ l) (suc i) xs ≡ y ∷ sets l i xs
+  sets-cons i [] y l = refl
+  sets-cons i (x ∷ xs) y l = sets-cons (suc i) xs y (set l i x)
+
+  pub sets-front : (l xs : List A) → sets l 0 xs ≡ take (length l) xs ++ drop (length xs) l
+  sets-front [] xs = sets-none 0 xs ∙ sym (drop-nil (length xs))
+  sets-front (y ∷ l) [] = refl
+  sets-front (y ∷ l) (x ∷ xs) = sets-cons 0 xs x l ∙ ap {B = List A} (λ r. x ∷ r) (sets-front l xs)

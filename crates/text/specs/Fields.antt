@@ -1,7 +1,8 @@
 -- Whether a field is in form, and its value; and the values of a row's fields from a place on. Definitions.
 use Prim.Native.Nat.{ℕ}
-use mathlib.Core.List.{List, map}
+use mathlib.Core.List.{List, [], map}
 use mathlib.Core.Bool.{Bool, true, false}
+use lib.ListN.{getD}
 use lib.Ieee.{Float, ofBits, binary32}
 use Rattle.text.specs.declared.Number.{Number}
 use Rattle.text.specs.declared.Number.the-variants.{Is, NoNumber}
@@ -28,6 +29,10 @@ coordinateInForm NoCoordinate = false
 abbrev pub coordinateOrZero : Coordinate → Float
 coordinateOrZero (At x) = x
 coordinateOrZero NoCoordinate = ofBits binary32 0
+
+-- the word of field n, counted from 0; 0 where there is none
+abbrev pub wordIn : ℕ → List (List ℕ) → ℕ
+wordIn n ps = numberOrZero (wordOf (getD ps n []))
 
 -- Document 01, 'Printed tree': 'op 0 puts (rest: coordinates), 1 adds (rest: words)', 'One space stands between fields'. 32 is the space.
 abbrev pub wordsFrom : List ℕ → ℕ → List ℕ

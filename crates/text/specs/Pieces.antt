@@ -37,6 +37,10 @@ bytesBefore b (x ∷ s) = cond (eqb x b) 0 (suc (bytesBefore b s))
 unfoldable pub pieceEnd : ℕ → List ℕ → ℕ → ℕ
 pieceEnd b s k = k + bytesBefore b (drop k s)
 
+-- where the pieces after it start; past the text's end k itself
+abbrev pub nextPiece : ℕ → List ℕ → ℕ → ℕ
+nextPiece b s k = cond (leb k (length s)) (pieceEnd b s k + 1) k
+
 -- the piece that starts at k ends at e, which lies within the text
 pub record PieceEnds (b : ℕ) (s : List ℕ) (k e : ℕ) : Type 0 where
   pub is : e ≡ pieceEnd b s k

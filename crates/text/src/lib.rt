@@ -3,10 +3,10 @@ ghost use mathlib.Core.Path.{_≡_};
 ghost use Prim.Native.Nat.{_+_, _-_, _*_, _≤_, _<_, _^_, min};
 ghost use lib.ListN.{length, take, drop, set};
 ghost use lib.Seq.{sets};
-ghost use Rattle.text.specs.Pieces.{bytesBefore, piecesFrom, PieceEnds};
+ghost use Rattle.text.specs.Pieces.{bytesBefore, piecesFrom, nextPiece, PieceEnds};
 ghost use Rattle.text.specs.Numbers.{digitValue, digitsFrom, decimalOf, wordOf, bitsOf};
 ghost use Rattle.text.specs.Coordinates.{capped, withoutMinus, afterMinus, coordinateOf};
-ghost use Rattle.text.specs.Fields.{numberInForm, numberOrZero, coordinateInForm, coordinateOrZero, wordsFrom, coordinatesFrom};
+ghost use Rattle.text.specs.Fields.{numberInForm, numberOrZero, coordinateInForm, coordinateOrZero, wordIn, wordsFrom, coordinatesFrom};
 
 // A number or a word that is read, or none in form.
 pub enum Number {
@@ -45,8 +45,22 @@ pub fn piece_end(text: &[u8], start: usize, separator: u8) -> usize
     start + bytes_before(rest, separator)
 }
 
+// Where the fields after the first from a place on start; where there is none, the place itself.
+// Rules out the first field's own start, and its end.
+pub fn after_field(row: &[u8], start: usize) -> usize
+    ensures place { λ r. ⌜ r ≡ nextPiece 32 (now (row .entry)) start ⌝ }
+    ensures fields { λ r. ⌜ piecesFrom 32 (now (row .entry)) r ≡ drop 1 (piecesFrom 32 (now (row .entry)) start) ⌝ }
+{
+    if row.len() < start {
+        return start;
+    }
+    let end = piece_end(row, start, 32);
+    end + 1
+}
+
 // The value of a digit, 16 for a byte that is none: `0` to `9` are the bytes 48 to 57, `A` to `F` 65 to 70.
-fn digit_value(byte: u8) -> u64
+// Rules out lower-case digits taken, and `A` read as 11.
+pub fn digit_value(byte: u8) -> u64
     ensures { λ r. ⌜ r ≡ digitValue byte ⌝ }
 {
     let n = byte as u64;
@@ -232,6 +246,18 @@ pub fn word_at(text: &[u8], start: usize, end: usize) -> u64
 {
     let field = &text[start..end];
     number_or_zero(read_word(field))
+}
+
+// The word of the field that starts at a place, 0 where there is none.
+// Rules out the fields after it taken into the word, and the word of the row's first field.
+pub fn word_from(row: &[u8], start: usize) -> u64
+    ensures { λ r. ⌜ r ≡ wordIn 0 (piecesFrom 32 (now (row .entry)) start) ⌝ }
+{
+    if row.len() < start {
+        return 0;
+    }
+    let end = piece_end(row, start, 32);
+    word_at(row, start, end)
 }
 
 fn coordinate_at(text: &[u8], start: usize, end: usize) -> f32

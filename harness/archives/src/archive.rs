@@ -1,5 +1,6 @@
 //! The archives of `regrow`: their making and their op rows, as they are written, and the calls they stand
 //! for.
+use chacha20::KEY_BYTES;
 use runs::Call;
 use texts::{coordinate_bits, coordinate_fields, share, word_fields};
 use texts::{Head, InForm, OpRow};
@@ -31,10 +32,21 @@ pub enum Row {
         start: u64,
         words: Vec<u64>,
     },
+    /// An arrival whose words are those of a key from a number on: the word for the starting chance, then as many for
+    /// the tree as the largest capacity.
+    Keyed {
+        index: u32,
+        weight: u32,
+        key: [u8; KEY_BYTES],
+        first: u64,
+    },
     Report {
         coordinates: Vec<i32>,
     },
 }
+
+/// How many words a keyed row stands for.
+pub const KEYED_WORDS: usize = 257;
 
 impl Head for Making {
     const NAMES: &'static str = "dimensions capacity cache16 initial16";
@@ -63,6 +75,12 @@ impl OpRow for Row {
                 start,
                 words,
             } => format!("3 {index} {weight:08X} {start:016X}{}", word_fields(words)),
+            Row::Keyed {
+                index,
+                weight,
+                key,
+                first,
+            } => format!("3 {index} {weight:08X} {} {first:016X}", digits(key)),
             Row::Report { coordinates } => format!("4 -{}", coordinate_fields(coordinates)),
         }
     }
@@ -70,15 +88,17 @@ impl OpRow for Row {
     fn index(&self) -> Option<u32> {
         match self {
             Row::Put { index, .. } | Row::Arrival { index, .. } => Some(*index),
+            Row::Keyed { index, .. } => Some(*index),
             Row::Report { .. } => None,
         }
     }
 }
 
 impl Row {
-    /// The call that the row stands for; a report is lent as many rows as `lent` says of its query.
-    pub fn call(&self, lent: impl FnOnce(&[u32]) -> usize) -> Call {
-        match self {
+    /// The call that the row stands for, or the refusal of one that stands for none; a report is lent as many rows as
+    /// `lent` says of its query.
+    pub fn call(&self, lent: impl FnOnce(&[u32]) -> usize) -> Result<Call, u32> {
+        Ok(match self {
             Row::Put { index, coordinates } => Call::Put {
                 index: *index,
                 coordinates: coordinate_bits(coordinates),
@@ -94,6 +114,20 @@ impl Row {
                 start: *start,
                 words: words.clone(),
             },
+            Row::Keyed {
+                index,
+                weight,
+                key,
+                first,
+            } => {
+                let (start, words) = words_of(key, *first)?;
+                Call::Arrival {
+                    index: *index,
+                    weight: *weight,
+                    start,
+                    words,
+                }
+            }
             Row::Report { coordinates } => {
                 let coordinates = coordinate_bits(coordinates);
                 Call::Report {
@@ -101,6 +135,17 @@ impl Row {
                     coordinates,
                 }
             }
-        }
+        })
     }
+}
+
+/// The word for the starting chance and those for the tree, or the refusal.
+fn words_of(key: &[u8], first: u64) -> Result<(u64, Vec<u64>), u32> {
+    let mut words = vec![0; KEYED_WORDS];
+    chacha20::stretch(key, first, &mut words)?;
+    Ok((words.remove(0), words))
+}
+
+fn digits(key: &[u8]) -> String {
+    key.iter().map(|byte| format!("{byte:02X}")).collect()
 }

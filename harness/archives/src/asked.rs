@@ -10,8 +10,8 @@ use texts::{refused, OUT_OF_FORM};
 /// A run that asks what an archive's calls come to.
 pub struct Asked {
     pub run: Run,
-    /// How many of its calls are those of rows.
-    rows: usize,
+    /// For each row its refusal, where it has no call. The calls of the others come first in the run.
+    rows: Vec<Option<Answer>>,
     /// The row out of form that ends the archive, if one does.
     bad: Option<usize>,
 }
@@ -22,7 +22,7 @@ pub fn making(making: Making) -> Asked {
     let run = Run { making, calls };
     Asked {
         run,
-        rows: 0,
+        rows: vec![],
         bad: None,
     }
 }
@@ -33,7 +33,7 @@ pub fn grown(grown: &Grown) -> Asked {
         End::Bad(row) => Some(row),
         End::Kept { .. } => None,
     };
-    let mut calls = grown.calls.clone();
+    let mut calls: Vec<Call> = grown.calls.iter().flatten().cloned().collect();
     if bad.is_none() {
         let capacity = grown.making.capacity;
         calls.push(Call::Sample);
@@ -42,15 +42,20 @@ pub fn grown(grown: &Grown) -> Asked {
             Call::Arrival { index, .. } if (*index as usize) < Table::SIZE => Some(*index),
             _ => None,
         };
-        let indices: BTreeSet<u32> = grown.calls.iter().filter_map(arrived).collect();
+        let indices: BTreeSet<u32> = calls.iter().filter_map(arrived).collect();
         calls.extend(indices.into_iter().map(|index| Call::Copies {
             id: index + capacity,
         }));
     }
     let making = grown.making;
+    let rows = grown.calls.iter().zip(&grown.answers);
+    let without_call = |(call, answer): (&Option<Call>, &Answer)| match call {
+        Some(_) => None,
+        None => Some(answer.clone()),
+    };
     Asked {
         run: Run { making, calls },
-        rows: grown.calls.len(),
+        rows: rows.map(without_call).collect(),
         bad,
     }
 }
@@ -71,13 +76,19 @@ impl Asked {
             return Some(refused(*made, 0).into_bytes());
         }
         let answers = self.split(rest)?;
-        let (of_rows, of_end) = answers.split_at(self.rows);
-        let rows = answered(&self.run.calls[..self.rows], of_rows);
+        let mut called = self.run.calls.iter().zip(&answers);
+        let mut rows = Vec::with_capacity(self.rows.len());
+        for refusal in &self.rows {
+            rows.push(match refusal {
+                Some(refusal) => (None, refusal),
+                None => called.next().map(|(call, answer)| (Some(call), answer))?,
+            });
+        }
         let end = match self.bad {
             Some(row) => refused(OUT_OF_FORM, row),
-            None => self.end(of_end)?,
+            None => end(called)?,
         };
-        Some((rows + &end).into_bytes())
+        Some((answered(rows.into_iter()) + &end).into_bytes())
     }
 
     /// The numbers of each call's answer.
@@ -91,24 +102,26 @@ impl Asked {
         }
         rest.is_empty().then_some(answers)
     }
+}
 
-    fn end(&self, answers: &[Answer]) -> Option<String> {
-        let (mut branches, mut copies) = (BTreeMap::new(), BTreeMap::new());
-        for (call, answer) in self.run.calls[self.rows..].iter().zip(answers) {
-            match (call, &answer[..]) {
-                (Call::Branch { id }, [0, of_branch @ ..]) => {
-                    branches.insert(*id, Branch::try_from(of_branch).ok()?);
-                }
-                (Call::Copies { id }, [0, number]) => {
-                    copies.insert(*id, *number);
-                }
-                (Call::Sample, _) => {}
-                (_, [NO_SUCH_NODE, rest @ ..]) if all_zero(rest) => {}
-                _ => return None,
+/// Sample and tree, by the answers to what is asked after the rows.
+fn end<'a>(asked: impl Iterator<Item = (&'a Call, &'a Answer)>) -> Option<String> {
+    let (mut branches, mut copies) = (BTreeMap::new(), BTreeMap::new());
+    let mut of_sample = None;
+    for (call, answer) in asked {
+        match (call, &answer[..]) {
+            (Call::Branch { id }, [0, of_branch @ ..]) => {
+                branches.insert(*id, Branch::try_from(of_branch).ok()?);
             }
+            (Call::Copies { id }, [0, number]) => {
+                copies.insert(*id, *number);
+            }
+            (Call::Sample, answer) => of_sample = Some(sample(answer)?),
+            (_, [NO_SUCH_NODE, rest @ ..]) if all_zero(rest) => {}
+            _ => return None,
         }
-        Some(sample(answers.first()?)? + &list(&branches, &copies))
     }
+    Some(of_sample? + &list(&branches, &copies))
 }
 
 fn all_zero(numbers: &[u32]) -> bool {

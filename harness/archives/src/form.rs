@@ -1,6 +1,7 @@
 //! Reads an archive line by line, as a program must that keeps no more than one: a row that is out of
 //! form ends the reading, and those before it stand.
 use crate::archive::{Archive, Making, Row};
+use chacha20::KEY_BYTES;
 use texts::form::{coordinate, exactly, fields, hexadecimal, names, number, numbers, word};
 use texts::{Head, OP_NAMES};
 
@@ -73,12 +74,24 @@ fn row(mut line: &[u8]) -> Option<Row> {
     }
 }
 
-/// An arrival's index, weight and word for the starting chance must be there.
+/// An arrival's index, weight and word for the starting chance must be there; or a key and the number of that word, and
+/// nothing more. A key is told by its length.
 fn arrival(rest: &mut &[u8]) -> Option<Row> {
     let index = number(rest)?;
     exactly(rest, " ")?;
     let weight = hexadecimal(rest, 8)? as u32;
     exactly(rest, " ")?;
+    if field_length(rest) == 2 * KEY_BYTES {
+        let key = key(rest)?;
+        exactly(rest, " ")?;
+        let first = word(rest)?;
+        return exactly(rest, "\n").map(|()| Row::Keyed {
+            index,
+            weight,
+            key,
+            first,
+        });
+    }
     let start = word(rest)?;
     Some(Row::Arrival {
         index,
@@ -86,4 +99,21 @@ fn arrival(rest: &mut &[u8]) -> Option<Row> {
         start,
         words: fields(rest, word)?,
     })
+}
+
+/// How many bytes there are before the next space or line feed.
+fn field_length(rest: &[u8]) -> usize {
+    let end = rest.iter().position(|byte| b" \n".contains(byte));
+    end.unwrap_or(rest.len())
+}
+
+/// A key: two upper-case hexadecimal digits to a byte, the high one first.
+fn key(rest: &mut &[u8]) -> Option<[u8; KEY_BYTES]> {
+    let mut key = [0; KEY_BYTES];
+    for byte in &mut key {
+        let (mut two, after) = rest.split_at_checked(2)?;
+        *byte = hexadecimal(&mut two, 2)? as u8;
+        *rest = after;
+    }
+    Some(key)
 }

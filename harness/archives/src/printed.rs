@@ -1,5 +1,6 @@
 //! What `regrow` must print for an archive: its form by `form`, its answers by the same driver of the
 //! Rust that answers the byte runs.
+use crate::archive::Row;
 use crate::form;
 use crate::form::Read;
 use runs::{Answer, Call, Driver, Making, ROW_NUMBERS};
@@ -23,9 +24,12 @@ pub enum Outcome {
 #[derive(Clone, Debug, PartialEq)]
 pub struct Grown {
     pub making: Making,
-    /// The calls of the rows before a bad one, and the answer to each.
-    pub calls: Vec<Call>,
+    /// The calls of the rows before a bad one, and the answer to each. A row that is refused before any call has none,
+    /// and its refusal alone for an answer.
+    pub calls: Vec<Option<Call>>,
     pub answers: Vec<Answer>,
+    /// How many of these rows have their words by a key.
+    pub keyed: usize,
     pub end: End,
 }
 
@@ -62,9 +66,13 @@ fn carried_out(read: &Read) -> Outcome {
     let (mut calls, mut answers) = (Vec::new(), Vec::new());
     for row in &read.archive.rows {
         let call = row.call(|query| driver.report_rows(query));
-        answers.push(driver.call(&call));
-        calls.push(call);
+        answers.push(match &call {
+            Ok(call) => driver.call(call),
+            Err(refusal) => vec![*refusal],
+        });
+        calls.push(call.ok());
     }
+    let keyed = |row: &&Row| matches!(row, Row::Keyed { .. });
     let end = match read.bad {
         Some(row) => End::Bad(row),
         None => {
@@ -79,6 +87,7 @@ fn carried_out(read: &Read) -> Outcome {
         making,
         calls,
         answers,
+        keyed: read.archive.rows.iter().filter(keyed).count(),
         end,
     })
 }
@@ -90,7 +99,8 @@ impl Outcome {
             Outcome::NoMaking => refused(OUT_OF_FORM, 0),
             Outcome::Unmade { refusal, .. } => refused(*refusal, 0),
             Outcome::Grown(grown) => {
-                let rows = answered(&grown.calls, &grown.answers);
+                let calls = grown.calls.iter().map(Option::as_ref);
+                let rows = answered(calls.zip(&grown.answers));
                 rows + &match &grown.end {
                     End::Bad(row) => refused(OUT_OF_FORM, *row),
                     End::Kept { sample, list } => kept(sample) + list,
@@ -123,22 +133,24 @@ impl Outcome {
     }
 }
 
-/// The lines of the rows, by the numbers of their answers. What is no answer, be it only by a number that should be
-/// 0, is told as such.
-pub(crate) fn answered(calls: &[Call], answers: &[Answer]) -> String {
+/// The lines of the rows, by their calls and the numbers of their answers. What is no answer, be it only by a number that
+/// should be 0, is told as such.
+pub(crate) fn answered<'a>(rows: impl Iterator<Item = (Option<&'a Call>, &'a Answer)>) -> String {
     let mut text = String::new();
-    for ((call, answer), row) in calls.iter().zip(answers).zip(1..) {
+    for ((call, answer), row) in rows.zip(1..) {
         match (call, &answer[..]) {
-            (Call::Put { .. }, [0]) => {}
-            (Call::Arrival { .. }, [0, 0, 0, 0]) => line(&mut text, format_args!("passed {row}")),
-            (Call::Arrival { .. }, [0, 1, leaf, 0]) => {
+            (Some(Call::Put { .. }), [0]) => {}
+            (Some(Call::Arrival { .. }), [0, 0, 0, 0]) => {
+                line(&mut text, format_args!("passed {row}"));
+            }
+            (Some(Call::Arrival { .. }), [0, 1, leaf, 0]) => {
                 line(&mut text, format_args!("leaf {leaf} {row}"));
             }
-            (Call::Arrival { .. }, [0, 2, leaf, evicted]) => {
+            (Some(Call::Arrival { .. }), [0, 2, leaf, evicted]) => {
                 let what = format_args!("leaf {leaf} evicted {evicted} {row}");
                 line(&mut text, what);
             }
-            (Call::Report { .. }, [0, count, rows @ ..])
+            (Some(Call::Report { .. }), [0, count, rows @ ..])
                 if rows.len() == ROW_NUMBERS * *count as usize =>
             {
                 report(&mut text, rows);

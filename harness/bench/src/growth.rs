@@ -2,7 +2,7 @@
 use crate::arrivals::{arrivals, Arrivals};
 use crate::reports::reports;
 use crate::workload::Workload;
-use crate::{adds, times, Shape};
+use crate::{adds, times, Shape, OF_RUNS};
 
 const CAPACITIES: [usize; 3] = [16, 64, 256];
 const CALLS: [usize; 4] = [1_000, 10_000, 100_000, 1_000_000];
@@ -24,6 +24,7 @@ pub fn print(most: Option<usize>, repetitions: usize) {
     println!(
         "Share 1, 4 channels. Times are for one call, the least of {repetitions} repetitions."
     );
+    println!("{OF_RUNS}");
 }
 
 fn row(capacity: usize, calls: usize, repetitions: usize) {

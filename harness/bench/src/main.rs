@@ -1,19 +1,22 @@
 //! Times the Rust and the port on the same calls, in the same process, and prints tables.
 //!
 //!   bench [OPERATIONS [REPETITIONS]]        a table for each kind of call
-//!   bench --only WORD [OPERATIONS ..]       the tables alone with that word in their name
+//!   bench --only WORD [OPERATIONS ..]       the tables alone with that word in their name, in capitals or not
 //!   bench --growth [MOST [REPETITIONS]]     how the cost grows with capacity and calls
 //!
 //! The answers of both are compared before anything is timed. The Rust's time is that of the timed calls
-//! alone; the port's is that of a whole run less that of the run without them.
-#![forbid(unsafe_code)]
+//! alone; the port's is that of a whole run less that of the run without them. The given Rust has no words from a key:
+//! the port's are timed against plain loops.
+#![deny(unsafe_code)]
 
 mod adds;
 mod arrivals;
 mod growth;
+mod plain;
 mod readings;
 mod reports;
 mod times;
+mod words;
 mod workload;
 
 use arrivals::Arrivals;
@@ -26,6 +29,9 @@ const REPETITIONS: usize = 7;
 const CAPACITY: usize = 256;
 const SHARES: [f64; 3] = [1.0, 0.5, 0.0];
 const CHANNELS: [u32; 3] = [1, 4, 8];
+/// What is said below the times of runs.
+const OF_RUNS: &str =
+    "The port's time includes reading the run's bytes and writing the answers' bytes.";
 
 /// Makes so many calls on a tree of a shape.
 type Make<'a> = &'a dyn Fn(&Shape, usize) -> Workload;
@@ -57,12 +63,15 @@ fn main() -> ExitCode {
         true => growth::print(first, repetitions),
         false => kinds(only, first.unwrap_or(OPERATIONS), repetitions),
     }
-    println!("The port's time includes reading the run's bytes and writing the answers' bytes.");
     ExitCode::SUCCESS
 }
 
 /// A table for each kind of call whose name has the word.
 fn kinds(only: &str, operations: usize, repetitions: usize) {
+    let named = |name: &str| name.to_lowercase().contains(&only.to_lowercase());
+    if named(words::NAME) {
+        words::print(repetitions);
+    }
     let filling = |shape: &Shape, calls| arrivals::arrivals(Arrivals::Filling, shape, calls);
     let evicting = |shape: &Shape, calls| arrivals::arrivals(Arrivals::Evicting, shape, calls);
     let passing = |shape: &Shape, calls| arrivals::arrivals(Arrivals::NotAccepted, shape, calls);
@@ -73,26 +82,35 @@ fn kinds(only: &str, operations: usize, repetitions: usize) {
         ("Arrivals that are not accepted", "Words", &passing),
         ("Reports", "Rows", &reports::reports),
     ];
-    for (name, to_a_call, workload) in tables.into_iter().filter(|table| table.0.contains(only)) {
+    if !tables.iter().any(|table| named(table.0)) {
+        return;
+    }
+    for (name, to_a_call, workload) in tables.into_iter().filter(|table| named(table.0)) {
         println!("{name}:\n");
         println!("| Share | Channels | {to_a_call} | Rust, ns | Port, ns | Port / Rust |");
         println!("|---|---|---|---|---|---|");
-        for share in SHARES {
-            for channels in CHANNELS {
-                let shape = Shape {
-                    channels,
-                    capacity: CAPACITY,
-                    share,
-                };
-                row(&shape, &workload(&shape, operations), repetitions);
-            }
-        }
+        rows(&|shape| workload(shape, operations), repetitions);
         println!();
     }
     println!(
         "Capacity {CAPACITY}; {operations} calls a run, {CAPACITY} where they fill the sample."
     );
     println!("Times are for one call, the least of {repetitions} repetitions.");
+    println!("{OF_RUNS}");
+}
+
+/// A row for each share and number of channels.
+fn rows(workload: &dyn Fn(&Shape) -> Workload, repetitions: usize) {
+    for share in SHARES {
+        for channels in CHANNELS {
+            let shape = Shape {
+                channels,
+                capacity: CAPACITY,
+                share,
+            };
+            row(&shape, &workload(&shape), repetitions);
+        }
+    }
 }
 
 fn row(shape: &Shape, workload: &Workload, repetitions: usize) {

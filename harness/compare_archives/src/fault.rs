@@ -1,7 +1,8 @@
-//! Faults made on purpose, to show that the comparison notices them: those of any program, and two more.
+//! Faults made on purpose, to show that the comparison notices them: those of any program, and three more.
 use crate::{of_port, REGROW};
-use archives::outcome;
-use command::{Faults, Shows};
+use archives::form::read;
+use archives::{outcome, printed, Row};
+use command::{Faults, Pieces, Program, Shows};
 use oracle::Words;
 
 /// What goes wrong.
@@ -9,6 +10,8 @@ use oracle::Words;
 enum Fault {
     /// The program is handed the archive with another hexadecimal digit somewhere. One that doesn't decide need not show.
     Digit,
+    /// The program is handed the archive with keyed rows that begin one word later. Where no word decides it need not show.
+    NextWord,
     /// One bit of what the port's byte run answers.
     PortBit,
 }
@@ -20,9 +23,41 @@ pub fn run() -> Result<(), String> {
     REGROW.try_faults(&program, &mut faults)?;
     let tries = REGROW.try_handed(&program, with_other_digit)?;
     faults.tell(Fault::Digit, REGROW.texts, tries, Shows::Sometimes);
+    let tries = REGROW.try_drawn(|_, archive, _| next_word(archive, &program))?;
+    faults.tell(Fault::NextWord, REGROW.texts, tries, Shows::Sometimes);
     let tries = REGROW.try_drawn(port_bit)?;
     faults.tell(Fault::PortBit, REGROW.texts, tries, Shows::Always);
     faults.finish()
+}
+
+/// Hands the program an archive with other words; whether that is noticed, where the archive has keyed rows.
+fn next_word(archive: Vec<u8>, program: &Program) -> Result<Option<bool>, String> {
+    let Some(other) = with_next_words(&archive) else {
+        return Ok(None);
+    };
+    let expected = printed(&archive);
+    // what differs without a fault is for the comparison itself
+    if program
+        .print(&archive, &Pieces::Equal(1))?
+        .differs(&expected)
+    {
+        return Ok(None);
+    }
+    let got = program.print(&other, &Pieces::Equal(1))?;
+    Ok(Some(got.differs(&expected)))
+}
+
+/// The archive with all its keyed rows one word further on; none where it has none, or is out of form.
+fn with_next_words(archive: &[u8]) -> Option<Vec<u8>> {
+    let mut archive = read(archive)?.whole().ok()?;
+    let mut any = false;
+    for row in &mut archive.rows {
+        if let Row::Keyed { first, .. } = row {
+            *first = first.saturating_add(1);
+            any = true;
+        }
+    }
+    any.then(|| archive.bytes())
 }
 
 /// Spoils the port's answer bytes; whether that is noticed, where an archive has any.

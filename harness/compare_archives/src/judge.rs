@@ -14,6 +14,8 @@ pub struct Judge {
     rows: usize,
     arrivals: usize,
     most_rows: usize,
+    /// Arrivals with their words by a key.
+    keyed: usize,
     /// Arrivals accepted, and how many of those evict.
     accepted: usize,
     evicting: usize,
@@ -52,6 +54,7 @@ impl command::Judge for Judge {
             return Ok(());
         }
         reached(self.arrivals, ARRIVALS + ARRIVALS_EACH * asked, "arrivals")?;
+        reached(self.keyed, KEYED + KEYED_EACH * asked, "keyed arrivals")?;
         reached(self.report_rows, REPORT_ROWS_EACH * asked, "report rows")
     }
 }
@@ -81,14 +84,15 @@ impl Judge {
         };
         self.rows += grown.calls.len();
         self.most_rows = self.most_rows.max(grown.calls.len());
+        self.keyed += grown.keyed;
         for (call, answer) in grown.calls.iter().zip(&grown.answers) {
             match (call, &answer[..]) {
-                (Call::Arrival { .. }, [_, became, ..]) => {
+                (Some(Call::Arrival { .. }), [_, became, ..]) => {
                     self.arrivals += 1;
                     self.accepted += usize::from(*became > 0);
                     self.evicting += usize::from(*became > 1);
                 }
-                (Call::Report { .. }, [_, rows, ..]) => self.report_rows += *rows as usize,
+                (Some(Call::Report { .. }), [_, rows, ..]) => self.report_rows += *rows as usize,
                 _ => {}
             }
         }
@@ -105,6 +109,7 @@ impl Judge {
             "rows: {}, the longest archive {}; {} arrivals, {} accepted, {} of them evicting; {} report rows",
             self.rows, self.most_rows, self.arrivals, self.accepted, self.evicting, self.report_rows
         );
+        println!("keyed: {} arrivals", self.keyed);
         println!(
             "printed: {} bytes for {}; {} kept arrivals, {} nodes",
             tally.output_bytes, self.bytes, self.kept, self.nodes
@@ -119,6 +124,8 @@ impl Judge {
 /// The lists have so many arrivals at least, and drawn archives so many each, and report rows, on the average.
 const ARRIVALS: usize = 100_000;
 const ARRIVALS_EACH: usize = 40;
+const KEYED: usize = 6_000;
+const KEYED_EACH: usize = 5;
 const REPORT_ROWS_EACH: usize = 30;
 
 /// Pieces of odd sizes, single bytes where the archive is short, and no more than a few hundred in all.

@@ -1,8 +1,11 @@
-//! The port behind its one C function, safe to call. Both buffers are lent out of the middle of
+//! The port behind its two C functions, safe to call. The buffers are lent out of the middle of
 //! larger ones, and after the call all that must not have changed is looked at.
 #![deny(unsafe_code)]
 
 mod guarded;
+mod words;
+
+pub use words::{words_of_port, Filled, Source, WordsLent};
 
 use guarded::Guarded;
 
@@ -18,8 +21,8 @@ pub struct Called {
 
 /// A run and answer bytes, lent to the port.
 pub struct Lending {
-    run: Guarded,
-    answers: Guarded,
+    run: Guarded<u8>,
+    answers: Guarded<u8>,
     returned: usize,
 }
 

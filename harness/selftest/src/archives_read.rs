@@ -48,12 +48,27 @@ id dimension cut left right mass
 3 - - - - 1
 ";
 
+/// The first block of RFC 8439's appendix A.1, vector 1, as words: the key is zero.
+const KEY: &str = "0000000000000000000000000000000000000000000000000000000000000000";
+const WORDS: [&str; 8] = [
+    "903DF1A0ADE0B876",
+    "28BD8653E56A5D40",
+    "1AED8DA0B819D2BD",
+    "C70D778BCCEF36A8",
+    "8D4857517C5941DA",
+    "374AD8B83FE02477",
+    "1CA11815F4B8436A",
+    "8665EEB269B687C3",
+];
+
 const BEFORE: &str = "dimensions capacity cache16 initial16\n1 2 16 16\nop index rest\n";
 const NAMES: &str = "weight index\nid dimension cut left right mass\n";
 
 /// Reads `count` generated archives; the answer is how many of them are in form.
 pub fn run(count: usize) -> usize {
     examples();
+    keyed_rows();
+    past_the_end();
     let mut met = BTreeSet::new();
     let mut in_form = 0;
     for n in 0..count {
@@ -68,7 +83,7 @@ pub fn run(count: usize) -> usize {
         met.extend(outcome.refusals());
         tells(&outcome, n);
     }
-    let all = [1, 2, 3, 4, 5, 6, 7, 8, 9, 11, 12, 14, 17];
+    let all = [1, 2, 3, 4, 5, 6, 7, 8, 9, 11, 12, 14, 17, 22];
     assert_eq!(met, BTreeSet::from(all), "the refusals that archives meet");
     in_form
 }
@@ -107,4 +122,37 @@ fn examples() {
     let unmade = BEFORE.replace("1 2 16 16", "1 2 16 17") + "no row";
     assert_eq!(printed(unmade.as_bytes()), b"refused 4 0\n");
     assert_eq!(printed(b""), b"refused 17 0\n");
+}
+
+/// A keyed row says what the row with its words says, of which a tree of capacity 2 wants two. Other words make another cut.
+fn keyed_rows() {
+    let before = format!(
+        "{BEFORE}0 0 0\n0 1 1048576\n3 0 BF800000 {}\n",
+        WORDS[..3].join(" ")
+    );
+    let mut met = BTreeSet::new();
+    for first in 0..WORDS.len() - 2 {
+        let by_key = format!("{before}3 1 C0400000 {KEY} {first:016X}\n");
+        let words = WORDS[first..first + 3].join(" ");
+        let written_out = format!("{before}3 1 C0400000 {words}\n");
+        let expected = printed(written_out.as_bytes());
+        assert_eq!(printed(by_key.as_bytes()), expected, "{by_key}");
+        assert!(met.insert(expected), "{by_key}");
+    }
+}
+
+/// 22 comes before all other refusals of an arrival.
+fn past_the_end() {
+    let rows = [
+        ("3 1024 7FC00000", "00000007FFFFFF00", 22),
+        ("3 0 BF800000", "0000000800000000", 22),
+        ("3 0 BF800000", "FFFFFFFFFFFFFFFF", 22),
+        ("3 1024 7FC00000", "00000007FFFFFEFF", 5),
+        ("3 0 7FC00000", "00000007FFFFFEFF", 9),
+    ];
+    for (row, first, refusal) in rows {
+        let archive = format!("{BEFORE}{row} {KEY} {first}\n");
+        let expected = format!("refused {refusal} 1\n{NAMES}");
+        assert_eq!(printed(archive.as_bytes()), expected.as_bytes());
+    }
 }

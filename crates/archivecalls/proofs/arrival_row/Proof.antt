@@ -2,13 +2,10 @@
 use Rattle.treestore.specs.Arrays.{lent}
 use Rattle.archiverow.specs.Rows.{arrivalWordsIn}
 use Rattle.archivecalls.proofs.Carried.{arrival-read}
-use mathlib.Core.Path.{refl, _∙_}
-use lib.ListN.{drop, length-map}
+use mathlib.Core.Path.{refl}
 use Rattle.limits.specs.Limits.{capacityLimit}
 use Rattle.text.specs.Pieces.{piecesFrom}
-use Rattle.text.specs.Numbers.{wordOf}
-use Rattle.text.specs.Fields.{numberOrZero}
-use Rattle.rowcalls.proofs.Fields.{first-fields}
+use Rattle.rowcalls.proofs.Fields.{first-values}
 use borrow.Author.Needs.{needs}
 use Rattle.archivecalls.proofs.arrival_row.Statement.{statement}
 use Rattle.archivecalls.proofs.arrival_row.Tie as tie
@@ -35,7 +32,7 @@ returns : tie.Need-returns
 returns c =
     let s = c .before .before .before .before .before .before .before .before .before .before .before .before .before .before .before .before .before in
     let ps = piecesFrom 32 (s .args .line .now) (s .args .start) in
-    let first = first-fields (λ p. numberOrZero (wordOf p)) (drop 2 ps) _ _ capacityLimit _ _ refl (c .before .before .before .before .before .before .before .before .before .before .before .before .before .before .read-arrival-words .ensures .0 ∙ length-map (drop 2 ps) _) (c .before .before .before .before .before .before .before .before .before .before .before .before .at-most .ensures) (c .before .before .before .before .before .before .before .before .before .before .before .before .before .before .read-arrival-words .ensures .1) in
+    let first = first-values (arrivalWordsIn ps) _ _ capacityLimit _ _ refl (c .before .before .before .before .before .before .before .before .before .before .before .before .before .before .read-arrival-words .ensures .0) (c .before .before .before .before .before .before .before .before .before .before .before .before .at-most .ensures) (c .before .before .before .before .before .before .before .before .before .before .before .before .before .before .read-arrival-words .ensures .1) in
     arrival-read (s .args .tree) (lent (s .args .nodes .now) (s .args .cuts .now) (s .args .copies .now) (s .args .free .now) (s .args .boxes .now)) (s .args .points .now) (s .args .written .now) (s .args .weights .now) (s .args .held .now) (s .args .index) _ _ _ _ (arrivalWordsIn ps) _ _ _ _ _ (c .before .before .before .before .before .before .before .before .before .before .before .read-weight .ensures) (c .before .before .before .before .before .before .before .before .before .before .read-chance .ensures) (c .arrive .ensures (arrivalWordsIn ps) first)
 
 pub arrival-row-spec : {M : Type 1} → statement M

@@ -2,7 +2,7 @@
 use mathlib.Core.Path.{refl}
 use Rattle.treestore.specs.Arrays.{lent}
 use Rattle.archiverow.specs.Rows.{rowOf}
-use Rattle.archivecalls.proofs.Carried.{row-read, put-carried, arrival-carried, report-carried, out-carried, readable}
+use Rattle.archivecalls.proofs.Carried.{row-read, put-carried, arrival-carried, report-carried, beyond-carried, out-carried, readable}
 use borrow.Author.Needs.{needs}
 use Rattle.archivecalls.proofs.call_row.Statement.{statement}
 use Rattle.archivecalls.proofs.call_row.Tie as tie
@@ -30,8 +30,14 @@ report-row-requires c κs =
 enum-told : tie.Need-enum-told
 enum-told c = search needs
 
-tell-out-of-form-requires : tie.Need-tell-out-of-form-requires
-tell-out-of-form-requires c κs = search needs
+tell-refused-requires : tie.Need-tell-refused-requires
+tell-refused-requires c κs = search needs
+
+enum-told-2 : tie.Need-enum-told-2
+enum-told-2 c = search needs
+
+tell-refused-requires-2 : tie.Need-tell-refused-requires-2
+tell-refused-requires-2 c κs = search needs
 
 returns : tie.Need-returns
 returns c =
@@ -51,7 +57,12 @@ returns-3 c =
 returns-4 : tie.Need-returns-4
 returns-4 c =
     let s = c .before .before .before .before .before in
-    out-carried (rowOf (s .args .line .now)) (s .args .tree) (lent (s .args .nodes .now) (s .args .cuts .now) (s .args .copies .now) (s .args .free .now) (s .args .boxes .now)) (s .args .points .now) (s .args .written .now) (s .args .weights .now) (s .args .held .now) (s .args .rows .now) _ (row-read (s .args .line .now) _ (s .pre .0) _ (c .before .before .enum-told .given .1)) (c .tell-out-of-form .ensures)
+    beyond-carried (rowOf (s .args .line .now)) (s .args .tree) (lent (s .args .nodes .now) (s .args .cuts .now) (s .args .copies .now) (s .args .free .now) (s .args .boxes .now)) (s .args .points .now) (s .args .written .now) (s .args .weights .now) (s .args .held .now) (s .args .rows .now) _ (row-read (s .args .line .now) _ (s .pre .0) _ (c .before .before .enum-told .given .1)) (c .tell-refused .ensures)
+
+returns-5 : tie.Need-returns-5
+returns-5 c =
+    let s = c .before .before .before .before .before in
+    out-carried (rowOf (s .args .line .now)) (s .args .tree) (lent (s .args .nodes .now) (s .args .cuts .now) (s .args .copies .now) (s .args .free .now) (s .args .boxes .now)) (s .args .points .now) (s .args .written .now) (s .args .weights .now) (s .args .held .now) (s .args .rows .now) _ (row-read (s .args .line .now) _ (s .pre .0) _ (c .before .before .enum-told2 .given .1)) (c .tell-refused2 .ensures)
 
 pub call-row-spec : {M : Type 1} → statement M
 call-row-spec =
@@ -64,8 +75,11 @@ call-row-spec =
     enum-known-read-3
     report-row-requires
     enum-told
-    tell-out-of-form-requires
+    tell-refused-requires
+    enum-told-2
+    tell-refused-requires-2
     returns
     returns-2
     returns-3
-    returns-4)
+    returns-4
+    returns-5)

@@ -1,9 +1,10 @@
 //! Writes an archive of arrivals to be timed.
 //!
-//!   make_archive CAPACITY ARRIVALS [SEED]
+//!   make_archive [--keyed] CAPACITY ARRIVALS [SEED]
 //!
 //! Two channels, a whole cache, a tree that is filled by the first arrivals and goes on changing. Puts come first, then
-//! the arrivals, each with as many words as the capacity.
+//! the arrivals, each with as many words as the capacity; or, if keyed, with a key, which is one for all of them, and the
+//! number of its first word.
 #![forbid(unsafe_code)]
 
 use archives::generate::{big, pool, Big};
@@ -14,15 +15,14 @@ use std::process::ExitCode;
 use texts::OpRow;
 
 fn main() -> ExitCode {
-    let numbers: Vec<u64> = std::env::args()
-        .skip(1)
-        .map_while(|number| number.parse().ok())
-        .collect();
+    let mut arguments = std::env::args().skip(1).peekable();
+    let keyed = arguments.next_if_eq("--keyed").is_some();
+    let numbers: Vec<u64> = arguments.map_while(|number| number.parse().ok()).collect();
     let (capacity, arrivals, seed) = match numbers[..] {
         [capacity, arrivals] => (capacity as u32, arrivals as usize, 1),
         [capacity, arrivals, seed] => (capacity as u32, arrivals as usize, seed),
         _ => {
-            eprintln!("usage: make_archive CAPACITY ARRIVALS [SEED]");
+            eprintln!("usage: make_archive [--keyed] CAPACITY ARRIVALS [SEED]");
             return ExitCode::FAILURE;
         }
     };
@@ -33,6 +33,7 @@ fn main() -> ExitCode {
         cache16: 16,
         others: 0,
         falls: 0.02,
+        keyed: usize::from(keyed),
     };
     match write(big(&wanted, &mut Words::new(seed))) {
         Ok(()) => ExitCode::SUCCESS,

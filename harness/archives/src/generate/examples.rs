@@ -1,17 +1,28 @@
-//! The archive that stands in the repository, and document 01's sample.
+//! The archives that stand in the repository, and document 01's sample.
 use super::Given;
 use crate::archive::{Archive, Making, Row};
 
-const LANTERNS: &[u8] = include_bytes!(concat!(
+const WRITTEN: &[u8] = include_bytes!(concat!(
     env!("CARGO_MANIFEST_DIR"),
     "/../../examples/archive.txt"
 ));
 
+const KEYED: &[u8] = include_bytes!(concat!(
+    env!("CARGO_MANIFEST_DIR"),
+    "/../../examples/keyed.txt"
+));
+
 const HALF: u64 = 1 << 63;
 
-/// examples/archive.txt.
-pub fn lanterns() -> Given {
-    Given::untold("examples/archive.txt", LANTERNS.to_vec())
+/// How many archives of lanterns there are.
+pub const LANTERNS: usize = 2;
+
+/// Those of the folder `examples`.
+pub fn lanterns() -> Vec<Given> {
+    vec![
+        Given::untold("examples/archive.txt", WRITTEN.to_vec()),
+        Given::untold("examples/keyed.txt", KEYED.to_vec()),
+    ]
 }
 
 /// How many there are of document 01's sample.

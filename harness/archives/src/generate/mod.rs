@@ -1,9 +1,18 @@
 //! Archives from a seeded generator.
+
+/// A key of 64 digits, for rows that are written out.
+macro_rules! key {
+    () => {
+        "000102030405060708090A0B0C0D0E0F101112131415161718191A1B1C1D1E1F"
+    };
+}
+
 mod big;
 mod broken;
 mod cut;
 mod examples;
 mod garbage;
+mod keyed;
 mod lengths;
 mod makings;
 mod odd;
@@ -13,7 +22,7 @@ mod whole;
 
 pub use big::{archive as big, pool, Big, BIGS};
 pub use broken::BREAKS;
-pub use examples::{lanterns, starred, STARRED};
+pub use examples::{starred, LANTERNS, STARRED};
 pub use lengths::LENGTHS;
 pub use makings::MAKINGS;
 pub use sizes::SIZES;
@@ -28,21 +37,21 @@ pub type Given = texts::Given<Archive>;
 
 /// The number of the first archive that is not one of a list.
 pub const FIRST_DRAWN: usize =
-    1 + STARRED + BREAKS.count() + MAKINGS.len() + LENGTHS.len() + SIZES + SMALLS + BIGS.len();
+    LANTERNS + STARRED + BREAKS.count() + MAKINGS.len() + LENGTHS.len() + SIZES + SMALLS + BIGS.len();
 
 /// The n-th archive of a seed: the lanterns' and document 01's, each break of a rule, each making at a limit, each
 /// length of a line, each size of an archive, the smallest, the largest, then drawn ones.
 pub fn nth(seed: u64, n: usize) -> Given {
     let words = &mut Words::nth(seed, n);
-    let breaks_from = 1 + STARRED;
+    let breaks_from = LANTERNS + STARRED;
     let makings_from = breaks_from + BREAKS.count();
     let lengths_from = makings_from + MAKINGS.len();
     let sizes_from = lengths_from + LENGTHS.len();
     let smalls_from = sizes_from + SIZES;
     let bigs_from = smalls_from + SMALLS;
     match n {
-        0 => lanterns(),
-        n if n < breaks_from => starred().swap_remove(n - 1),
+        n if n < LANTERNS => examples::lanterns().swap_remove(n),
+        n if n < breaks_from => starred().swap_remove(n - LANTERNS),
         n if n < makings_from => broken(n - breaks_from, words),
         n if n < lengths_from => made(n - makings_from, words),
         n if n < sizes_from => lengths::given(&LENGTHS[n - lengths_from], words),

@@ -1,5 +1,6 @@
-//! Rows that only an archive has: coordinates of up to nine digits, and counts of coordinates and words far
-//! from what the tree asks for.
+//! Rows that only an archive has: coordinates of up to nine digits, counts of coordinates and words far
+//! from what the tree asks for, and keyed rows at the edges of what a key has.
+use super::keyed::at_edge;
 use crate::archive::{Archive, Row};
 use oracle::Words;
 use texts::generate::{odd_coordinate, odd_index, put_rows_in, EDGE};
@@ -11,7 +12,9 @@ pub fn put_in(archive: &mut Archive, words: &mut Words) {
 
 fn row(archive: &Archive, words: &mut Words) -> Row {
     let index = odd_index(archive, words);
-    match words.below(4) {
+    let size = words.between(-8, 8) as f32;
+    let weight = words.one_of(&[size.to_bits(), 0, 1 << 31, 0x7F80_0000, 0x7FC0_0000]);
+    match words.below(6) {
         0 => {
             let coordinates = coordinates(archive, words);
             Row::Put { index, coordinates }
@@ -20,12 +23,12 @@ fn row(archive: &Archive, words: &mut Words) -> Row {
             let coordinates = coordinates(archive, words);
             Row::Report { coordinates }
         }
+        2 | 3 => at_edge(index, weight, words),
         _ => {
             let count = words.one_of(&[0, 1, 2, 16, 256, 257, 300, 479]);
-            let size = words.between(-8, 8) as f32;
             Row::Arrival {
                 index,
-                weight: words.one_of(&[size.to_bits(), 0, 1 << 31, 0x7F80_0000, 0x7FC0_0000]),
+                weight,
                 start: words.one_of(&[0, u64::MAX]),
                 words: (0..count).map(|_| words.word()).collect(),
             }

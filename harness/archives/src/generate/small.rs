@@ -27,7 +27,7 @@ const LINES: [&str; 16] = [
 ];
 
 /// Op rows in form, and the first bad one behind them if there is one.
-const ROWS: [(&str, Option<usize>); 22] = [
+const ROWS: [(&str, Option<usize>); 35] = [
     ("", None),
     ("4 -\n4 - 0\n4 - 0 0\n4 - 1048577\n", None),
     (
@@ -54,6 +54,53 @@ const ROWS: [(&str, Option<usize>); 22] = [
     (
         "0 0 0\n3 0 00000000 0000000000000000 0000000000000000 0000000000000000\n0 0 0\n4 - 0\n",
         None,
+    ),
+    // keyed rows: from the first word, up to the last, and one word too far, before all other refusals
+    (
+        concat!("0 0 0\n3 0 BF800000 ", key!(), " 0000000000000000\n"),
+        None,
+    ),
+    (
+        concat!("0 0 0\n3 0 BF800000 ", key!(), " 00000007FFFFFEFF\n"),
+        None,
+    ),
+    (
+        concat!("0 0 0\n3 0 BF800000 ", key!(), " 00000007FFFFFF00\n0 0 1\n"),
+        None,
+    ),
+    (
+        concat!("3 0 BF800000 ", key!(), " 0000000800000000\n4 - 0\n"),
+        None,
+    ),
+    (
+        concat!("3 1024 7FC00000 ", key!(), " FFFFFFFFFFFFFFFF\n4 - 0\n"),
+        None,
+    ),
+    (
+        concat!("3 1024 7FC00000 ", key!(), " 0000000000000000\n4 - 0\n"),
+        None,
+    ),
+    (
+        concat!("3 0 BF800000 ", key!(), " 0000000000000000\n4 - 0\n"),
+        None,
+    ),
+    (
+        concat!("0 0 0\n3 0 80000000 ", key!(), " 0000000000000000\n4 - 0\n"),
+        None,
+    ),
+    (concat!("3 0 BF800000 ", key!(), "\n"), Some(1)),
+    (concat!("3 0 BF800000 ", key!(), " 0\n"), Some(1)),
+    (
+        concat!("3 0 BF800000 ", key!(), "0 0000000000000000\n"),
+        Some(1),
+    ),
+    (
+        concat!("3 0 BF800000 ", key!(), " 0000000800000000 0\n"),
+        Some(1),
+    ),
+    (
+        concat!("3 0 BF800000 ", key!(), " 0000000000000000"),
+        Some(1),
     ),
     ("0 0 0\n1 0\n", Some(2)),
     ("0 0 0\n2 0\n", Some(2)),

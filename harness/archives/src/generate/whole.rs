@@ -1,6 +1,7 @@
 //! Archives in form, from the byte runs' generator: the puts, arrivals and reports of a sampled run as
 //! rows. Its shares are sixteenths. What an archive can't hold becomes something near it that it can, and is
-//! refused with the same number.
+//! refused with the same number. In some archives arrivals have their words by a key, all or some.
+use super::keyed::Keying;
 use super::odd;
 use crate::archive::{Archive, Making, Row};
 use oracle::Words;
@@ -44,6 +45,9 @@ pub fn within(words: &mut Words, room: usize) -> Archive {
     };
     let run = sampled_by(making.of_tree(), words, room).run;
     let mut archive = of_run(&run, words);
+    if words.once_in(3) {
+        Keying::drawn(words).put_in(&mut archive, words);
+    }
     if words.once_in(3) {
         odd::put_in(&mut archive, words);
     }

@@ -1,4 +1,5 @@
 //! The rules of an archive's form, to be broken.
+mod keyed;
 mod rows;
 
 use texts::generate::broken::rows as of_texts;
@@ -16,6 +17,16 @@ pub const BREAKS: Breaks = Breaks {
         row("weight of other than eight digits", &[rows::WEIGHT_DIGITS]),
         row("word of other than sixteen digits", &[rows::WORD_DIGITS]),
         row("no weight or no chance", &[rows::NO_WEIGHT]),
+        row("key of other than sixty-four digits", &[keyed::KEY_DIGITS]),
+        row("lower-case digit of a keyed row", &[keyed::KEY_LOWER_CASE]),
+        row("no digit in a keyed row", &[keyed::KEY_NO_DIGIT]),
+        row("key without a first word", &[keyed::NO_FIRST]),
+        row(
+            "first word of other than sixteen digits",
+            &[keyed::FIRST_DIGITS],
+        ),
+        row("field after a first word", &[keyed::AFTER_FIRST]),
+        row("key out of place", &[keyed::KEY_ELSEWHERE]),
         row("unknown op", &[rows::UNKNOWN_OP]),
         row("add or delete", &[rows::BARE]),
         row("report with an index", &[rows::REPORT_WITH_INDEX]),

@@ -1,8 +1,8 @@
--- `archiverow::after_field` meets its contract. Assumes nothing.
-use Rattle.archiverow.proofs.Rest.{after-none, after-one}
+-- `text::after_field` meets its contract. Assumes nothing.
+use Rattle.text.proofs.Pieces.{after-none, after-one}
 use borrow.Author.Needs.{needs}
-use Rattle.archiverow.proofs.after_field.Statement.{statement}
-use Rattle.archiverow.proofs.after_field.Tie as tie
+use Rattle.text.proofs.after_field.Statement.{statement}
+use Rattle.text.proofs.after_field.Tie as tie
 
 returns : tie.Need-returns
 returns c = after-none _ _ (c .if1 .taken)

@@ -1,0 +1,4 @@
+pub mod Slots
+pub mod Stream
+pub mod Turns
+pub mod Answers
