@@ -7,7 +7,7 @@ use lib.ListN.{getD, set}
 use Rattle.little.specs.Little.{little32, bytesOf}
 use Rattle.chacha20.specs.declared.Quarter.{Quarter}
 
--- RFC 8439, 2.1: 'a + b' of 32-bit numbers is 'addition modulo 2^32', and '<<< n' an 'n-bit left roll (towards the high bits)'. `bitXor` is its '^'.
+-- RFC 8439, 2.1: + is 'integer addition modulo 2^32', <<< n 'an n-bit left roll (towards the high bits)', both of numbers of 32 bits. Its ^ is `bitXor`.
 abbrev pub plus : ℕ → ℕ → ℕ
 plus a b = (a + b) % 2 ^ 32
 
@@ -32,13 +32,13 @@ rfc-2-1-1 : quarterRound 0x1111_1111 0x0102_0304 0x9b8d_6f43 0x0123_4567 ≡ rec
 unfolding quarterRound
 rfc-2-1-1 = refl
 
--- RFC 8439, 2.2: QUARTERROUND(x, y, z, w) of a state of sixteen numbers, 'by indices'
+-- RFC 8439, 2.2: QUARTERROUND(x, y, z, w), the quarter round of the numbers at four places of a state of sixteen
 unfoldable pub quarterAt : (x y z w : ℕ) → List ℕ → List ℕ
 quarterAt x y z w s =
     let q = quarterRound (getD s x 0) (getD s y 0) (getD s z 0) (getD s w 0) in
     set (set (set (set s x (q .a)) y (q .b)) z (q .c)) w (q .d)
 
--- RFC 8439, 2.3.1: inner_block, of 2.3's eight quarter rounds: four 'column' rounds, then four 'diagonal' rounds
+-- RFC 8439, 2.3: 'column rounds' and 'diagonal rounds', of four quarter rounds each; in 2.3.1 inner_block is one of each
 unfoldable pub columns : List ℕ → List ℕ
 columns s = quarterAt 3 7 11 15 (quarterAt 2 6 10 14 (quarterAt 1 5 9 13 (quarterAt 0 4 8 12 s)))
 
@@ -71,6 +71,7 @@ stateOf key counter nonce =
     ∷ little32 key 16 ∷ little32 key 20 ∷ little32 key 24 ∷ little32 key 28
     ∷ counter ∷ little32 nonce 0 ∷ little32 nonce 4 ∷ little32 nonce 8 ∷ []
 
--- THE BLOCK, 'serialized by sequencing the words one-by-one in little-endian order': 64 bytes of a key of 32 bytes, a counter and a nonce of 12 bytes
+-- THE BLOCK, 64 bytes, of a key of 32 bytes, a counter and a nonce of 12 bytes. RFC 8439, 2.3: 'serialize the result by sequencing the words one-by-one in little-endian
+-- order'
 unfoldable pub chacha20Block : (key : List ℕ) (counter : ℕ) (nonce : List ℕ) → List ℕ
 chacha20Block key counter nonce = bytesOf (blockOf (stateOf key counter nonce))
