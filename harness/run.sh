@@ -5,7 +5,7 @@
 #   harness/run.sh [--rust | --port] [--digests]
 # --rust does what needs no port, --port the rest; without either both are done.
 # KRCF_SRC names the folder that holds crates/rcflib/src, seen from the project's root; the default
-# is ../shared/docs/src. COMPARE says for how long the port is compared, 45s if unset, LEAVES on how many
+# is ../shared/docs/src. COMPARE says for how long the port is compared, 30s if unset, LEAVES on how many
 # values each leaf is, 1000000 if unset, WORDS on how many words of keys it is, 1000000 if unset, TEXTS on how many
 # texts treelist is, 2000 if unset, ARCHIVES on how many archives regrow is, 1000 if unset. Where the Rust is not at
 # hand, one line says so and all is well. Where it is but cargo or rt is not, one line says which and the run fails, so that nothing that could be
@@ -95,7 +95,7 @@ joined
 
 built run --package compare -- --fault
 # The comparison of byte runs has one core for its time; words and archives are compared on the other meanwhile.
-built run --package compare -- "${COMPARE:-45s}" >"$compared" 2>&1 &
+built run --package compare -- "${COMPARE:-30s}" >"$compared" 2>&1 &
 beside=$!
 built run --package compare_words -- --fault
 built run --package compare_words -- "${WORDS:-1000000}"

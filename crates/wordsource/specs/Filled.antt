@@ -1,18 +1,27 @@
 -- What the source of words answers, and what it leaves of a lent list, for every key, start and list. Definitions and statements.
-use mathlib.Core.Path.{_≡_}
-use mathlib.Core.Bool.{Bool, _&&_, cond}
+use mathlib.Core.Path.{_≡_, refl}
+use mathlib.Core.Bool.{Bool, true, false, _&&_, cond}
 use mathlib.Core.List.{List}
-use Prim.Native.Nat.{ℕ, _+_, _<_}
+use Prim.Native.Nat.{ℕ, _+_, _-_, _<_}
 use lib.Dec.{eqb, ltb, leb}
 use lib.ListN.{length, getD}
 use Rattle.wordsource.specs.declared.Filled.{Filled}
 use Rattle.wordsource.specs.declared.Filled.the-variants.{Wrote, NoWords}
 use Rattle.wordsource.specs.Stream.{keyBytes, streamWord, wordLimit, streamWords}
 
--- '22: a start at 2^35 or above, or a stretch running past word 2^35 − 1'; else the stream has so many words from the start on. Of none there is one start less
--- than there are ends: at 2^35 none is had, not even none.
+-- Whether the stream has so many words from the start on; '22' is 'a start at 2^35 or above, or a stretch running past word 2^35 − 1'. A stretch of no words has to
+-- start below 2^35 too.
 abbrev pub isStretch : (start count : ℕ) → Bool
 isStretch start count = ltb start wordLimit && leb (start + count) wordLimit
+
+at-the-end : isStretch wordLimit 0 ≡ false
+at-the-end = refl
+
+none-before-it : isStretch (wordLimit - 1) 0 ≡ true
+none-before-it = refl
+
+last-word : (isStretch (wordLimit - 1) 1 ≡ true) × (isStretch (wordLimit - 1) 2 ≡ false)
+last-word = (refl, refl)
 
 -- THE ANSWER, how many words are written, and the list after it: 'A key of another length is 21; next' 22; then every slot has its word, slot i the word
 -- start + i (`EachSlot`). A refused list stays as it was.

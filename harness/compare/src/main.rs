@@ -1,7 +1,7 @@
 //! Holds the port against the Rust, byte run by byte run.
 //!
 //!   compare 500 [SEED]        compares 500 runs
-//!   compare 45s [SEED]        compares runs for 45 seconds, at least so many for each of them as stand below
+//!   compare 30s [SEED]        compares runs for 30 seconds, at least so many for each of them as stand below
 //!   compare --only N [SEED]   compares the run N of a seed
 //!   compare --fault           changes answers, buffers and words on purpose; all is well if that
 //!                             is noticed
@@ -27,8 +27,8 @@ use std::process::ExitCode;
 use std::time::{Duration, Instant};
 use tally::Least;
 
-/// A comparison for a time has to get through so much for each of its seconds: in 45 seconds 1,215,000 calls
-/// of sampled runs and 121,500 report rows.
+/// A comparison for a time has to get through so much for each of its seconds: in 30 seconds 810,000 calls
+/// of sampled runs and 81,000 report rows.
 const LEAST_A_SECOND: Least = Least {
     runs: 10,
     sampled_calls: 27_000,
