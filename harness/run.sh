@@ -92,6 +92,7 @@ joined() {
 beside=$!
 rt staticlib run
 joined
+harness/frames.sh target/staticlib/lib*.a ${listed:+target/bin/treelist} ${regrown:+target/bin/regrow}
 
 built run --package compare -- --fault
 # The comparison of byte runs has one core for its time; words and archives are compared on the other meanwhile.

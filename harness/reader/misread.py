@@ -23,6 +23,8 @@ QUERY = "query = self.check(coordinates)"
 EMPTY = "refuse(12, self.root is None)"
 WEIGHT = "refuse(14, not math.isfinite(weight) or is_minus_zero(weight))"
 WALK = "        walk = self.walk(reading)\n        if walk[0].low"
+SUM = "self.mass = self.left.mass + self.right.mass"
+LESS = "return 1 if self.copies == 1 else self.copies - 1"
 INSERT = "        self.insert(index, reading, *self.winner(walk, reading, words))\n        return index, len(walk)"
 
 # the rule, what is misread, then each text of rules.py and the text in its place
@@ -64,10 +66,16 @@ MISREADINGS = [
     ("7.3", "the upper end in place of the lower", "if a < place < b else a", "if a < place < b else b"),
     ("7.4", "a cut at the reading does not part", "x <= cut < node.low", "x < cut < node.low"),
     ("7.4", "a cut at the box does not part", "node.high[channel] <= cut", "node.high[channel] < cut"),
-    ("8", "a leaf's mass is its copies", "return 1 if self.copies == 1 else self.copies - 1", "return self.copies"),
-    ("8", "a branch's mass is its copies", "return self.copies - self.marked", "return self.copies"),
-    ("8", "a branch's mass is the sum of its sides'", "return self.copies - self.marked", "return self.left.mass + self.right.mass"),
-    ("8", "a mark is not handed on", "left, right, node.marked)", "left, right, isinstance(node, Leaf) and node.marked)"),
+    ("8", "a leaf of k > 1 copies has the mass k - 1", "return self.copies", LESS, SUM, "self.mass = self.copies"),
+    ("8", "a leaf of two copies counts once", "return self.copies", "return 1 if self.copies == 2 else self.copies"),
+    ("8", "every leaf counts once", "return self.copies", "return 1"),
+    ("8", "a branch's mass is the number of leaves below it", SUM,
+     "self.leaves = getattr(self.left, 'leaves', 1) + getattr(self.right, 'leaves', 1)\n        self.mass = self.leaves"),
+    ("8", "a new branch does not count its new leaf", SUM, "self.mass = self.copies - (not hasattr(self, 'mass'))"),
+    ("8", "a branch made above a leaf of k > 1 copies has the mass k", SUM,
+     "self.less = getattr(self, 'less', any(getattr(side, 'less', side.copies > 1) for side in (self.left, self.right)))\n"
+     "        self.mass = self.copies - self.less"),
+    ("8", "a copy more is not counted above its leaf", "            self.renew_above(walk[0])\n", ""),
     ("9", "a freed number does not join at the start", "if self.stack and self.stack[-1][0] == number + 1:", "if False:"),
     ("9", "a freed number does not join at the end", "elif self.stack and self.stack[-1][1] == number - 1:", "elif False:"),
     ("9", "the interval freed first is on top", "self.stack.append([number, number])", "self.stack.insert(0, [number, number])"),

@@ -7,8 +7,8 @@ import sys
 
 from run import carry_out
 
-RUNS = 794
-CALLS = 86649
+RUNS = 802
+CALLS = 87723
 LENT = 16384
 SHOWN = 20
 

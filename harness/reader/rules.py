@@ -45,36 +45,30 @@ class Leaf:
         self.parent = None
 
     @property
-    def marked(self):
-        return self.copies > 1
-
-    @property
     def mass(self):
-        return 1 if self.copies == 1 else self.copies - 1
+        """[8]"""
+        return self.copies
 
 
 class Branch:
-    """Copies and box are those of the leaves below, kept up to date along each walk."""
+    """Copies, mass and box are those of the leaves below, kept up to date along each walk."""
 
-    def __init__(self, number, channel, cut, left, right, marked):
+    def __init__(self, number, channel, cut, left, right):
         self.number, self.channel, self.cut = number, channel, cut
-        self.left, self.right, self.marked = left, right, marked
+        self.left, self.right = left, right
         self.parent = None
         left.parent = right.parent = self
         self.renew()
 
     def renew(self):
         self.copies = self.left.copies + self.right.copies
+        self.mass = self.left.mass + self.right.mass
         self.low = tuple(map(min, self.left.low, self.right.low))
         self.high = tuple(map(max, self.left.high, self.right.high))
 
     def side(self, reading):
         """[5]"""
         return self.left if reading[self.channel] <= self.cut else self.right
-
-    @property
-    def mass(self):
-        return self.copies - self.marked
 
 
 def holds(node, reading):
@@ -209,7 +203,7 @@ class Tree:
         leaf = self.leaves[index] = Leaf(index, reading)
         above = node.parent
         left, right = (leaf, node) if reading[channel] <= cut else (node, leaf)
-        branch = Branch(self.numbers.get(), channel, cut, left, right, node.marked)
+        branch = Branch(self.numbers.get(), channel, cut, left, right)
         self.branches[branch.number] = branch
         self.replace(above, node, branch)
         self.renew_above(branch)

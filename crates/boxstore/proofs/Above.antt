@@ -26,7 +26,7 @@ use Rattle.boxstore.proofs.Siblings.{sibling-is, some-sibling, grow-up}
 -- a node with others below it is a branch, whose number is in range
 branch-low : (d c : ℕ) (p : Reading) (u : Tree (whole d)) → 0 < height (whole d) u p → InRange d c u → id (whole d) c u + 1 < c
 branch-low d c p (leaf i q n) h R = absurd (omega arith)
-branch-low d c p (branch b x g l r) h R = R .0
+branch-low d c p (branch b x l r) h R = R .0
 
 -- a cached branch on the walk has its own box kept
 module _ {d c k : ℕ} {nodes : List (List ℕ)} {points : List (List Float)} {boxes : List (List (List Float))} {t : Tree (whole d)} (p : Reading) (w : Boxed d c k nodes points boxes t) (m : ℕ) (h : m ≤ height (whole d) t p) (node : ℕ) (e : node ≡ id (whole d) c (sub (whole d) t m p)) where

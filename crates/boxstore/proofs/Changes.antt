@@ -37,18 +37,18 @@ use Rattle.boxstore.proofs.Partly.{at, Partly, partly-next, partly-rest
 module _ (d c : ℕ) (p : Reading) where
   pub replace-same : (h : ℕ) (t : Tree (whole d)) → h ≤ height (whole d) t p → replace (whole d) t h p (sub (whole d) t h p) ≡ t
   replace-same h = along (whole d) (λ t. h ≤ height (whole d) t p → replace (whole d) t h p (sub (whole d) t h p) ≡ t) p (λ i q n e. refl)
-      (λ b k g l r ih e. by-height (whole d) b k g l r p h e
-      (λ z. rw (z, replace-top (whole d) (branch b k g l r) p _, sub-top (whole d) (branch b k g l r) p))
-      (λ n. replace-down (whole d) b k g l r p h _ n ∙ ap (λ x. rejoin (whole d) b k g l r p (replace (whole d) (toward (whole d) k p l r) h p x)) (sub-down (whole d) b k g l r p h n)
-      ∙ ap (λ x. rejoin (whole d) b k g l r p x) (ih n) ∙ by-test (below (whole d) k p) (λ w. rw w) (λ w. rw w)))
+      (λ b k l r ih e. by-height (whole d) b k l r p h e
+      (λ z. rw (z, replace-top (whole d) (branch b k l r) p _, sub-top (whole d) (branch b k l r) p))
+      (λ n. replace-down (whole d) b k l r p h _ n ∙ ap (λ x. rejoin (whole d) b k l r p (replace (whole d) (toward (whole d) k p l r) h p x)) (sub-down (whole d) b k l r p h n)
+      ∙ ap (λ x. rejoin (whole d) b k l r p x) (ih n) ∙ by-test (below (whole d) k p) (λ w. rw w) (λ w. rw w)))
 
   -- an edit further down is one of the node of height n
   pub replace-replace : (h n : ℕ) (s : Tree (whole d)) → h ≤ n → (t : Tree (whole d)) → n ≤ height (whole d) t p → replace (whole d) t n p (replace (whole d) (sub (whole d) t n p) h p s) ≡ replace (whole d) t h p s
   replace-replace h n s a = along (whole d) (λ t. n ≤ height (whole d) t p → replace (whole d) t n p (replace (whole d) (sub (whole d) t n p) h p s) ≡ replace (whole d) t h p s) p (λ i q x e. refl)
-      (λ b k g l r ih e. by-height (whole d) b k g l r p n e
-      (λ z. rw (z, replace-top (whole d) (branch b k g l r) p _, sub-top (whole d) (branch b k g l r) p))
-      (λ x. replace-down (whole d) b k g l r p n _ x ∙ ap (λ y. rejoin (whole d) b k g l r p (replace (whole d) (toward (whole d) k p l r) n p (replace (whole d) y h p s))) (sub-down (whole d) b k g l r p n x)
-      ∙ ap (λ y. rejoin (whole d) b k g l r p y) (ih x) ∙ sym (replace-down (whole d) b k g l r p h s (omega arith))))
+      (λ b k l r ih e. by-height (whole d) b k l r p n e
+      (λ z. rw (z, replace-top (whole d) (branch b k l r) p _, sub-top (whole d) (branch b k l r) p))
+      (λ x. replace-down (whole d) b k l r p n _ x ∙ ap (λ y. rejoin (whole d) b k l r p (replace (whole d) (toward (whole d) k p l r) n p (replace (whole d) y h p s))) (sub-down (whole d) b k l r p n x)
+      ∙ ap (λ y. rejoin (whole d) b k l r p y) (ih x) ∙ sym (replace-down (whole d) b k l r p h s (omega arith))))
 
   -- ---- the kept box of a branch on the walk in t
   module _ (k : ℕ) (t : Tree (whole d)) (o : Once d c t) where
@@ -121,9 +121,9 @@ module _ (d c : ℕ) (p : Reading) where
         → end (whole d) m (replace (whole d) t h p s) i ≡ φ (end (whole d) m (replace (whole d) t h p u) i)
     end-replaced h i φ out s u w = along (whole d) (λ t. h ≤ height (whole d) t p → end (whole d) m (replace (whole d) t h p s) i ≡ φ (end (whole d) m (replace (whole d) t h p u) i)) p
         (λ j q n e. w)
-        (λ b k g l r ih e. by-height (whole d) b k g l r p h e
-        (λ z. rw (z, replace-top (whole d) (branch b k g l r) p s, replace-top (whole d) (branch b k g l r) p u) w)
-        (λ n. rw (replace-down (whole d) b k g l r p h s n, replace-down (whole d) b k g l r p h u n, end-rejoin (whole d) E b k g l r p (replace (whole d) (toward (whole d) k p l r) h p s) i, end-rejoin (whole d) E b k g l r p (replace (whole d) (toward (whole d) k p l r) h p u) i, ih n)
+        (λ b k l r ih e. by-height (whole d) b k l r p h e
+        (λ z. rw (z, replace-top (whole d) (branch b k l r) p s, replace-top (whole d) (branch b k l r) p u) w)
+        (λ n. rw (replace-down (whole d) b k l r p h s n, replace-down (whole d) b k l r p h u n, end-rejoin (whole d) E b k l r p (replace (whole d) (toward (whole d) k p l r) h p s) i, end-rejoin (whole d) E b k l r p (replace (whole d) (toward (whole d) k p l r) h p u) i, ih n)
         (out _ _)))
 
     abbrev endsOf : Tree (whole d) → List Float

@@ -32,7 +32,7 @@ under-next n b = by-test (ltb b n)
 module _ (d c : ℕ) where
   abbrev pub depth : Tree (whole d) → ℕ
   depth (leaf i q n) = 0
-  depth (branch b k g l r) = suc (max (depth l) (depth r))
+  depth (branch b k l r) = suc (max (depth l) (depth r))
 
   -- the branches numbered below n
   abbrev below : ℕ → Tree (whole d) → ℕ
@@ -40,11 +40,11 @@ module _ (d c : ℕ) where
 
   below-next : (n : ℕ) (t : Tree (whole d)) → below (suc n) t ≡ below n t + uses d c t n
   below-next n (leaf i q m) = refl
-  below-next n (branch b k g l r) = omega (arith, under-next n b, below-next n l, below-next n r)
+  below-next n (branch b k l r) = omega (arith, under-next n b, below-next n l, below-next n r)
 
   below-none : (t : Tree (whole d)) → below 0 t ≡ 0
   below-none (leaf i q m) = refl
-  below-none (branch b k g l r) =
+  below-none (branch b k l r) =
       let u : under 0 b ≡ 0 = rw (le-ltb b 0 (omega arith)) in
       omega (arith, u, below-none l, below-none r)
 
@@ -55,7 +55,7 @@ module _ (d c : ℕ) where
 
   depth-below : (t : Tree (whole d)) → InRange d c t → depth t ≤ below c t
   depth-below (leaf i q m) h = omega arith
-  depth-below (branch b k g l r) h =
+  depth-below (branch b k l r) h =
       let u : under c b ≡ 1 = rw (lt-ltb b c (omega arith)) in
       omega (arith, u, depth-below l (h .2), depth-below r (h .3))
 
@@ -66,6 +66,6 @@ module _ (d c : ℕ) where
   unfolding deep
   deep-is nodes zero (leaf i q m) h k r = refl
   deep-is nodes (suc f) (leaf i q m) h k r = rw (le-ltb (i + c) c (omega arith))
-  deep-is nodes zero (branch b x g u v) h k r = absurd (omega arith)
-  deep-is nodes (suc f) (branch b x g u v) h k r =
+  deep-is nodes zero (branch b x u v) h k r = absurd (omega arith)
+  deep-is nodes (suc f) (branch b x u v) h k r =
       rw (lt-ltb b c (omega arith), k .0, k .1, deep-is nodes f u (omega arith) (k .2) (r .2), deep-is nodes f v (omega arith) (k .3) (r .3))

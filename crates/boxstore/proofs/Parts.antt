@@ -1,6 +1,6 @@
 -- A node whose box stands in arrays, by its kind: a leaf, a cached branch, or a branch with its two sides. Assumes nothing.
 use mathlib.Core.Path.{_≡_, refl, sym, ap, _∙_}
-use mathlib.Core.Bool.{Bool, true, _&&_}
+use mathlib.Core.Bool.{true, _&&_}
 use mathlib.Core.List.{List, [], _∷_}
 use Prim.Native.Nat.{ℕ, _+_, _-_, _≤_, _<_}
 use native.Mathlib.Omega.{arith}
@@ -25,7 +25,7 @@ use Rattle.boxstore.proofs.Ends.{tab-same, both, least-end, most-end, l
 use Rattle.boxstore.proofs.Depths.{deep, depth, depth-few, deep-is}
 
 -- the sides of a branch
-module _ (d c k : ℕ) (nodes : List (List ℕ)) (points : List (List Float)) (boxes : List (List (List Float))) {b : ℕ} {x : Cut (whole d)} {g : Bool} {l r : Tree (whole d)} (B : Boxed d c k nodes points boxes (branch b x g l r)) where
+module _ (d c k : ℕ) (nodes : List (List ℕ)) (points : List (List Float)) (boxes : List (List (List Float))) {b : ℕ} {x : Cut (whole d)} {l r : Tree (whole d)} (B : Boxed d c k nodes points boxes (branch b x l r)) where
   pub left-boxed : Boxed d c k nodes points boxes l
   left-boxed = record { links = B .links .2; leaves = B .leaves .0; in-range = B .in-range .2; cached = B .cached .1 }
 
@@ -33,11 +33,11 @@ module _ (d c k : ℕ) (nodes : List (List ℕ)) (points : List (List Float)) (b
   right-boxed = record { links = B .links .3; leaves = B .leaves .1; in-range = B .in-range .3; cached = B .cached .2 }
 
 -- growing by one side's box and then by the other's is growing by the branch's
-module _ (d : ℕ) (f : ℕ → Number) (l r : Tree (whole d)) (b : ℕ) (x : Cut (whole d)) (g : Bool) where
-  low-sides : lowWith d (λ (i : ℕ). least (whole d) (f i) (lo (whole d) l i)) r ≡ lowWith d f (branch b x g l r)
+module _ (d : ℕ) (f : ℕ → Number) (l r : Tree (whole d)) (b : ℕ) (x : Cut (whole d)) where
+  low-sides : lowWith d (λ (i : ℕ). least (whole d) (f i) (lo (whole d) l i)) r ≡ lowWith d f (branch b x l r)
   low-sides = tab-same width _ _ (λ i _. ap (λ (n : Number). n .value) (end-assoc (whole d) (least-end d) (f i) (lo (whole d) l i) (lo (whole d) r i)))
 
-  high-sides : highWith d (λ (i : ℕ). most (whole d) (f i) (hi (whole d) l i)) r ≡ highWith d f (branch b x g l r)
+  high-sides : highWith d (λ (i : ℕ). most (whole d) (f i) (hi (whole d) l i)) r ≡ highWith d f (branch b x l r)
   high-sides = tab-same width _ _ (λ i _. ap (λ (n : Number). n .value) (end-assoc (whole d) (most-end d) (f i) (hi (whole d) l i) (hi (whole d) r i)))
 
 module _ (c k node : ℕ) (nodes : List (List ℕ)) (points : List (List Float)) (boxes : List (List (List Float))) where
@@ -49,11 +49,11 @@ module _ (c k node : ℕ) (nodes : List (List ℕ)) (points : List (List Float))
   leaf-is h d (leaf i q n) e B =
       let z : node - c ≡ i = omega arith in
       rw z (both (B .leaves ∙ row-ends q) (B .leaves ∙ row-ends q))
-  leaf-is h d (branch b x g l r) e B = absurd (omega (arith, B .in-range))
+  leaf-is h d (branch b x l r) e B = absurd (omega (arith, B .in-range))
 
   cached-is : node < c → node < k → IsBox (getD boxes node [])
   cached-is h m d (leaf i q n) e B = absurd (omega arith)
-  cached-is h m d (branch b x g l r) e B = rw (← e) (B .cached .0 (omega arith))
+  cached-is h m d (branch b x l r) e B = rw (← e) (B .cached .0 (omega arith))
 
   pub record HasBox (X : List (List Float)) : Type 0 where
     pub grown : (low high low′ high′ : List Float) → low′ ≡ joined leastFloat low (getD X 0 []) → high′ ≡ joined greatestFloat high (getD X 1 []) → EndsGrownBy c k node nodes points boxes low high low′ high′
@@ -77,7 +77,7 @@ module _ (c k node : ℕ) (nodes : List (List ℕ)) (points : List (List Float))
     where
       go : (t : Tree (whole (w .channels))) → id (whole (w .channels)) c t ≡ node → Boxed (w .channels) c k nodes points boxes t → node - c < pointLimit
       go (leaf i q n) e B = omega (arith, B .in-range)
-      go (branch b x g l r) e B = absurd (omega (arith, B .in-range))
+      go (branch b x l r) e B = absurd (omega (arith, B .in-range))
 
   -- a branch by its sides
   abbrev left : ℕ
@@ -98,9 +98,9 @@ module _ (c k node : ℕ) (nodes : List (List ℕ)) (points : List (List Float))
     where
       go : (t : Tree (whole (w .channels))) → id (whole (w .channels)) c t ≡ node → Once (w .channels) c t → Boxed (w .channels) c k nodes points boxes t → Parts
       go (leaf i q n) e o B = absurd (omega arith)
-      go (branch b x g u v) e o B =
+      go (branch b x u v) e o B =
           let d = w .channels in
-          let t = branch b x g u v in
+          let t = branch b x u v in
           let bl = left-boxed d c k nodes points boxes B in
           let br = right-boxed d c k nodes points boxes B in
           let ol : Once d c u = λ j. omega (arith, o j) in
@@ -123,19 +123,19 @@ module _ (c k node : ℕ) (nodes : List (List ℕ)) (points : List (List Float))
   pub sides-grown : node < c → (low high low′ high′ low″ high″ : List Float) → EndsGrownBy c k left nodes points boxes low high low′ high′ → EndsGrownBy c k right nodes points boxes low′ high′ low″ high″
       → EndsGrownBy c k node nodes points boxes low high low″ high″
   sides-grown h low high low′ high′ low″ high″ F G d (leaf i q n) f g e B p s = absurd (omega arith)
-  sides-grown h low high low′ high′ low″ high″ F G d (branch a x y u v) f g e B p s =
+  sides-grown h low high low′ high′ low″ high″ F G d (branch a x u v) f g e B p s =
       let bl = left-boxed d c k nodes points boxes B in
       let br = right-boxed d c k nodes points boxes B in
       let one = F d u f g (rw (← e) (sym (B .links .0))) bl p s in
       let two = G d v _ _ (rw (← e) (sym (B .links .1))) br (one .0) (one .1) in
-      (two .0 ∙ low-sides d f u v a x y, two .1 ∙ high-sides d g u v a x y)
+      (two .0 ∙ low-sides d f u v a x, two .1 ∙ high-sides d g u v a x)
 
   pub sides-given : (m r : BoundingBox) → BoxOf c k left nodes points boxes m → GrownBy c k right nodes points boxes m r → SidesBox c k node nodes points boxes r
   sides-given m r F G d l u p q bl bu = let one = F d l p bl in G d u (lo (whole d) l) (hi (whole d) l) q bu (one .0) (one .1)
 
   pub sides-box : node < c → (r : BoundingBox) → SidesBox c k node nodes points boxes r → BoxOf c k node nodes points boxes r
   sides-box h r F d (leaf i q n) e B = absurd (omega arith)
-  sides-box h r F d (branch a x y u v) e B =
+  sides-box h r F d (branch a x u v) e B =
       F d u v (rw (← e) (sym (B .links .0))) (rw (← e) (sym (B .links .1))) (left-boxed d c k nodes points boxes B) (right-boxed d c k nodes points boxes B)
 
 -- two ids of leaves
@@ -155,7 +155,7 @@ module _ (c k node : ℕ) (nodes : List (List ℕ)) (points : List (List Float))
     where
       go : (d : ℕ) (t : Tree (whole d)) → id (whole d) c t ≡ node → Boxed d c k nodes points boxes t → joined leastFloat first second ∷ joined greatestFloat first second ∷ [] ≡ boxEnds d c t
       go d (leaf i q n) e B = absurd (omega arith)
-      go d (branch b x g u v) e B =
+      go d (branch b x u v) e B =
           let p = leaf-is c k (sideIn nodes node 0) nodes points boxes l d u (rw (← e) (sym (B .links .0))) (left-boxed d c k nodes points boxes B) in
           let q = leaf-is c k (sideIn nodes node 1) nodes points boxes r d v (rw (← e) (sym (B .links .1))) (right-boxed d c k nodes points boxes B) in
           let low-p : first ≡ lowOf d c u = ap (λ (X : List (List Float)). getD X 0 []) p in

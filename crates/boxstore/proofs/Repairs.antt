@@ -53,7 +53,7 @@ module _ (d c : ℕ) where
   -- where every leaf has the same coordinate, so have the ends
   end-all : {m : Number → Number → Number} {to : Number → Number → Bool} → End (whole d) m to → (i : ℕ) (z : Number) (t : Tree (whole d)) → All (whole d) (λ j q n. coordinate q i ≡ z) t → end (whole d) m t i ≡ z
   end-all E i z (leaf j q n) h = h
-  end-all E i z (branch b x y l r) h = rw (end-all E i z l (h .0), end-all E i z r (h .1)) (end-same (whole d) E z)
+  end-all E i z (branch b x l r) h = rw (end-all E i z l (h .0), end-all E i z r (h .1)) (end-same (whole d) E z)
 
 -- ---- a point strictly inside
 module _ (d c k n dimensions : ℕ) (path : List (List ℕ)) (point : List Float) (nodes : List (List ℕ)) (points : List (List Float)) (boxes : List (List (List Float))) (t : Tree (whole d)) (p : Reading)
@@ -119,7 +119,7 @@ module _ (d c k n dimensions : ℕ) (path : List (List ℕ)) (point : List Float
     once = forget-once d c t p (W .once) above-one
 
     -- what stands below that branch has another number than it and those above it
-    module _ {v l r : Tree (whole d)} {b : ℕ} {x : Cut (whole d)} {y : Bool} (i : In (whole d) (branch b x y l r) v) (j : In (whole d) v (lifted d t p)) (less : depth d c v < depth d c (without (suc g))) where
+    module _ {v l r : Tree (whole d)} {b : ℕ} {x : Cut (whole d)} (i : In (whole d) (branch b x l r) v) (j : In (whole d) v (lifted d t p)) (less : depth d c v < depth d c (without (suc g))) where
       apart : (n : ℕ) → g < n → n ≤ height (whole d) t p → at d c t p n ≡ b → ⊥
       apart n m z q =
           let above = slot-above d c (depth d c) 0 1 n p (sibling (whole d) t 0 p) t once (omega arith) z in
@@ -129,7 +129,7 @@ module _ (d c k n dimensions : ℕ) (path : List (List ℕ)) (point : List Float
           (in-replace d c 1 (suc g) p (sibling (whole d) t 0 p) (omega arith) (sub (whole d) t n p) (omega (arith, height-sub (whole d) n p t z))) in
           omega (arith, above, own, ap (slot d c (depth d c) 0 (lifted d t p)) q, depth-in d c up, depth-in d c i)
 
-      box-at : b < k → getD B b [] ≡ boxEnds d c (branch b x y l r)
+      box-at : b < k → getD B b [] ≡ boxEnds d c (branch b x l r)
       box-at h = P .done b (omega arith) apart ∙ cond-true _ _ _ (lt-ltb b k h) ∙ slot-in d c (boxEnds d c) noBoxEnds once (in-trans (whole d) i j)
 
     boxed : (v : Tree (whole d)) → In (whole d) v (lifted d t p) → depth d c v < depth d c (without (suc g)) → Boxed d c k nodes points B v
@@ -137,7 +137,7 @@ module _ (d c k n dimensions : ℕ) (path : List (List ℕ)) (point : List Float
       links = links-in d c nodes j (G .links);
       leaves = all-in (whole d) _ j (G .leaves);
       in-range = range-node d c j (G .in-range);
-      cached = laid-below-by d c (boxEnds d c) (λ n. getD B n []) k v (λ b x y l r i. box-at i j less);
+      cached = laid-below-by d c (boxEnds d c) (λ n. getD B n []) k v (λ b x l r i. box-at i j less);
     }
 
     pub turn : Turn B g
@@ -148,7 +148,7 @@ module _ (d c k n dimensions : ℕ) (path : List (List ℕ)) (point : List Float
 
         go : (v : Tree (whole d)) → without (suc g) ≡ v → id (whole d) c v ≡ at d c t p (suc g) → 0 < uses d c v (at d c t p (suc g)) → In (whole d) v (lifted d t p) → Turn B g
         go (leaf i q n) z y b j = absurd (omega arith)
-        go (branch x cut lag l u) z y b j =
+        go (branch x cut l u) z y b j =
             let links = links-in d c nodes j (G .links) in
             let range = range-node d c j (G .in-range) in
             let jl : In (whole d) l (lifted d t p) = in-trans (whole d) (left here) j in

@@ -16,7 +16,7 @@ module _ (d c : ℕ) where
   -- Each branch's row has the ids of its sides. The rest of the row is no matter here, so that masses may be changed before boxes or after.
   abbrev pub Linked : List (List ℕ) → Tree (whole d) → Type 0
   Linked nodes (leaf i q n) = Unit {0}
-  Linked nodes (branch b k g l r) = (sideIn nodes b 0 ≡ id (whole d) c l) × (sideIn nodes b 1 ≡ id (whole d) c r) × Linked nodes l × Linked nodes r
+  Linked nodes (branch b k l r) = (sideIn nodes b 0 ≡ id (whole d) c l) × (sideIn nodes b 1 ≡ id (whole d) c r) × Linked nodes l × Linked nodes r
 
   -- k branches are cached
   pub record Boxed (k : ℕ) (nodes : List (List ℕ)) (points : List (List Float)) (boxes : List (List (List Float))) (t : Tree (whole d)) : Type 0 where

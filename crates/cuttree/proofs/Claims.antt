@@ -51,7 +51,7 @@ module _ (S : Setting) (capacity : ℕ) (L : Laws S) where
       where
         go : (s : Tree S) → In S s t → (v : Point) × P v
         go (leaf i q n) j = let (e, m) = leaf-number j q (L .same-refl q) in (q, h q (omega arith))
-        go (branch b k g l r) j = go l (in-trans S (left here) j)
+        go (branch b k l r) j = go l (in-trans S (left here) j)
 
     not-nothing : {A : Type 0} → NothingHeld S K → A
     not-nothing h = let (v, x) = some-held (λ v. ⊥) (λ v m. omega (arith, h v)) in absurd x
@@ -70,20 +70,20 @@ module _ (S : Setting) (capacity : ℕ) (L : Laws S) where
           (λ i′ v n j′ s. ap (λ (x : Leaf S). x .index + capacity)
           (sym (leaf-walk j) ∙ same-ending S L q v s t ∙ leaf-walk j′)) y n v b s) x m q a s;
       left = by-branch S capacity L f t u K I (λ x r. (q : Point) → Under S G (r .left) q → below S (r .cut) q ≡ true)
-          (λ b k g l r j q h. let (i, n, e) = under-leaf S capacity L f t u K I l (in-trans S (left here) j) q h in all-in S (λ i q n. below S k q ≡ true) e (cut-in S j (I .sound .cut) .0));
+          (λ b k l r j q h. let (i, n, e) = under-leaf S capacity L f t u K I l (in-trans S (left here) j) q h in all-in S (λ i q n. below S k q ≡ true) e (cut-in S j (I .sound .cut) .0));
       right = by-branch S capacity L f t u K I (λ x r. (q : Point) → Under S G (r .right) q → below S (r .cut) q ≡ false)
-          (λ b k g l r j q h. let (i, n, e) = under-leaf S capacity L f t u K I r (in-trans S (right here) j) q h in all-in S (λ i q n. below S k q ≡ false) e (cut-in S j (I .sound .cut) .1));
-      boxed = by-branch S capacity L f t u K I (λ x r. (b : Box S) × (G .asked (boxOf x) ≡ boxIs b)) (λ b k g l r j. (boxAt S capacity (branch b k g l r), box-asked S capacity L f t u K I j));
-      only-branches = by-box S capacity L f t u K I (λ x w. (r : Row S) × IsBranch S G x r) (λ b k g l r j. (rowOf S capacity b k g l r, branch-asked S capacity L f t u K I j));
+          (λ b k l r j q h. let (i, n, e) = under-leaf S capacity L f t u K I r (in-trans S (right here) j) q h in all-in S (λ i q n. below S k q ≡ false) e (cut-in S j (I .sound .cut) .1));
+      boxed = by-branch S capacity L f t u K I (λ x r. (b : Box S) × (G .asked (boxOf x) ≡ boxIs b)) (λ b k l r j. (boxAt S capacity (branch b k l r), box-asked S capacity L f t u K I j));
+      only-branches = by-box S capacity L f t u K I (λ x w. (r : Row S) × IsBranch S G x r) (λ b k l r j. (rowOf S capacity b k l r, branch-asked S capacity L f t u K I j));
       around = by-box S capacity L f t u K I (λ x w. (d : Chan) (q : Point) → Under S G x q → (le (w .lower d) (at q d) ≡ true) × (le (at q d) (w .upper d) ≡ true))
-          (λ b k g l r j d q h. let (i, n, e) = under-leaf S capacity L f t u K I (branch b k g l r) j q h in
-          (all-in S _ e (end-before S (least-end S L) d (branch b k g l r)), all-in S _ e (end-before S (most-end S L) d (branch b k g l r))));
+          (λ b k l r j d q h. let (i, n, e) = under-leaf S capacity L f t u K I (branch b k l r) j q h in
+          (all-in S _ e (end-before S (least-end S L) d (branch b k l r)), all-in S _ e (end-before S (most-end S L) d (branch b k l r))));
       smallest = by-box S capacity L f t u K I (λ x w. (d : Chan) → ((q : Point) × Under S G x q × (w .lower d ≡ at q d)) × ((q : Point) × Under S G x q × (w .upper d ≡ at q d)))
-          (λ b k g l r j d.
-          let (i, q, n, h, e) = some-in S _ (branch b k g l r) (end-met S (least-end S L) d (branch b k g l r)) in
-          let (i′, q′, n′, h′, e′) = some-in S _ (branch b k g l r) (end-met S (most-end S L) d (branch b k g l r)) in
+          (λ b k l r j d.
+          let (i, q, n, h, e) = some-in S _ (branch b k l r) (end-met S (least-end S L) d (branch b k l r)) in
+          let (i′, q′, n′, h′, e′) = some-in S _ (branch b k l r) (end-met S (most-end S L) d (branch b k l r)) in
           ((q, leaf-under S capacity L f t u K I h j, e), (q′, leaf-under S capacity L f t u K I h′ j, e′)));
-      child-node = λ x y c. by-child S capacity L f t u K I (λ x c y. IsNode S G y) (λ b k g l r c j. node-asked S capacity L f t u K I (cond c l r) (in-trans S (side-in S capacity L f t u K I {b = b} {k = k} {g = g} c) j)) x c y;
+      child-node = λ x y c. by-child S capacity L f t u K I (λ x c y. IsNode S G y) (λ b k l r c j. node-asked S capacity L f t u K I (cond c l r) (in-trans S (side-in S capacity L f t u K I {b = b} {k = k} c) j)) x c y;
       held-or-not = inr (some-held (Held S K) (λ v h. h));
       no-branch = λ h x r e. not-nothing h;
       root = λ v h. (id S capacity t, is-root S capacity L f t u K I);
@@ -92,7 +92,7 @@ module _ (S : Setting) (capacity : ℕ) (L : Laws S) where
     -- the values of the leaves: each held value once
     values : Tree S → List Point
     values (leaf i q n) = q ∷ []
-    values (branch b k g l r) = values l ++ values r
+    values (branch b k l r) = values l ++ values r
 
     times-append : (a b : List Point) (v : Point) → times S (a ++ b) v ≡ times S a v + times S b v
     times-append [] b v = omega arith
@@ -101,12 +101,12 @@ module _ (S : Setting) (capacity : ℕ) (L : Laws S) where
     times-values : (s : Tree S) (v : Point) → times S (values s) v ≡ sum S (λ i q n. cond (same q v) 1 0) (λ b. 0) s
     unfolding values
     times-values (leaf i q n) v = omega arith
-    times-values (branch b k g l r) v = omega (arith, times-append (values l) (values r) v, times-values l v, times-values r v)
+    times-values (branch b k l r) v = omega (arith, times-append (values l) (values r) v, times-values l v, times-values r v)
 
     length-values : (s : Tree S) → length (values s) ≡ leaves S s
     unfolding values
     length-values (leaf i q n) = refl
-    length-values (branch b k g l r) = omega (arith, length-append (values l) (values r), length-values l, length-values r)
+    length-values (branch b k l r) = omega (arith, length-append (values l) (values r), length-values l, length-values r)
 
     within : (n : ℕ) → n ≤ leaves S t → (vs : List Point) × Values S K vs × (n ≤ length vs)
     within n h = (values t, (λ v. times-values t v ∙ sum-found S L (λ n. 1) v t (I .sound .cut) ∙ ap (λ b. cond b 1 0) (found-held v)), omega (arith, length-values t))

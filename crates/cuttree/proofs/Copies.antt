@@ -7,7 +7,7 @@ use native.Mathlib.Omega.{arith}
 use lib.Dec.{ltb}
 use borrow.Author.Tests.{ltb-true, ltb-false}
 use Rattle.cuttree.specs.Setting.{Setting, Laws}
-use Rattle.cuttree.specs.Tree.{Tree, ending, found, sumOf, total, copies, insert, addCopy, forget, freed, All}
+use Rattle.cuttree.specs.Tree.{Tree, ending, found, sumOf, mass, copies, insert, addCopy, forget, freed, All}
 use Rattle.cuttree.specs.Counts.{one}
 use Rattle.cuttree.proofs.Tests.{by-test}
 use Rattle.cuttree.proofs.Sums.{sum-insert, sum-copy, sum-forget, numberIn}
@@ -24,14 +24,14 @@ module _ (S : Setting) where
   zero-in (some b) = refl
 
   -- OF ALL VALUES
-  pub total-insert : (b i : ℕ) (p : Point) (w : ℕ → Word) (t : Tree S) → total S (insert S b i p w t) ≡ suc (total S t)
-  total-insert b i p w t = omega (arith, sum-insert S (λ i q n. n) (λ b. 0) b i p w t)
+  pub mass-insert : (b i : ℕ) (p : Point) (w : ℕ → Word) (t : Tree S) → mass S (insert S b i p w t) ≡ suc (mass S t)
+  mass-insert b i p w t = omega (arith, sum-insert S (λ i q n. n) (λ b. 0) b i p w t)
 
-  pub total-copy : (p : Point) (t : Tree S) → total S (addCopy S p t) ≡ suc (total S t)
-  total-copy p t = omega (arith, sum-copy S (λ i q n. n) (λ b. 0) p t)
+  pub mass-copy : (p : Point) (t : Tree S) → mass S (addCopy S p t) ≡ suc (mass S t)
+  mass-copy p t = omega (arith, sum-copy S (λ i q n. n) (λ b. 0) p t)
 
-  pub total-forget : (p : Point) (t : Tree S) → Filled t → suc (sumOf S (λ i q n. n) (λ b. 0) (forget S p t)) ≡ total S t
-  total-forget p t h = by-test (ltb 1 (ending S t p .copies))
+  pub mass-forget : (p : Point) (t : Tree S) → Filled t → suc (sumOf S (λ i q n. n) (λ b. 0) (forget S p t)) ≡ mass S t
+  mass-forget p t h = by-test (ltb 1 (ending S t p .copies))
       (λ e. let z = rw e at (sum-forget S (λ i q n. n) (λ b. 0) p t) in omega (arith, z, zero-in (freed S p t), ltb-true 1 (ending S t p .copies) e))
       (λ e. let z = rw e at (sum-forget S (λ i q n. n) (λ b. 0) p t) in
       omega (arith, z, zero-in (freed S p t), ltb-false 1 (ending S t p .copies) e, all-ending S (λ i q n. 0 < n) p t h))

@@ -96,7 +96,7 @@ run : answers small 4 (fresh small 4) calls ≡
     ∷ added 1 0 ∷ refused indexIsLeaf ∷ written ∷ refused notHeld
     ∷ added 4 2 ∷ branchIs (record { cut = cutAt 20; left = 0; right = 8; mass = 5 }) ∷ refused full ∷ deleted 1 ∷ refused full
     ∷ deleted 2 ∷ refused noSuchNode ∷ branchIs (record { cut = cutAt 4; left = 4; right = 5; mass = 2 }) ∷ deleted 4
-    ∷ added 1 0 ∷ added 5 2 ∷ branchIs (record { cut = cutAt 8; left = 5; right = 9; mass = 2 }) ∷ branchIs (record { cut = cutAt 4; left = 4; right = 1; mass = 4 })
+    ∷ added 1 0 ∷ added 5 2 ∷ branchIs (record { cut = cutAt 8; left = 5; right = 9; mass = 3 }) ∷ branchIs (record { cut = cutAt 4; left = 4; right = 1; mass = 4 })
     ∷ boxIs (record { lower = λ d. 0; upper = λ d. 60 }) ∷ []
 unfolding Stack.fresh Stack.next Stack.afterGet Stack.afterRelease
 run = refl

@@ -23,7 +23,7 @@ use Rattle.cuttree.proofs.Leaves.{all-insert, all-copy, all-forget, lea
 use Rattle.cuttree.proofs.Cuts.{cut-insert, cut-copy, cut-forget}
 use Rattle.cuttree.proofs.Intervals.{holds-get, sizes-get, holds-release}
 use Rattle.cuttree.proofs.Freed.{freed-below}
-use Rattle.cuttree.proofs.Copies.{total-insert, total-copy, total-forget, copies-copy, copies-forget}
+use Rattle.cuttree.proofs.Copies.{mass-insert, mass-copy, mass-forget, copies-copy, copies-forget}
 
 module _ (S : Setting) (capacity : ℕ) where
   open Setting S using (Point, Word, Raw, same, counted, good, point, noWord, indices, limit)
@@ -44,7 +44,7 @@ module _ (S : Setting) (capacity : ℕ) where
   -- PUT
   agree-write : (f : ℕ → Option Point) (i : ℕ) (p : Point) (t : Tree S) → sum S (λ j q n. is j i) (λ b. 0) t ≡ 0 → All S (λ j q n. f j ≡ some q) t → All S (λ j q n. write S f i p j ≡ some q) t
   agree-write f i p (leaf j q n) e h = by-cond (λ x. x ≡ some q) (eqb j i) (some p) (f j) (λ y. nonsense (sym (rw y at e))) (λ _. h)
-  agree-write f i p (branch b k g l r) e h = (agree-write f i p l (omega arith) (h .0), agree-write f i p r (omega arith) (h .1))
+  agree-write f i p (branch b k l r) e h = (agree-write f i p l (omega arith) (h .0), agree-write f i p r (omega arith) (h .1))
 
   agree-put : (f : ℕ → Option Point) (i : ℕ) (p : Point) (o : Option (Tree S)) → isLeaf S o i ≡ false → OfTree S (All S (λ j q n. f j ≡ some q)) o → OfTree S (All S (λ j q n. write S f i p j ≡ some q)) o
   agree-put f i p none e h = tt
@@ -97,7 +97,7 @@ module _ (S : Setting) (capacity : ℕ) where
             filled = all-copy S (λ i q n. 0 < n) p (λ i q n y. omega arith) t (I .sound .filled);
             agree = all-copy S (λ i q n. f i ≡ some q) p (λ i q n y. y) t (I .sound .agree);
             inside = I .sound .inside;
-            light = omega (arith, I .sound .light, total-copy S p t);
+            light = omega (arith, I .sound .light, mass-copy S p t);
             numbers = λ j. omega (arith, I .sound .numbers j, sum-copy S (λ i q n. 0) (λ b. is b j) p t);
             fits = omega (arith, I .sound .fits, sum-copy S (λ i q n. 0) (λ b. 1) p t);
             proper = I .sound .proper;
@@ -113,7 +113,7 @@ module _ (S : Setting) (capacity : ℕ) where
             filled = all-insert S (λ i q n. 0 < n) (next u) i p w (omega arith) t (I .sound .filled);
             agree = all-insert S (λ i q n. f i ≡ some q) (next u) i p w e t (I .sound .agree);
             inside = I .sound .inside;
-            light = omega (arith, I .sound .light, total-insert S (next u) i p w t);
+            light = omega (arith, I .sound .light, mass-insert S (next u) i p w t);
             numbers = λ j. omega (arith, I .sound .numbers j, sum-insert S (λ i q n. 0) (λ b. is b j) (next u) i p w t, holds-get (capacity - 1) u j (I .sound .proper) room);
             fits = omega (arith, I .sound .fits, sum-insert S (λ i q n. 0) (λ b. 1) (next u) i p w t, sizes-get (capacity - 1) u (I .sound .proper) room);
             proper = proper-get (capacity - 1) u (I .sound .proper);
@@ -146,7 +146,7 @@ module _ (S : Setting) (capacity : ℕ) where
             filled = all-forget S (λ i q n. 0 < n) p (λ i q n y _. omega arith) t (I .sound .filled);
             agree = all-forget S (λ i q n. f i ≡ some q) p (λ i q n _ y. y) t (I .sound .agree);
             inside = I .sound .inside;
-            light = omega (arith, I .sound .light, total-forget S p t (I .sound .filled));
+            light = omega (arith, I .sound .light, mass-forget S p t (I .sound .filled));
             numbers = λ j. omega (arith, I .sound .numbers j, sum-forget S (λ i q n. 0) (λ b. is b j) p t, holds-freed u (freed S p t) j (I .sound .proper), z);
             fits = omega (arith, I .sound .fits, sum-forget S (λ i q n. 0) (λ b. 1) p t, sizes-freed u (freed S p t) (I .sound .proper), z);
             proper = proper-freed u (freed S p t) (λ b y. freed-below S p t b (capacity - 1) (holds u b) y (I .sound .numbers b)) (I .sound .proper);

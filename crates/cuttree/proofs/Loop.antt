@@ -1,7 +1,7 @@
 -- The loop from leaf to root, keeping the highest cut that parts, gives the insertion from the root down; and once a box holds the
 -- point no box above it parts, so that the words there are counted and do nothing.
 use mathlib.Core.Path.{_≡_, refl, sym, ap, _∙_, subst}
-use mathlib.Core.Bool.{Bool, true, false, cond}
+use mathlib.Core.Bool.{true, false, cond}
 use Prim.Native.Nat.{ℕ, zero, suc, _≤_}
 use native.Mathlib.Omega.{arith}
 use lib.Dec.{leb}
@@ -17,14 +17,14 @@ use Rattle.cuttree.proofs.Heights.{sub-top, replace-top, sub-down, repl
 module _ (S : Setting) where
   open Setting S using (Chan, Point, Word, le, at)
 
-  kept-down : (b : ℕ) (k : Cut S) (g : Bool) (l r : Tree S) (p : Point) (w : ℕ → Word) (s : ℕ × Cut S) (m : ℕ) → m ≤ walk S (toward S k p l r) p → kept S (branch b k g l r) p w s m ≡ kept S (toward S k p l r) p w s m
-  kept-down b k g l r p w s zero h = refl
-  kept-down b k g l r p w s (suc m) h =
-      ap (λ x. cond (parted S x p (w m)) (m, drawn S x p (w m)) (kept S (branch b k g l r) p w s m)) (sub-down S b k g l r p m (omega arith))
-      ∙ ap (λ x. cond (parted S (sub S (toward S k p l r) m p) p (w m)) (m, drawn S (sub S (toward S k p l r) m p) p (w m)) x) (kept-down b k g l r p w s m (omega arith))
+  kept-down : (b : ℕ) (k : Cut S) (l r : Tree S) (p : Point) (w : ℕ → Word) (s : ℕ × Cut S) (m : ℕ) → m ≤ walk S (toward S k p l r) p → kept S (branch b k l r) p w s m ≡ kept S (toward S k p l r) p w s m
+  kept-down b k l r p w s zero h = refl
+  kept-down b k l r p w s (suc m) h =
+      ap (λ x. cond (parted S x p (w m)) (m, drawn S x p (w m)) (kept S (branch b k l r) p w s m)) (sub-down S b k l r p m (omega arith))
+      ∙ ap (λ x. cond (parted S (sub S (toward S k p l r) m p) p (w m)) (m, drawn S (sub S (toward S k p l r) m p) p (w m)) x) (kept-down b k l r p w s m (omega arith))
 
-  graft-down : (b i : ℕ) (a : ℕ) (k : Cut S) (g : Bool) (l r : Tree S) (p : Point) (x : ℕ × Cut S) → x .0 ≤ height S (toward S k p l r) p → graft S b i p x (branch a k g l r) ≡ rejoin S a k g l r p (graft S b i p x (toward S k p l r))
-  graft-down b i a k g l r p x h = replace-down S a k g l r p (x .0) _ h ∙ ap (λ y. rejoin S a k g l r p (replace S (toward S k p l r) (x .0) p (above S b (x .1) i p y))) (sub-down S a k g l r p (x .0) h)
+  graft-down : (b i : ℕ) (a : ℕ) (k : Cut S) (l r : Tree S) (p : Point) (x : ℕ × Cut S) → x .0 ≤ height S (toward S k p l r) p → graft S b i p x (branch a k l r) ≡ rejoin S a k l r p (graft S b i p x (toward S k p l r))
+  graft-down b i a k l r p x h = replace-down S a k l r p (x .0) _ h ∙ ap (λ y. rejoin S a k l r p (replace S (toward S k p l r) (x .0) p (above S b (x .1) i p y))) (sub-down S a k l r p (x .0) h)
 
   -- the loop at its last node: the new branch stands above the whole tree, or where it stands in the side that the point goes to
   kept-last : (p : Point) (w : ℕ → Word) (s : ℕ × Cut S) (t : Tree S) → kept S t p w s (walk S t p) ≡ cond (parted S t p (w (height S t p))) (height S t p, drawn S t p (w (height S t p))) (kept S t p w s (height S t p))
@@ -36,13 +36,13 @@ module _ (S : Setting) where
   kept-here : (b i : ℕ) (p : Point) (w : ℕ → Word) (s : ℕ × Cut S) (t : Tree S) → parted S t p (w (height S t p)) ≡ true → graft S b i p (kept S t p w s (walk S t p)) t ≡ above S b (drawn S t p (w (height S t p))) i p t
   kept-here b i p w s t e = ap (λ x. graft S b i p x t) (kept-last p w s t ∙ cond-true _ _ _ e) ∙ graft-top b i p _ t
 
-  kept-lower : (b i a : ℕ) (k : Cut S) (g : Bool) (l r : Tree S) (p : Point) (w : ℕ → Word) (s : ℕ × Cut S) → parted S (branch a k g l r) p (w (height S (branch a k g l r) p)) ≡ false →
+  kept-lower : (b i a : ℕ) (k : Cut S) (l r : Tree S) (p : Point) (w : ℕ → Word) (s : ℕ × Cut S) → parted S (branch a k l r) p (w (height S (branch a k l r) p)) ≡ false →
       kept S (toward S k p l r) p w s (walk S (toward S k p l r) p) .0 ≤ height S (toward S k p l r) p →
-      graft S b i p (kept S (branch a k g l r) p w s (walk S (branch a k g l r) p)) (branch a k g l r) ≡ rejoin S a k g l r p (graft S b i p (kept S (toward S k p l r) p w s (walk S (toward S k p l r) p)) (toward S k p l r))
-  kept-lower b i a k g l r p w s e h =
-      ap (λ x. graft S b i p x (branch a k g l r))
-      (kept-last p w s (branch a k g l r) ∙ cond-false _ _ _ e ∙ ap (λ m. kept S (branch a k g l r) p w s m) (height-step S a k g l r p) ∙ kept-down a k g l r p w s (walk S (toward S k p l r) p) (omega arith))
-      ∙ graft-down b i a k g l r p (kept S (toward S k p l r) p w s (walk S (toward S k p l r) p)) h
+      graft S b i p (kept S (branch a k l r) p w s (walk S (branch a k l r) p)) (branch a k l r) ≡ rejoin S a k l r p (graft S b i p (kept S (toward S k p l r) p w s (walk S (toward S k p l r) p)) (toward S k p l r))
+  kept-lower b i a k l r p w s e h =
+      ap (λ x. graft S b i p x (branch a k l r))
+      (kept-last p w s (branch a k l r) ∙ cond-false _ _ _ e ∙ ap (λ m. kept S (branch a k l r) p w s m) (height-step S a k l r p) ∙ kept-down a k l r p w s (walk S (toward S k p l r) p) (omega arith))
+      ∙ graft-down b i a k l r p (kept S (toward S k p l r) p w s (walk S (toward S k p l r) p)) h
 
   module _ (L : Laws S) where
     -- the cut drawn at the leaf of another value parts
@@ -56,11 +56,11 @@ module _ (S : Setting) where
     pub insert-loop : (b i : ℕ) (p : Point) (w : ℕ → Word) (s : ℕ × Cut S) (t : Tree S) → found S t p ≡ false → insert S b i p w t ≡ graft S b i p (kept S t p w s (walk S t p)) t
     insert-loop b i p w s = along S (λ t. found S t p ≡ false → insert S b i p w t ≡ graft S b i p (kept S t p w s (walk S t p)) t) p
         (λ j q n h. ap (λ (x : ℕ × Cut S). above S b (x .1) i p (leaf j q n)) (sym (cond-true _ _ s (L .parts-leaf p q (w 0) h))))
-        (λ a k g l r ih h.
-        let f : found S (toward S k p l r) p ≡ false = rw (ending-step S a k g l r p, found) at h in
-        by-cond (λ x. x ≡ graft S b i p (kept S (branch a k g l r) p w s (walk S (branch a k g l r) p)) (branch a k g l r)) (parted S (branch a k g l r) p (w (height S (branch a k g l r) p))) _ _
-        (λ e. sym (kept-here b i p w s (branch a k g l r) e))
-        (λ e. rejoined S a k g l r p (insert S b i p w) ∙ ap (λ x. rejoin S a k g l r p x) (ih f) ∙ sym (kept-lower b i a k g l r p w s e (kept-height p (toward S k p l r) w s (height S (toward S k p l r) p) f))))
+        (λ a k l r ih h.
+        let f : found S (toward S k p l r) p ≡ false = rw (ending-step S a k l r p, found) at h in
+        by-cond (λ x. x ≡ graft S b i p (kept S (branch a k l r) p w s (walk S (branch a k l r) p)) (branch a k l r)) (parted S (branch a k l r) p (w (height S (branch a k l r) p))) _ _
+        (λ e. sym (kept-here b i p w s (branch a k l r) e))
+        (λ e. rejoined S a k l r p (insert S b i p w) ∙ ap (λ x. rejoin S a k l r p x) (ih f) ∙ sym (kept-lower b i a k l r p w s e (kept-height p (toward S k p l r) w s (height S (toward S k p l r) p) f))))
 
     -- A BOX THAT HOLDS THE POINT
     abbrev pub Inside : Tree S → Point → Type 0
@@ -73,16 +73,16 @@ module _ (S : Setting) where
         (λ x y. clash (below S k p) (L .le-trans _ _ _ (h (k .channel) .1) y) x))
         (λ e. e)
 
-    inside-step : (b : ℕ) (k : Cut S) (g : Bool) (l r : Tree S) (p : Point) → Inside (toward S k p l r) p → Inside (branch b k g l r) p
-    inside-step b k g l r p = by-cond (λ x. Inside x p → Inside (branch b k g l r) p) (below S k p) l r
+    inside-step : (b : ℕ) (k : Cut S) (l r : Tree S) (p : Point) → Inside (toward S k p l r) p → Inside (branch b k l r) p
+    inside-step b k l r p = by-cond (λ x. Inside x p → Inside (branch b k l r) p) (below S k p) l r
         (λ _ h d. (L .le-trans _ _ _ (least-end S L .first (lo S l d) (lo S r d)) (h d .0), L .le-trans _ _ _ (h d .1) (most-end S L .first (hi S l d) (hi S r d))))
         (λ _ h d. (L .le-trans _ _ _ (least-end S L .second (lo S l d) (lo S r d)) (h d .0), L .le-trans _ _ _ (h d .1) (most-end S L .second (hi S l d) (hi S r d))))
 
     inside-whole : (m : ℕ) (p : Point) (t : Tree S) → m ≤ height S t p → Inside (sub S t m p) p → Inside t p
     inside-whole m p = along S (λ t. m ≤ height S t p → Inside (sub S t m p) p → Inside t p) p (λ i q n _ h. h)
-        (λ b k g l r ih c h. by-height S b k g l r p m c
-        (λ e. subst (λ x. Inside x p) (ap (λ x. sub S (branch b k g l r) x p) e ∙ sub-top S (branch b k g l r) p) h)
-        (λ n. inside-step b k g l r p (ih n (subst (λ x. Inside x p) (sub-down S b k g l r p m n) h))))
+        (λ b k l r ih c h. by-height S b k l r p m c
+        (λ e. subst (λ x. Inside x p) (ap (λ x. sub S (branch b k l r) x p) e ∙ sub-top S (branch b k l r) p) h)
+        (λ n. inside-step b k l r p (ih n (subst (λ x. Inside x p) (sub-down S b k l r p m n) h))))
 
     pub inside-up : (m n : ℕ) (p : Point) (t : Tree S) → m ≤ n → n ≤ height S t p → Inside (sub S t m p) p → Inside (sub S t n p) p
     inside-up m n p t a c h = inside-whole m p (sub S t n p) (omega (arith, height-sub S n p t c)) (subst (λ x. Inside x p) (sym (sub-sub S m n p a t c)) h)

@@ -1,7 +1,7 @@
 -- The nodes of a tree and their ids: in the tree of a sound world each id is one node's, and `look` finds it.
 use mathlib.Core.Path.{_≡_, refl, sym, ap, _∙_, subst}
 use mathlib.Core.Logic.{inl, inr}
-use mathlib.Core.Bool.{Bool, false, cond}
+use mathlib.Core.Bool.{false, cond}
 use mathlib.Core.Option.{Option, none, some}
 use mathlib.Core.List.{List}
 use Prim.Native.Nat.{ℕ, _+_, _-_, _≤_, _<_}
@@ -25,8 +25,8 @@ module _ (S : Setting) where
   -- a node u of a tree, with all below it
   pub data In (u : Tree S) : Tree S → Type 0 where
     here : In u u
-    left : {b : ℕ} {k : Cut S} {g : Bool} {l r : Tree S} → In u l → In u (branch b k g l r)
-    right : {b : ℕ} {k : Cut S} {g : Bool} {l r : Tree S} → In u r → In u (branch b k g l r)
+    left : {b : ℕ} {k : Cut S} {l r : Tree S} → In u l → In u (branch b k l r)
+    right : {b : ℕ} {k : Cut S} {l r : Tree S} → In u r → In u (branch b k l r)
 
   pub in-trans : {u s t : Tree S} → In u s → In s t → In u t
   in-trans i here = i
@@ -40,8 +40,8 @@ module _ (S : Setting) where
 
   pub some-in : (P : ℕ → Point → ℕ → Type 0) (t : Tree S) → Some S P t → (i : ℕ) × (q : Point) × (n : ℕ) × In (leaf i q n) t × P i q n
   some-in P (leaf i q n) h = (i, q, n, here, h)
-  some-in P (branch b k g l r) (inl h) = let (i, q, n, e, x) = some-in P l h in (i, q, n, left e, x)
-  some-in P (branch b k g l r) (inr h) = let (i, q, n, e, x) = some-in P r h in (i, q, n, right e, x)
+  some-in P (branch b k l r) (inl h) = let (i, q, n, e, x) = some-in P l h in (i, q, n, left e, x)
+  some-in P (branch b k l r) (inr h) = let (i, q, n, e, x) = some-in P r h in (i, q, n, right e, x)
 
   pub cut-in : {u t : Tree S} → In u t → CutClause S t → CutClause S u
   cut-in here c = c
@@ -50,7 +50,7 @@ module _ (S : Setting) where
 
   pub ending-in : (v : Point) (t : Tree S) → In (leaf (ending S t v .index) (ending S t v .value) (ending S t v .copies)) t
   ending-in v (leaf i q n) = here
-  ending-in v (branch b k g l r) = by-cond (λ (e : Leaf S). In (leaf (e .index) (e .value) (e .copies)) (branch b k g l r)) (below S k v) _ _ (λ _. left (ending-in v l)) (λ _. right (ending-in v r))
+  ending-in v (branch b k l r) = by-cond (λ (e : Leaf S). In (leaf (e .index) (e .value) (e .copies)) (branch b k l r)) (below S k v) _ _ (λ _. left (ending-in v l)) (λ _. right (ending-in v r))
 
 -- in a tree of that capacity
 module _ (S : Setting) (capacity : ℕ) where
@@ -62,7 +62,7 @@ module _ (S : Setting) (capacity : ℕ) where
 
   nodes-id : (t : Tree S) → 0 < nodes t (id S capacity t)
   nodes-id (leaf i q n) = omega (arith, is-same (i + capacity))
-  nodes-id (branch b k g l r) = omega (arith, is-same b)
+  nodes-id (branch b k l r) = omega (arith, is-same b)
 
   pub nodes-in : {u t : Tree S} → In S u t → 0 < nodes t (id S capacity u)
   nodes-in {u} here = nodes-id u
@@ -71,11 +71,11 @@ module _ (S : Setting) (capacity : ℕ) where
 
   pub look-none : (t : Tree S) (x : ℕ) → nodes t x ≡ 0 → look S capacity t x ≡ none
   look-none (leaf i q n) x h = rw (is-zero (i + capacity) x h)
-  look-none (branch b k g l r) x h = rw (is-zero b x (omega arith), look-none l x (omega arith), look-none r x (omega arith))
+  look-none (branch b k l r) x h = rw (is-zero b x (omega arith), look-none l x (omega arith), look-none r x (omega arith))
 
   look-id : (t : Tree S) → look S capacity t (id S capacity t) ≡ some t
   look-id (leaf i q n) = rw (eq-eqb (i + capacity) (i + capacity) refl)
-  look-id (branch b k g l r) = rw (eq-eqb b b refl)
+  look-id (branch b k l r) = rw (eq-eqb b b refl)
 
   pub look-in : {u t : Tree S} → ((x : ℕ) → nodes t x ≤ 1) → In S u t → look S capacity t (id S capacity u) ≡ some u
   look-in {u} h here = look-id u
@@ -88,11 +88,11 @@ module _ (S : Setting) (capacity : ℕ) where
   in-look (leaf i q n) x u = by-cond (λ o. o ≡ some u → In S u (leaf i q n) × (id S capacity u ≡ x)) (eqb (i + capacity) x) _ _
       (λ e h. let z : leaf i q n ≡ u = cc in subst (λ w. In S w (leaf i q n) × (id S capacity w ≡ x)) z (here, eqb-true (i + capacity) x e))
       (λ _ h. nonsense (cc))
-  in-look (branch b k g l r) x u = by-cond (λ o. o ≡ some u → In S u (branch b k g l r) × (id S capacity u ≡ x)) (eqb b x) _ _
-      (λ e h. let z : branch b k g l r ≡ u = cc in subst (λ w. In S w (branch b k g l r) × (id S capacity w ≡ x)) z (here, eqb-true b x e))
+  in-look (branch b k l r) x u = by-cond (λ o. o ≡ some u → In S u (branch b k l r) × (id S capacity u ≡ x)) (eqb b x) _ _
+      (λ e h. let z : branch b k l r ≡ u = cc in subst (λ w. In S w (branch b k l r) × (id S capacity w ≡ x)) z (here, eqb-true b x e))
       (λ _. go (look S capacity l x) (in-look l x u) (in-look r x u))
     where
-      go : (o : Option (Tree S)) → (o ≡ some u → In S u l × (id S capacity u ≡ x)) → (look S capacity r x ≡ some u → In S u r × (id S capacity u ≡ x)) → orElse S o (look S capacity r x) ≡ some u → In S u (branch b k g l r) × (id S capacity u ≡ x)
+      go : (o : Option (Tree S)) → (o ≡ some u → In S u l × (id S capacity u ≡ x)) → (look S capacity r x ≡ some u → In S u r × (id S capacity u ≡ x)) → orElse S o (look S capacity r x) ≡ some u → In S u (branch b k l r) × (id S capacity u ≡ x)
       go none f h e = (right (h e .0), h e .1)
       go (some t) f h e = (left (f e .0), f e .1)
 
@@ -103,7 +103,7 @@ module _ (S : Setting) (capacity : ℕ) where
       let y : x - capacity ≡ i = omega arith in
       rw (e, le-ltb x capacity (omega arith), y) (omega (arith, is-same i)))
       (λ e. rw e (omega arith))
-  nodes-split (branch b k g l r) x = by-test (ltb x capacity)
+  nodes-split (branch b k l r) x = by-test (ltb x capacity)
       (λ e. let y = rw e at (nodes-split l x) in let z = rw e at (nodes-split r x) in rw e (omega (arith, y, z)))
       (λ e. let y = rw e at (nodes-split l x) in let z = rw e at (nodes-split r x) in rw e (omega (arith, y, z)))
 
@@ -115,11 +115,11 @@ module _ (S : Setting) (capacity : ℕ) where
         let y : q ≡ v = cc (sym h ∙ ap f z ∙ e) in
         rw (y, L .same-refl v) (at-most-one (eqb i j)))
         (λ a. rw a (omega arith))
-    indexed-some f (branch b k g l r) j v e h = omega (arith, indexed-some f l j v e (h .0), indexed-some f r j v e (h .1))
+    indexed-some f (branch b k l r) j v e h = omega (arith, indexed-some f l j v e (h .0), indexed-some f r j v e (h .1))
 
     indexed-none : (f : ℕ → Option Point) (t : Tree S) (j : ℕ) → f j ≡ none → All S (λ i q n. f i ≡ some q) t → sum S (λ i q n. is i j) (λ b. 0) t ≡ 0
     indexed-none f (leaf i q n) j e h = is-other i j (λ a. let z : _≡_ {A = ℕ} 0 1 = cc (sym (ap f a) ∙ h) in omega arith)
-    indexed-none f (branch b k g l r) j e h = omega (arith, indexed-none f l j e (h .0), indexed-none f r j e (h .1))
+    indexed-none f (branch b k l r) j e h = omega (arith, indexed-none f l j e (h .0), indexed-none f r j e (h .1))
 
     module _ (f : ℕ → Option Point) (t : Tree S) (u : List (ℕ × ℕ)) (H : Sound S capacity (record { table = f; tree = some t; free = u })) where
       pub indexed-one : (j : ℕ) → sum S (λ i q n. is i j) (λ b. 0) t ≤ 1

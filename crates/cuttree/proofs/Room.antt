@@ -1,6 +1,6 @@
 -- What a sound world has room for: the numbers in use and the next one, the indices of leaves, and whether the tree is full.
 use mathlib.Core.Path.{_≡_, refl, sym, _∙_, subst}
-use mathlib.Core.Bool.{Bool, false, cond}
+use mathlib.Core.Bool.{false, cond}
 use mathlib.Core.Option.{Option, some}
 use mathlib.Core.List.{List, [], _∷_}
 use Prim.Native.Nat.{ℕ, suc, _+_, _-_, _≤_, _<_}
@@ -29,7 +29,7 @@ module _ (S : Setting) where
   abbrev pub indexed : Tree S → ℕ → ℕ
   indexed t j = sum S (λ i q n. is i j) (λ b. 0) t
 
-  pub uses-in : {b : ℕ} {k : Cut S} {g : Bool} {l r t : Tree S} → In S (branch b k g l r) t → 0 < uses t b
+  pub uses-in : {b : ℕ} {k : Cut S} {l r t : Tree S} → In S (branch b k l r) t → 0 < uses t b
   uses-in {b} here = omega (arith, is-same b)
   uses-in (left i) = omega (arith, uses-in i)
   uses-in (right i) = omega (arith, uses-in i)
@@ -44,7 +44,7 @@ module _ (S : Setting) where
   find-leaf (leaf i q n) j h = by-test (eqb i j)
       (λ e. (q, n, subst (λ x. In S (leaf x q n) (leaf i q n)) (eqb-true i j e) here))
       (λ e. let z = rw e at h in absurd (omega (arith, z)))
-  find-leaf (branch b k g l r) j h = by-test (ltb 0 (indexed l j))
+  find-leaf (branch b k l r) j h = by-test (ltb 0 (indexed l j))
       (λ m. let (q, n, i) = find-leaf l j (ltb-true 0 (indexed l j) m) in (q, n, left i))
       (λ m. let (q, n, i) = find-leaf r j (omega (arith, ltb-false 0 (indexed l j) m)) in (q, n, right i))
 
@@ -55,7 +55,7 @@ module _ (S : Setting) where
 
     pub at-none : (t : Tree S) (j : ℕ) → indexed t j ≡ 0 → atIndex t j ≡ 0
     at-none (leaf i q n) j h = rw (is-zero i j h)
-    at-none (branch b k d l r) j h = omega (arith, at-none l j (omega arith), at-none r j (omega arith))
+    at-none (branch b k l r) j h = omega (arith, at-none l j (omega arith), at-none r j (omega arith))
 
     pub at-leaf : {i : ℕ} {q : Point} {n : ℕ} {t : Tree S} → In S (leaf i q n) t → indexed t i ≤ 1 → atIndex t i ≡ g n
     at-leaf {i} here h = rw (eq-eqb i i refl)
@@ -65,7 +65,7 @@ module _ (S : Setting) where
   -- an index is a leaf's exactly when it has copies
   indexed-copies : (t : Tree S) (j : ℕ) → Filled S t → indexed t j ≤ atIndex (λ n. n) t j
   indexed-copies (leaf i q n) j h = by-test (eqb i j) (λ e. rw e (omega arith)) (λ e. rw e (omega arith))
-  indexed-copies (branch b k g l r) j h = omega (arith, indexed-copies l j (h .0), indexed-copies r j (h .1))
+  indexed-copies (branch b k l r) j h = omega (arith, indexed-copies l j (h .0), indexed-copies r j (h .1))
 
   pub leaf-copies : (t : Tree S) (j : ℕ) → Filled S t → ltb 0 (indexed t j) ≡ ltb 0 (atIndex (λ n. n) t j)
   leaf-copies t j h = by-test (ltb 0 (indexed t j))

@@ -24,13 +24,13 @@ module _ (S : Setting) (capacity : ℕ) where
   -- how often an id is a child's
   abbrev parents : Tree S → ℕ → ℕ
   parents (leaf i q n) x = 0
-  parents (branch b k g l r) x = is (id S capacity l) x + is (id S capacity r) x + (parents l x + parents r x)
+  parents (branch b k l r) x = is (id S capacity l) x + is (id S capacity r) x + (parents l x + parents r x)
 
   nodes-parents : (t : Tree S) (x : ℕ) → nodes S capacity t x ≡ is (id S capacity t) x + parents t x
   nodes-parents (leaf i q n) x = omega arith
-  nodes-parents (branch b k g l r) x = omega (arith, nodes-parents l x, nodes-parents r x)
+  nodes-parents (branch b k l r) x = omega (arith, nodes-parents l x, nodes-parents r x)
 
-  child-counted : {b : ℕ} {k : Cut S} {g : Bool} {l r t : Tree S} (c : Bool) → In S (branch b k g l r) t → 0 < parents t (id S capacity (cond c l r))
+  child-counted : {b : ℕ} {k : Cut S} {l r t : Tree S} (c : Bool) → In S (branch b k l r) t → 0 < parents t (id S capacity (cond c l r))
   child-counted {l = l} true here = omega (arith, is-same (id S capacity l))
   child-counted {r = r} false here = omega (arith, is-same (id S capacity r))
   child-counted true (left i) = omega (arith, child-counted true i)
@@ -45,13 +45,13 @@ module _ (S : Setting) (capacity : ℕ) where
 
   abbrev parentOf : Tree S → ℕ → Option (ℕ × Bool)
   parentOf (leaf i q n) x = none
-  parentOf (branch b k g l r) x = cond (eqb (id S capacity l) x) (some (b, true)) (cond (eqb (id S capacity r) x) (some (b, false)) (orOther (parentOf l x) (parentOf r x)))
+  parentOf (branch b k l r) x = cond (eqb (id S capacity l) x) (some (b, true)) (cond (eqb (id S capacity r) x) (some (b, false)) (orOther (parentOf l x) (parentOf r x)))
 
   parent-none : (t : Tree S) (x : ℕ) → parents t x ≡ 0 → parentOf t x ≡ none
   parent-none (leaf i q n) x h = refl
-  parent-none (branch b k g l r) x h = rw (is-zero (id S capacity l) x (omega arith), is-zero (id S capacity r) x (omega arith), parent-none l x (omega arith), parent-none r x (omega arith))
+  parent-none (branch b k l r) x h = rw (is-zero (id S capacity l) x (omega arith), is-zero (id S capacity r) x (omega arith), parent-none l x (omega arith), parent-none r x (omega arith))
 
-  parent-in : {b : ℕ} {k : Cut S} {g : Bool} {l r t : Tree S} (c : Bool) → ((x : ℕ) → parents t x ≤ 1) → In S (branch b k g l r) t → parentOf t (id S capacity (cond c l r)) ≡ some (b, c)
+  parent-in : {b : ℕ} {k : Cut S} {l r t : Tree S} (c : Bool) → ((x : ℕ) → parents t x ≤ 1) → In S (branch b k l r) t → parentOf t (id S capacity (cond c l r)) ≡ some (b, c)
   parent-in {l = l} true h here = rw (eq-eqb (id S capacity l) (id S capacity l) refl)
   parent-in {l = l} {r = r} false h here = rw (is-zero (id S capacity l) (id S capacity r) (omega (arith, h (id S capacity r), is-same (id S capacity r))), eq-eqb (id S capacity r) (id S capacity r) refl)
   parent-in {l = m} {r = n} c h (left {l = l} {r = r} i) =
@@ -69,15 +69,15 @@ module _ (S : Setting) (capacity : ℕ) where
     parents-one x = omega (arith, nodes-parents t x, nodes-one S capacity L f t u (I .sound) x)
 
     parent-is : (y : ℕ) (c : Bool) (z : ℕ) → Child S G y c z → parentOf t z ≡ some (y, c)
-    parent-is = by-child S capacity L f t u K I (λ y c z. parentOf t z ≡ some (y, c)) (λ b k g l r c i. parent-in c parents-one i)
+    parent-is = by-child S capacity L f t u K I (λ y c z. parentOf t z ≡ some (y, c)) (λ b k l r c i. parent-in c parents-one i)
 
     root-counted : (y : ℕ) (c : Bool) (z : ℕ) → Child S G y c z → 0 < parents t z
-    root-counted = by-child S capacity L f t u K I (λ y c z. 0 < parents t z) (λ b k g l r c i. child-counted c i)
+    root-counted = by-child S capacity L f t u K I (λ y c z. 0 < parents t z) (λ b k l r c i. child-counted c i)
 
     abbrev Parent : ℕ → Type 0
     Parent x = (y : ℕ) × (c : Bool) × Child S G y c x
 
-    from-side : {b : ℕ} {k : Cut S} {g : Bool} {l r : Tree S} (c : Bool) (x : ℕ) → In S (branch b k g l r) t → (x ≡ id S capacity (cond c l r)) ⊎ Parent x → Parent x
+    from-side : {b : ℕ} {k : Cut S} {l r : Tree S} (c : Bool) (x : ℕ) → In S (branch b k l r) t → (x ≡ id S capacity (cond c l r)) ⊎ Parent x → Parent x
     from-side {b} c x h (inl e) = (b, c, subst (λ y. Child S G b c y) (sym e) (child-asked S capacity L f t u K I c h))
     from-side c x h (inr y) = y
 

@@ -20,8 +20,8 @@ use Rattle.cuttree.proofs.Keeps.{Inv}
 module _ (S : Setting) (capacity : ℕ) where
   open Setting S using (Point)
 
-  abbrev pub rowOf : ℕ → Cut S → Bool → Tree S → Tree S → Row S
-  rowOf b k g l r = record { cut = k; left = id S capacity l; right = id S capacity r; mass = mass S (branch b k g l r) }
+  abbrev pub rowOf : ℕ → Cut S → Tree S → Tree S → Row S
+  rowOf b k l r = record { cut = k; left = id S capacity l; right = id S capacity r; mass = mass S (branch b k l r) }
 
   abbrev pub boxAt : Tree S → Box S
   boxAt t = record { lower = lo S t; upper = hi S t }
@@ -37,15 +37,15 @@ module _ (S : Setting) (capacity : ℕ) where
     pub leaf-asked : {i : ℕ} {q : Point} {n : ℕ} → In S (leaf i q n) t → IsLeaf S G (i + capacity) n
     leaf-asked i = ap (copiesFound S) (found-at i)
 
-    pub branch-asked : {b : ℕ} {k : Cut S} {g : Bool} {l r : Tree S} → In S (branch b k g l r) t → IsBranch S G b (rowOf b k g l r)
+    pub branch-asked : {b : ℕ} {k : Cut S} {l r : Tree S} → In S (branch b k l r) t → IsBranch S G b (rowOf b k l r)
     branch-asked i = ap (branchFound S capacity) (found-at i)
 
-    pub box-asked : {b : ℕ} {k : Cut S} {g : Bool} {l r : Tree S} → In S (branch b k g l r) t → G .asked (boxOf b) ≡ boxIs (boxAt (branch b k g l r))
+    pub box-asked : {b : ℕ} {k : Cut S} {l r : Tree S} → In S (branch b k l r) t → G .asked (boxOf b) ≡ boxIs (boxAt (branch b k l r))
     box-asked i = ap (boxFound S) (found-at i)
 
     pub node-asked : (s : Tree S) → In S s t → IsNode S G (id S capacity s)
     node-asked (leaf i q n) h = inl (n, leaf-asked h)
-    node-asked (branch b k g l r) h = inr (rowOf b k g l r, branch-asked h)
+    node-asked (branch b k l r) h = inr (rowOf b k l r, branch-asked h)
 
     -- ONLY SO: an id that a query answers is a node's
     pub by-leaf : (P : ℕ → ℕ → Type 0) → ((i : ℕ) (q : Point) (n : ℕ) → In S (leaf i q n) t → P (i + capacity) n) → (x n : ℕ) → IsLeaf S G x n → P x n
@@ -54,27 +54,27 @@ module _ (S : Setting) (capacity : ℕ) where
         go : (o : Option (Tree S)) → look S capacity t x ≡ o → copiesFound S o ≡ copiesAre n → P x n
         go none e a = nonsense (cc)
         go (some (leaf i q m)) e a = let y = in-look S capacity t x (leaf i q m) e in let z : m ≡ n = cc in subst (λ j. P x j) z (subst (λ j. P j m) (y .1) (h i q m (y .0)))
-        go (some (branch b k g l r)) e a = nonsense (cc)
+        go (some (branch b k l r)) e a = nonsense (cc)
 
-    pub by-branch : (P : ℕ → Row S → Type 0) → ((b : ℕ) (k : Cut S) (g : Bool) (l r : Tree S) → In S (branch b k g l r) t → P b (rowOf b k g l r)) → (x : ℕ) (w : Row S) → IsBranch S G x w → P x w
+    pub by-branch : (P : ℕ → Row S → Type 0) → ((b : ℕ) (k : Cut S) (l r : Tree S) → In S (branch b k l r) t → P b (rowOf b k l r)) → (x : ℕ) (w : Row S) → IsBranch S G x w → P x w
     by-branch P h x w = go (look S capacity t x) refl
       where
         go : (o : Option (Tree S)) → look S capacity t x ≡ o → branchFound S capacity o ≡ branchIs w → P x w
         go none e a = nonsense (cc)
         go (some (leaf i q m)) e a = nonsense (cc)
-        go (some (branch b k g l r)) e a = let y = in-look S capacity t x (branch b k g l r) e in let z : rowOf b k g l r ≡ w = cc in subst (λ j. P x j) z (subst (λ j. P j (rowOf b k g l r)) (y .1) (h b k g l r (y .0)))
+        go (some (branch b k l r)) e a = let y = in-look S capacity t x (branch b k l r) e in let z : rowOf b k l r ≡ w = cc in subst (λ j. P x j) z (subst (λ j. P j (rowOf b k l r)) (y .1) (h b k l r (y .0)))
 
-    pub by-box : (P : ℕ → Box S → Type 0) → ((b : ℕ) (k : Cut S) (g : Bool) (l r : Tree S) → In S (branch b k g l r) t → P b (boxAt (branch b k g l r))) → (x : ℕ) (w : Box S) → G .asked (boxOf x) ≡ boxIs w → P x w
+    pub by-box : (P : ℕ → Box S → Type 0) → ((b : ℕ) (k : Cut S) (l r : Tree S) → In S (branch b k l r) t → P b (boxAt (branch b k l r))) → (x : ℕ) (w : Box S) → G .asked (boxOf x) ≡ boxIs w → P x w
     by-box P h x w = go (look S capacity t x) refl
       where
         go : (o : Option (Tree S)) → look S capacity t x ≡ o → boxFound S o ≡ boxIs w → P x w
         go none e a = nonsense (cc)
         go (some (leaf i q m)) e a = nonsense (cc)
-        go (some (branch b k g l r)) e a = let y = in-look S capacity t x (branch b k g l r) e in let z : boxAt (branch b k g l r) ≡ w = cc in subst (λ j. P x j) z (subst (λ j. P j (boxAt (branch b k g l r))) (y .1) (h b k g l r (y .0)))
+        go (some (branch b k l r)) e a = let y = in-look S capacity t x (branch b k l r) e in let z : boxAt (branch b k l r) ≡ w = cc in subst (λ j. P x j) z (subst (λ j. P j (boxAt (branch b k l r))) (y .1) (h b k l r (y .0)))
 
     pub node-found : (x : ℕ) → IsNode S G x → (s : Tree S) × In S s t × (id S capacity s ≡ x)
     node-found x (inl (n, h)) = by-leaf (λ x n. (s : Tree S) × In S s t × (id S capacity s ≡ x)) (λ i q n e. (leaf i q n, e, refl)) x n h
-    node-found x (inr (w, h)) = by-branch (λ x w. (s : Tree S) × In S s t × (id S capacity s ≡ x)) (λ b k g l r e. (branch b k g l r, e, refl)) x w h
+    node-found x (inr (w, h)) = by-branch (λ x w. (s : Tree S) × In S s t × (id S capacity s ≡ x)) (λ b k l r e. (branch b k l r, e, refl)) x w h
 
     -- a leaf's value is the point kept
     pub kept-at : {i : ℕ} {q : Point} {n : ℕ} → In S (leaf i q n) t → K .kept (i + capacity - capacity) ≡ some q
@@ -87,7 +87,7 @@ module _ (S : Setting) (capacity : ℕ) where
     by-leaf-of P h x n q a = by-leaf (λ x n. G .value x ≡ some q → P x n q) (λ i v m e g. let z : v ≡ q = cc (kept-at e) in subst (λ w. P (i + capacity) m w) z (h i v m e)) x n (a .0) (a .1)
 
     -- CHILDREN AND WHAT IS REACHED
-    pub side-in : {b : ℕ} {k : Cut S} {g : Bool} {l r : Tree S} (c : Bool) → In S (cond c l r) (branch b k g l r)
+    pub side-in : {b : ℕ} {k : Cut S} {l r : Tree S} (c : Bool) → In S (cond c l r) (branch b k l r)
     side-in true = left In.here
     side-in false = right In.here
 
@@ -95,11 +95,11 @@ module _ (S : Setting) (capacity : ℕ) where
     side-id true l r = refl
     side-id false l r = refl
 
-    pub child-asked : {b : ℕ} {k : Cut S} {g : Bool} {l r : Tree S} (c : Bool) → In S (branch b k g l r) t → Child S G b c (id S capacity (cond c l r))
-    child-asked {b} {k} {g} {l} {r} c h = (rowOf b k g l r, branch-asked h, side-id c l r)
+    pub child-asked : {b : ℕ} {k : Cut S} {l r : Tree S} (c : Bool) → In S (branch b k l r) t → Child S G b c (id S capacity (cond c l r))
+    child-asked {b} {k} {l} {r} c h = (rowOf b k l r, branch-asked h, side-id c l r)
 
-    pub by-child : (P : ℕ → Bool → ℕ → Type 0) → ((b : ℕ) (k : Cut S) (g : Bool) (l r : Tree S) (c : Bool) → In S (branch b k g l r) t → P b c (id S capacity (cond c l r))) → (x : ℕ) (c : Bool) (y : ℕ) → Child S G x c y → P x c y
-    by-child P h x c y (w, a, e) = subst (λ j. P x c j) e (by-branch (λ x w. P x c (cond c (w .left) (w .right))) (λ b k g l r i. subst (λ j. P b c j) (sym (side-id c l r)) (h b k g l r c i)) x w a)
+    pub by-child : (P : ℕ → Bool → ℕ → Type 0) → ((b : ℕ) (k : Cut S) (l r : Tree S) (c : Bool) → In S (branch b k l r) t → P b c (id S capacity (cond c l r))) → (x : ℕ) (c : Bool) (y : ℕ) → Child S G x c y → P x c y
+    by-child P h x c y (w, a, e) = subst (λ j. P x c j) e (by-branch (λ x w. P x c (cond c (w .left) (w .right))) (λ b k l r i. subst (λ j. P b c j) (sym (side-id c l r)) (h b k l r c i)) x w a)
 
     pub in-reached : {v s : Tree S} → In S v s → In S s t → Reached S G (id S capacity s) (id S capacity v)
     in-reached In.here h = here
@@ -110,8 +110,8 @@ module _ (S : Setting) (capacity : ℕ) where
     reached-in here s h e = (s, In.here, e)
     reached-in {y = z} (down {x} {y} c a i) s h e =
         by-child (λ x c y. id S capacity s ≡ x → ((s : Tree S) → In S s t → id S capacity s ≡ y → (v : Tree S) × In S v s × (id S capacity v ≡ z)) → (v : Tree S) × In S v s × (id S capacity v ≡ z))
-        (λ b k g l r c j d ih.
-        let (v, m, n) = ih (cond c l r) (in-trans S (side-in {b = b} {k = k} {g = g} c) j) refl in
+        (λ b k l r c j d ih.
+        let (v, m, n) = ih (cond c l r) (in-trans S (side-in {b = b} {k = k} c) j) refl in
         (v, subst (λ w. In S v w) (sym (node-one S capacity L f t u (I .sound) h j d)) (in-trans S m (side-in c)), n))
         x c y a e (λ s h e. reached-in i s h e)
 
@@ -128,5 +128,5 @@ module _ (S : Setting) (capacity : ℕ) where
     pub walk-asked : (v : Point) (s : Tree S) → In S s t → Walk S G v (id S capacity s) (walk S s v)
     walk-asked v = along S (λ s. In S s t → Walk S G v (id S capacity s) (walk S s v)) v
         (λ i q n h. ends (leaf-asked h))
-        (λ b k g l r ih h. subst (λ m. Walk S G v b (suc m)) (sym (height-step S b k g l r v))
-        (goes (rowOf b k g l r) (branch-asked h) (side-id (below S k v) l r) (ih (in-trans S (side-in {b = b} {k = k} {g = g} (below S k v)) h))))
+        (λ b k l r ih h. subst (λ m. Walk S G v b (suc m)) (sym (height-step S b k l r v))
+        (goes (rowOf b k l r) (branch-asked h) (side-id (below S k v) l r) (ih (in-trans S (side-in {b = b} {k = k} (below S k v)) h))))

@@ -21,12 +21,12 @@ module _ (S : Setting) where
   -- insertion looks at a word for each node of the walk
   pub insert-words : (b i : ℕ) (p : Point) (w v : ℕ → Word) (t : Tree S) → ((m : ℕ) → m ≤ height S t p → w m ≡ v m) → insert S b i p w t ≡ insert S b i p v t
   insert-words b i p w v (leaf j q n) h = ap (λ x. above S b (drawn S (leaf j q n) p x) i p (leaf j q n)) (h 0 (omega arith))
-  insert-words b i p w v (branch a k g l r) h =
-      let t = branch a k g l r in
-      ap (λ x. cond (parted S t p x) (above S b (drawn S t p x) i p t) (cond (below S k p) (branch a k g (insert S b i p w l) r) (branch a k g l (insert S b i p w r)))) (h (height S t p) (omega arith))
+  insert-words b i p w v (branch a k l r) h =
+      let t = branch a k l r in
+      ap (λ x. cond (parted S t p x) (above S b (drawn S t p x) i p t) (cond (below S k p) (branch a k (insert S b i p w l) r) (branch a k l (insert S b i p w r)))) (h (height S t p) (omega arith))
       ∙ ap (λ x. cond (parted S t p (v (height S t p))) (above S b (drawn S t p (v (height S t p))) i p t) x) (by-test (below S k p)
-      (λ e. cond-true _ _ _ e ∙ ap (λ x. branch a k g x r) (insert-words b i p w v l (λ m y. h m (omega (arith, ap suc (cond-true (below S k p) (height S l p) (height S r p) e))))) ∙ sym (cond-true _ _ _ e))
-      (λ e. cond-false _ _ _ e ∙ ap (λ x. branch a k g l x) (insert-words b i p w v r (λ m y. h m (omega (arith, ap suc (cond-false (below S k p) (height S l p) (height S r p) e))))) ∙ sym (cond-false _ _ _ e)))
+      (λ e. cond-true _ _ _ e ∙ ap (λ x. branch a k x r) (insert-words b i p w v l (λ m y. h m (omega (arith, ap suc (cond-true (below S k p) (height S l p) (height S r p) e))))) ∙ sym (cond-true _ _ _ e))
+      (λ e. cond-false _ _ _ e ∙ ap (λ x. branch a k l x) (insert-words b i p w v r (λ m y. h m (omega (arith, ap suc (cond-false (below S k p) (height S l p) (height S r p) e))))) ∙ sym (cond-false _ _ _ e)))
 
   with-point : (W : World S) (o : Option Point) (g h : Point → Answer S × World S) → ((p : Point) → g p ≡ h p) → withPoint S W o g ≡ withPoint S W o h
   with-point W none g h e = refl

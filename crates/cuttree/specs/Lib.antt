@@ -2,6 +2,7 @@ pub mod Setting
 pub mod Tree
 pub mod Walk
 pub mod Run
+pub mod Masses
 pub mod Sound
 pub mod Counts
 pub mod Graph

@@ -117,12 +117,12 @@ module _ (S : Setting) where
   abbrev pub copiesFound : Option (Tree S) → Answer
   copiesFound none = refused noSuchNode
   copiesFound (some (leaf i q n)) = copiesAre n
-  copiesFound (some (branch b k g l r)) = refused noSuchNode
+  copiesFound (some (branch b k l r)) = refused noSuchNode
 
   abbrev pub boxFound : Option (Tree S) → Answer
   boxFound none = refused noSuchNode
   boxFound (some (leaf i q n)) = refused noSuchNode
-  boxFound (some (branch b k g l r)) = boxIs (record { lower = lo S (branch b k g l r); upper = hi S (branch b k g l r) })
+  boxFound (some (branch b k l r)) = boxIs (record { lower = lo S (branch b k l r); upper = hi S (branch b k l r) })
 
   -- a tree of capacity c
   module _ (c : ℕ) where
@@ -141,7 +141,7 @@ module _ (S : Setting) where
     -- the node of an id, if the tree has it
     abbrev pub look : Tree S → ℕ → Option (Tree S)
     look (leaf i q n) x = cond (eqb (i + c) x) (some (leaf i q n)) none
-    look (branch b k g l r) x = cond (eqb b x) (some (branch b k g l r)) (orElse (look l x) (look r x))
+    look (branch b k l r) x = cond (eqb b x) (some (branch b k l r)) (orElse (look l x) (look r x))
 
     abbrev pub lookIn : Option (Tree S) → ℕ → Option (Tree S)
     lookIn none x = none
@@ -150,7 +150,7 @@ module _ (S : Setting) where
     abbrev pub branchFound : Option (Tree S) → Answer
     branchFound none = refused noSuchNode
     branchFound (some (leaf i q n)) = refused noSuchNode
-    branchFound (some (branch b k g l r)) = branchIs (record { cut = k; left = id S c l; right = id S c r; mass = mass S (branch b k g l r) })
+    branchFound (some (branch b k l r)) = branchIs (record { cut = k; left = id S c l; right = id S c r; mass = mass S (branch b k l r) })
 
     abbrev pub ask : World → Query → Answer
     ask W (copiesOf x) = copiesFound (lookIn (W .tree) x)

@@ -11,22 +11,18 @@ use Rattle.cuttree.specs.Setting.{Setting, Cut, below, parts}
 abbrev pub is : ℕ → ℕ → ℕ
 is a b = cond (eqb a b) 1 0
 
--- "A leaf of k copies has Rust mass 1 for k = 1, otherwise k − 1"
-abbrev pub leafMass : ℕ → ℕ
-leafMass k = cond (eqb k 1) 1 (k - 1)
-
 module _ (S : Setting) where
   open Setting S using (Coord, Chan, Point, Word, le, at, same, draw)
 
-  -- A leaf has its point's index, the point and the copies. A branch has its number, its cut, whether its mass lags, and its sides.
+  -- A leaf has its point's index, the point and the copies. A branch has its number, its cut and its sides.
   pub data Tree : Type 0 where
     leaf : ℕ → Point → ℕ → Tree
-    branch : ℕ → Cut S → Bool → Tree → Tree → Tree
+    branch : ℕ → Cut S → Tree → Tree → Tree
 
   -- "a leaf's id is its point index plus c"
   abbrev pub id : ℕ → Tree → ℕ
   id c (leaf i q n) = i + c
-  id c (branch b k g l r) = b
+  id c (branch b k l r) = b
 
   -- THE BOX: in each channel from the least to the largest coordinate of the leaves
   abbrev pub least : Coord → Coord → Coord
@@ -38,7 +34,7 @@ module _ (S : Setting) where
   -- the end that m picks, `least` or `most`
   abbrev pub end : (Coord → Coord → Coord) → Tree → Chan → Coord
   end m (leaf i q n) d = at q d
-  end m (branch b k g l r) d = m (end m l d) (end m r d)
+  end m (branch b k l r) d = m (end m l d) (end m r d)
 
   abbrev pub lo : Tree → Chan → Coord
   lo t d = end least t d
@@ -54,12 +50,12 @@ module _ (S : Setting) where
 
   abbrev pub ending : Tree → Point → Leaf
   ending (leaf i q n) p = record { index = i; value = q; copies = n }
-  ending (branch b k g l r) p = cond (below S k p) (ending l p) (ending r p)
+  ending (branch b k l r) p = cond (below S k p) (ending l p) (ending r p)
 
   -- the nodes below a tree's root on the walk; all of the walk's nodes, "both counted; a lone leaf is one node"
   abbrev pub height : Tree → Point → ℕ
   height (leaf i q n) p = 0
-  height (branch b k g l r) p = suc (cond (below S k p) (height l p) (height r p))
+  height (branch b k l r) p = suc (cond (below S k p) (height l p) (height r p))
 
   abbrev pub walk : Tree → Point → ℕ
   walk t p = suc (height t p)
@@ -71,27 +67,19 @@ module _ (S : Setting) where
   -- SUMS over a tree: f of each leaf, g of each branch's number
   abbrev pub sum : (ℕ → Point → ℕ → ℕ) → (ℕ → ℕ) → Tree → ℕ
   sum f g (leaf i q n) = f i q n
-  sum f g (branch b k d l r) = g b + (sum f g l + sum f g r)
+  sum f g (branch b k l r) = g b + (sum f g l + sum f g r)
 
   abbrev pub leaves : Tree → ℕ
   leaves t = sum (λ i q n. 1) (λ b. 0) t
 
-  abbrev pub total : Tree → ℕ
-  total t = sum (λ i q n. n) (λ b. 0) t
+  -- THE MASS, all copies: "A leaf's mass becomes its copies, a branch's mass the sum of its sides" (request A.2). `MassLaws` (Masses.antt)
+  -- says so.
+  abbrev pub mass : Tree → ℕ
+  mass t = sum (λ i q n. n) (λ b. 0) t
 
   -- the copies of a value
   abbrev pub copies : Tree → Point → ℕ
   copies t v = sum (λ i q n. cond (same q v) n 0) (λ b. 0) t
-
-  -- THE MASS, as the Rust has it: a leaf's, "and a branch made above it inherits this". So one copy is missing from a mass, or none, and a
-  -- branch keeps which from the day that it is made.
-  abbrev pub lags : Tree → Bool
-  lags (leaf i q n) = ltb 1 n
-  lags (branch b k g l r) = g
-
-  abbrev pub mass : Tree → ℕ
-  mass (leaf i q n) = leafMass n
-  mass (branch b k g l r) = total (branch b k g l r) - cond g 1 0
 
   -- INSERTION: "a new reading enters at the highest box from which a drawn cut parts it"
   abbrev pub drawn : Tree → Point → Word → Cut S
@@ -102,20 +90,20 @@ module _ (S : Setting) where
 
   -- the new branch b stands above t, the new leaf on its side of the cut
   abbrev pub above : ℕ → Cut S → ℕ → Point → Tree → Tree
-  above b k i p t = cond (below S k p) (branch b k (lags t) (leaf i p 1) t) (branch b k (lags t) t (leaf i p 1))
+  above b k i p t = cond (below S k p) (branch b k (leaf i p 1) t) (branch b k t (leaf i p 1))
 
   -- "one word for each node from the leaf to the root": a node's word is that of its height
   abbrev pub insert : ℕ → ℕ → Point → (ℕ → Word) → Tree → Tree
   insert b i p w (leaf j q n) = above b (drawn (leaf j q n) p (w 0)) i p (leaf j q n)
-  insert b i p w (branch a k g l r) =
-      cond (parted (branch a k g l r) p (w (height (branch a k g l r) p)))
-      (above b (drawn (branch a k g l r) p (w (height (branch a k g l r) p))) i p (branch a k g l r))
-      (cond (below S k p) (branch a k g (insert b i p w l) r) (branch a k g l (insert b i p w r)))
+  insert b i p w (branch a k l r) =
+      cond (parted (branch a k l r) p (w (height (branch a k l r) p)))
+      (above b (drawn (branch a k l r) p (w (height (branch a k l r) p))) i p (branch a k l r))
+      (cond (below S k p) (branch a k (insert b i p w l) r) (branch a k l (insert b i p w r)))
 
   -- "one copy more"
   abbrev pub addCopy : Point → Tree → Tree
   addCopy p (leaf i q n) = leaf i q (suc n)
-  addCopy p (branch b k g l r) = cond (below S k p) (branch b k g (addCopy p l) r) (branch b k g l (addCopy p r))
+  addCopy p (branch b k l r) = cond (below S k p) (branch b k (addCopy p l) r) (branch b k l (addCopy p r))
 
   -- FORGETTING: "one copy less; at the last copy the sibling replaces the parent"
   abbrev pub orLifted : Option Tree → (Tree → Tree) → Tree → Tree
@@ -124,8 +112,8 @@ module _ (S : Setting) where
 
   abbrev pub forget : Point → Tree → Option Tree
   forget p (leaf i q n) = cond (ltb 1 n) (some (leaf i q (n - 1))) none
-  forget p (branch b k g l r) =
-      some (cond (below S k p) (orLifted (forget p l) (λ t. branch b k g t r) r) (orLifted (forget p r) (λ t. branch b k g l t) l))
+  forget p (branch b k l r) =
+      some (cond (below S k p) (orLifted (forget p l) (λ t. branch b k t r) r) (orLifted (forget p r) (λ t. branch b k l t) l))
 
   -- the number of the branch that goes with the last copy
   abbrev pub orParent : Option Tree → ℕ → Option ℕ → Option ℕ
@@ -134,16 +122,16 @@ module _ (S : Setting) where
 
   abbrev pub freed : Point → Tree → Option ℕ
   freed p (leaf i q n) = none
-  freed p (branch b k g l r) = cond (below S k p) (orParent (forget p l) b (freed p l)) (orParent (forget p r) b (freed p r))
+  freed p (branch b k l r) = cond (below S k p) (orParent (forget p l) b (freed p l)) (orParent (forget p r) b (freed p r))
 
   -- EVERY LEAF, SOME LEAF
   abbrev pub All : (ℕ → Point → ℕ → Type 0) → Tree → Type 0
   All P (leaf i q n) = P i q n
-  All P (branch b k g l r) = All P l × All P r
+  All P (branch b k l r) = All P l × All P r
 
   abbrev pub Some : (ℕ → Point → ℕ → Type 0) → Tree → Type 0
   Some P (leaf i q n) = P i q n
-  Some P (branch b k g l r) = Some P l ⊎ Some P r
+  Some P (branch b k l r) = Some P l ⊎ Some P r
 
   -- THE CUT CLAUSE: "at every branch, readings at or below the cut lie left and all others right"
   abbrev pub Side : Cut S → Bool → Tree → Type 0
@@ -151,7 +139,7 @@ module _ (S : Setting) where
 
   abbrev pub CutClause : Tree → Type 0
   CutClause (leaf i q n) = Unit {0}
-  CutClause (branch b k g l r) = Side k true l × Side k false r × CutClause l × CutClause r
+  CutClause (branch b k l r) = Side k true l × Side k false r × CutClause l × CutClause r
 
   -- A TREE OR NONE: what holds of the tree if there is one; a sum over it
   abbrev pub OfTree : (Tree → Type 0) → Option Tree → Type 0

@@ -11,19 +11,19 @@ module _ (S : Setting) where
   -- the walk's node of a height, with all below it
   abbrev pub sub : Tree S → ℕ → Point → Tree S
   sub (leaf i q n) h p = leaf i q n
-  sub (branch b k g l r) h p = cond (eqb (height S (branch b k g l r) p) h) (branch b k g l r) (cond (below S k p) (sub l h p) (sub r h p))
+  sub (branch b k l r) h p = cond (eqb (height S (branch b k l r) p) h) (branch b k l r) (cond (below S k p) (sub l h p) (sub r h p))
 
   -- the other side of the branch above it
   abbrev pub sibling : Tree S → ℕ → Point → Tree S
   sibling (leaf i q n) h p = leaf i q n
-  sibling (branch b k g l r) h p =
-      cond (eqb (height S (branch b k g l r) p) (suc h)) (cond (below S k p) r l) (cond (below S k p) (sibling l h p) (sibling r h p))
+  sibling (branch b k l r) h p =
+      cond (eqb (height S (branch b k l r) p) (suc h)) (cond (below S k p) r l) (cond (below S k p) (sibling l h p) (sibling r h p))
 
   -- the tree with s in that node's place
   abbrev pub replace : Tree S → ℕ → Point → Tree S → Tree S
   replace (leaf i q n) h p s = s
-  replace (branch b k g l r) h p s =
-      cond (eqb (height S (branch b k g l r) p) h) s (cond (below S k p) (branch b k g (replace l h p s) r) (branch b k g l (replace r h p s)))
+  replace (branch b k l r) h p s =
+      cond (eqb (height S (branch b k l r) p) h) s (cond (below S k p) (branch b k (replace l h p s) r) (branch b k l (replace r h p s)))
 
   -- THE LOOP after m nodes: the height and the cut of the highest that parted, s before any did
   abbrev pub kept : Tree S → Point → (ℕ → Word) → ℕ × Cut S → ℕ → ℕ × Cut S

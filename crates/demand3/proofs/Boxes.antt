@@ -1,6 +1,6 @@
 -- The cached boxes of a state: a row for each branch below the whole part of share × c, as the box query answers it, and zeros elsewhere. Assumes nothing.
 use mathlib.Core.Path.{_≡_, refl, sym, ap, _∙_}
-use mathlib.Core.Bool.{Bool, true}
+use mathlib.Core.Bool.{true}
 use mathlib.Core.Option.{Option, none, some}
 use mathlib.Core.List.{List, []}
 use Prim.Native.Nat.{ℕ, _+_, _<_}
@@ -57,17 +57,17 @@ module _ (d c : ℕ) (s : Float) (x : Kept) (K : Counts (whole d)) (f : ℕ → 
     claim = tree-claim (whole d) c (whole-laws d) (of (some t)) K I
 
     -- the numbers of branches are below c − 1
-    numbered : {b : ℕ} {k : Cut (whole d)} {g : Bool} {l r : Tree (whole d)} → In (whole d) (branch b k g l r) t → b + 1 < c
+    numbered : {b : ℕ} {k : Cut (whole d)} {l r : Tree (whole d)} → In (whole d) (branch b k l r) t → b + 1 < c
     numbered {b} j = branch-below d c f t u (I .sound) b (uses-in d c j)
 
-    row-kept : {b : ℕ} {k : Cut (whole d)} {g : Bool} {l r : Tree (whole d)} → In (whole d) (branch b k g l r) t → b < cachedPart s c → getD (x .arrays .boxes) b [] ≡ boxEnds d c (branch b k g l r)
+    row-kept : {b : ℕ} {k : Cut (whole d)} {l r : Tree (whole d)} → In (whole d) (branch b k l r) t → b < cachedPart s c → getD (x .arrays .boxes) b [] ≡ boxEnds d c (branch b k l r)
     row-kept {b} j h = row-is (some t) S b (omega (arith, numbered j, S .limits .3)) ∙ cond-true _ _ _ (lt-ltb b (cachedBy s c) (omega (arith, numbered j))) ∙ slot-in d c (boxEnds d c) noBoxEnds (once d c f t u (I .sound)) j
 
-    low-kept : {b : ℕ} {k : Cut (whole d)} {g : Bool} {l r : Tree (whole d)} → In (whole d) (branch b k g l r) t → b < cachedPart s c → (i : ℕ) → i < width → endKept x b 0 i ≡ lo (whole d) (branch b k g l r) i .value
-    low-kept {b} {k} {g} {l} {r} j h i w = ap (λ (y : List (List Float)). channel (getD y 0 []) i) (row-kept j h) ∙ tab-at width (λ (n : ℕ). lo (whole d) (branch b k g l r) n .value) i nan w
+    low-kept : {b : ℕ} {k : Cut (whole d)} {l r : Tree (whole d)} → In (whole d) (branch b k l r) t → b < cachedPart s c → (i : ℕ) → i < width → endKept x b 0 i ≡ lo (whole d) (branch b k l r) i .value
+    low-kept {b} {k} {l} {r} j h i w = ap (λ (y : List (List Float)). channel (getD y 0 []) i) (row-kept j h) ∙ tab-at width (λ (n : ℕ). lo (whole d) (branch b k l r) n .value) i nan w
 
-    high-kept : {b : ℕ} {k : Cut (whole d)} {g : Bool} {l r : Tree (whole d)} → In (whole d) (branch b k g l r) t → b < cachedPart s c → (i : ℕ) → i < width → endKept x b 1 i ≡ hi (whole d) (branch b k g l r) i .value
-    high-kept {b} {k} {g} {l} {r} j h i w = ap (λ (y : List (List Float)). channel (getD y 1 []) i) (row-kept j h) ∙ tab-at width (λ (n : ℕ). hi (whole d) (branch b k g l r) n .value) i nan w
+    high-kept : {b : ℕ} {k : Cut (whole d)} {l r : Tree (whole d)} → In (whole d) (branch b k l r) t → b < cachedPart s c → (i : ℕ) → i < width → endKept x b 1 i ≡ hi (whole d) (branch b k l r) i .value
+    high-kept {b} {k} {l} {r} j h i w = ap (λ (y : List (List Float)). channel (getD y 1 []) i) (row-kept j h) ∙ tab-at width (λ (n : ℕ). hi (whole d) (branch b k l r) n .value) i nan w
 
     other-row : (b : ℕ) → b < branchLimit → ((r : Row (whole d)) → IsBranch (whole d) G b r → b < cachedPart s c → ⊥) → boxIn d c (cachedBy s c) (some t) b ≡ noBoxEnds
     other-row b h n = by-test (ltb b (cachedBy s c))
@@ -85,14 +85,14 @@ module _ (d c : ℕ) (s : Float) (x : Kept) (K : Counts (whole d)) (f : ℕ → 
     boxes-some = record {
       around = by-branch (whole d) c (whole-laws d) f t u K I
           (λ b r. b < cachedPart s c → (i : ℕ) → i < width → (q : Reading) → Under (whole d) G b q → (le (endKept x b 0 i) (channel (q .row) i) ≡ true) × (le (channel (q .row) i) (endKept x b 1 i) ≡ true))
-          (λ b k g l r j h i w q v. rw (low-kept j h i w, high-kept j h i w, sym (coordinate-is q i w)) (claim .around b (boxAt (whole d) c (branch b k g l r)) (box-asked (whole d) c (whole-laws d) f t u K I j) i q v));
+          (λ b k l r j h i w q v. rw (low-kept j h i w, high-kept j h i w, sym (coordinate-is q i w)) (claim .around b (boxAt (whole d) c (branch b k l r)) (box-asked (whole d) c (whole-laws d) f t u K I j) i q v));
       smallest = by-branch (whole d) c (whole-laws d) f t u K I
           (λ b r. b < cachedPart s c → (i : ℕ) → i < width → ((q : Reading) × Under (whole d) G b q × (endKept x b 0 i ≡ channel (q .row) i)) × ((q : Reading) × Under (whole d) G b q × (endKept x b 1 i ≡ channel (q .row) i)))
-          (λ b k g l r j h i w.
-          let ((q, v, e), (q′, v′, e′)) = claim .smallest b (boxAt (whole d) c (branch b k g l r)) (box-asked (whole d) c (whole-laws d) f t u K I j) i in
+          (λ b k l r j h i w.
+          let ((q, v, e), (q′, v′, e′)) = claim .smallest b (boxAt (whole d) c (branch b k l r)) (box-asked (whole d) c (whole-laws d) f t u K I j) i in
           ((q, v, low-kept j h i w ∙ ap (λ (n : Number). n .value) e ∙ coordinate-is q i w), (q′, v′, high-kept j h i w ∙ ap (λ (n : Number). n .value) e′ ∙ coordinate-is q′ i w)));
       other = λ b h n. row-is (some t) S b h ∙ other-row b h n;
-      bound = by-branch (whole d) c (whole-laws d) f t u K I (λ b r. ltb b (x .tree .cached) ≡ ltb b (cachedPart s c)) (λ b k g l r j. ap (ltb b) (cached-is S) ∙ below-part b (numbered j));
+      bound = by-branch (whole d) c (whole-laws d) f t u K I (λ b r. ltb b (x .tree .cached) ≡ ltb b (cachedPart s c)) (λ b k l r j. ap (ltb b) (cached-is S) ∙ below-part b (numbered j));
     }
 
   -- OF NO TREE

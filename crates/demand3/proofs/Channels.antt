@@ -1,5 +1,4 @@
 -- Each branch that a state's queries give is cut on one of the tree's channels. Assumes nothing.
-use mathlib.Core.Bool.{Bool}
 use mathlib.Core.Option.{Option, none, some}
 use mathlib.Core.List.{List}
 use Prim.Native.Nat.{ℕ, _<_}
@@ -19,7 +18,7 @@ use Rattle.wholetree.proofs.Laws.{whole-laws}
 use Rattle.randomcuttree.specs.State.{OnChannels}
 
 module _ (d c : ℕ) where
-  channel-in : {b : ℕ} {k : Cut (whole d)} {g : Bool} {l r t : Tree (whole d)} → In (whole d) (branch b k g l r) t → OnChannels d t → k .channel < d
+  channel-in : {b : ℕ} {k : Cut (whole d)} {l r t : Tree (whole d)} → In (whole d) (branch b k l r) t → OnChannels d t → k .channel < d
   channel-in here h = h .0
   channel-in (left i) h = channel-in i (h .1)
   channel-in (right i) h = channel-in i (h .2)
@@ -27,7 +26,7 @@ module _ (d c : ℕ) where
   channels-of : (f : ℕ → Option Reading) (o : Option (Tree (whole d))) (u : List (ℕ × ℕ)) (K : Counts (whole d)) → Inv (whole d) c (record { table = f; tree = o; free = u }) K → OfTree (whole d) (OnChannels d) o
       → (b : ℕ) (r : Row (whole d)) → IsBranch (whole d) (viewOf (whole d) c (record { table = f; tree = o; free = u }) K) b r → r .cut .channel < d
   channels-of f none u K I h = λ b r e. nonsense (cc)
-  channels-of f (some t) u K I h = by-branch (whole d) c (whole-laws d) f t u K I (λ b r. r .cut .channel < d) (λ b k g l r j. channel-in j h)
+  channels-of f (some t) u K I h = by-branch (whole d) c (whole-laws d) f t u K I (λ b r. r .cut .channel < d) (λ b k l r j. channel-in j h)
 
   pub on-channels : (W : World (whole d)) (K : Counts (whole d)) → Inv (whole d) c W K → OfTree (whole d) (OnChannels d) (W .tree) → (b : ℕ) (r : Row (whole d)) → IsBranch (whole d) (viewOf (whole d) c W K) b r → r .cut .channel < d
   on-channels W K I h = channels-of (W .table) (W .tree) (W .free) K I h

@@ -65,16 +65,16 @@ module _ (d : ℕ) where
   pub heard-copies : (o : Option (Tree (whole d))) → heardCopies d (copiesSay d (copiesFound (whole d) o)) ≡ copiesFound (whole d) o
   heard-copies none = refl
   heard-copies (some (leaf i q n)) = refl
-  heard-copies (some (branch b k g l r)) = refl
+  heard-copies (some (branch b k l r)) = refl
 
   pub heard-branch : (c : ℕ) (o : Option (Tree (whole d))) → heardBranch d (branchSays d (branchFound (whole d) c o)) ≡ branchFound (whole d) c o
   heard-branch c none = refl
   heard-branch c (some (leaf i q n)) = refl
-  heard-branch c (some (branch b k g l r)) = ap (λ (v : Number). branchIs (record { cut = record { channel = k .channel; value = v }; left = _; right = _; mass = _ })) (number-value (k .value))
+  heard-branch c (some (branch b k l r)) = ap (λ (v : Number). branchIs (record { cut = record { channel = k .channel; value = v }; left = _; right = _; mass = _ })) (number-value (k .value))
 
   pub heard-box : (o : Option (Tree (whole d))) → heardBox d (boxSays d (boxFound (whole d) o)) ≡ boxFound (whole d) o
   heard-box none = refl
   heard-box (some (leaf i q n)) = refl
-  heard-box (some (branch b k g l r)) =
-      let B = tree-box d (branch b k g l r) in
-      ap₂ (λ (x y : ℕ → Number). boxIs (record { lower = x; upper = y })) (end-is (lo (whole d) (branch b k g l r)) (B .beyond-lower)) (end-is (hi (whole d) (branch b k g l r)) (B .beyond-upper))
+  heard-box (some (branch b k l r)) =
+      let B = tree-box d (branch b k l r) in
+      ap₂ (λ (x y : ℕ → Number). boxIs (record { lower = x; upper = y })) (end-is (lo (whole d) (branch b k l r)) (B .beyond-lower)) (end-is (hi (whole d) (branch b k l r)) (B .beyond-upper))

@@ -47,17 +47,17 @@ module _ (d c : ℕ) (s : Float) (few : d ≤ width) where
   copies-numbers : (x : ℕ) (o : Option (Tree (whole d))) → copiesNumbers (copiesSay d (copiesFound (whole d) o)) ≡ numbers (query (copiesOf x)) (copiesFound (whole d) o)
   copies-numbers x none = refl
   copies-numbers x (some (leaf i q n)) = refl
-  copies-numbers x (some (branch b k g l r)) = refl
+  copies-numbers x (some (branch b k l r)) = refl
 
   branch-numbers : (x : ℕ) (o : Option (Tree (whole d))) → branchNumbers (branchSays d (branchFound (whole d) c o)) ≡ numbers (query (branchOf x)) (branchFound (whole d) c o)
   branch-numbers x none = refl
   branch-numbers x (some (leaf i q n)) = refl
-  branch-numbers x (some (branch b k g l r)) = refl
+  branch-numbers x (some (branch b k l r)) = refl
 
   box-numbers : (x : ℕ) (o : Option (Tree (whole d))) → boxNumbers d (boxSays d (boxFound (whole d) o)) ≡ numbers (query (boxOf x)) (boxFound (whole d) o)
   box-numbers x none = ap (λ (l : List ℕ). 16 ∷ l) no-box
   box-numbers x (some (leaf i q n)) = ap (λ (l : List ℕ). 16 ∷ l) no-box
-  box-numbers x (some (branch b k g l r)) = refl
+  box-numbers x (some (branch b k l r)) = refl
 
   pub numbers-are : (W : World (whole d)) (e : Call (whole d)) → said d c s e (Bare.call (whole d) c W e) ≡ numbers e (Bare.call (whole d) c W e .0)
   numbers-are W (put i xs) = by-put (whole d) c (λ x. putNumbers (putSays d (x .0)) ≡ numbers (put i xs) (x .0)) W (λ m. refl) i xs (λ U _. refl)

@@ -1,6 +1,7 @@
 -- The answers of a byte run are as demand 3 says, and written. Assumes nothing.
 use mathlib.Core.Path.{_≡_, refl, sym, ap, ap₂, _∙_, subst}
 use mathlib.Core.Bool.{Bool, true, cond}
+use mathlib.Core.Option.{some}
 use mathlib.Core.List.{List, [], _∷_, _++_}
 use Prim.Native.Nat.{ℕ, _≤_}
 use native.Mathlib.Omega.{arith}
@@ -23,7 +24,9 @@ use Rattle.sampledtree.specs.Sampled.{Sampled, SampledAnswer, plain as bare, no
 use Rattle.sampledtree.specs.Arrivals.{Agrees, Arrives, countsAs}
 use Rattle.sampledtree.proofs.Arrivals.{every-arrival}
 use Rattle.sampledtree.proofs.Keeps.{every-put, fresh-agrees}
+use Rattle.samplerplustree.specs.declared.SamplerPlusTree.{SamplerPlusTree}
 use Rattle.samplerplustree.specs.declared.MadeSampled.{MadeSampled}
+use Rattle.samplerplustree.specs.declared.MadeSampled.the-variants.{Tree}
 use Rattle.samplerplustree.specs.State.{headOf}
 use Rattle.samplerplustree.specs.Updates.{updateSays}
 use Rattle.nodeview.specs.Report.{reportOf}
@@ -32,10 +35,10 @@ use Rattle.demand3.proofs.Answered.{seen, leaves-tree, accepted-as}
 use Rattle.demand3.proofs.Sampled.{sampledAt, kept-numbers}
 use Rattle.demand3.proofs.Reports.{report-rows}
 use Rattle.arrivals.specs.Arrived as Code
-use Rattle.runlayout.specs.Layout.{RunCall, plain, arrives, reports, sample, isSampled, channels, capacity, share, initial}
+use Rattle.runlayout.specs.Layout.{RunCall, plain, arrives, reports, sample, isSampled, channels, capacity, share, initial, calls}
 use Rattle.runlayout.proofs.OfKind.{OfKind, AllOfKind, calls-kind}
 use Rattle.runsteps.specs.Told.{told, left, toldFrom}
-use Rattle.run.specs.Outcome.{given, begun, answered, outcomeOf}
+use Rattle.run.specs.Outcome.{given, made, begun, answered, outcome, outcomeOf}
 use Rattle.demand3_outputs.specs.Run.{RunAnswer, RunAnswers, numbersOf, allNumbers, countCall, RunClaim, RunAnswered, RunsAnswer}
 use Rattle.demand3_outputs.proofs.Made.{taken-by}
 use Rattle.demand3_outputs.proofs.Numbers.{numbers-are, arrival-numbers}
@@ -147,8 +150,13 @@ module _ (d c : ℕ) (s : Float) (few : d ≤ width) (sampled : Bool) (f : Float
   runs-fresh room small es o =
       runs (Bare.fresh (whole d) c) [] (nothing (whole d)) es (record { counts = inv-fresh (whole d) c room; agrees = λ _. fresh-agrees (whole d) c f room (omega (arith, small)) }) o
 
-pub runs-answer : RunsAnswer
-runs-answer run lent es h C M =
+-- A run's answers, with what P says besides of the last tree and the last counts.
+pub runs-with : (P : (d c : ℕ) → View (whole d) → Counts (whole d) → Type 0) → ((d c : ℕ) (W : World (whole d)) (K : Counts (whole d)) → Inv (whole d) c W K → P d c (viewOf (whole d) c W K) K)
+    → (run lent : List ℕ) (es : List (RunCall (channels run))) (h : SamplerPlusTree) → calls run ≡ some es → made run ≡ Tree h
+    → (as′ : RunAnswers (channels run) es) × (G : View (whole (channels run)))
+    × RunAnswered (channels run) (capacity run) (P (channels run) (capacity run)) G (nothing (whole (channels run))) es as′
+    × (outcome run lent ≡ given (0 ∷ allNumbers (channels run) (capacity run) es as′) lent)
+runs-with P p run lent es h C M =
     let d = channels run in
     let c = capacity run in
     let s = share run in
@@ -156,6 +164,9 @@ runs-answer run lent es h C M =
     let R = runs-fresh d c s few (isSampled run) (cond (isSampled run) (initial run) nought) room small es (calls-kind run es C) in (
       answersTo d s (begun run) es,
       viewOf (whole d) c (Bare.fresh (whole d) c) (nothing (whole d)),
-      R .answered (λ H N. Unit {0}) tt,
+      R .answered (P d c) (p d c (R .world) (R .counts) (R .kept .counts)),
       ap (λ o. outcomeOf run o lent) C ∙ ap (λ (m : MadeSampled). given (answered run m es) lent) M ∙ ap (λ (l : List ℕ). given (0 ∷ l) lent) (R .told),
     )
+
+pub runs-answer : RunsAnswer
+runs-answer = runs-with (λ d c H N. Unit {0}) (λ d c W K I. tt)

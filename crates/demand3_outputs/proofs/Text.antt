@@ -5,9 +5,9 @@ use mathlib.Core.Option.{Option, none, some}
 use mathlib.Core.List.{List, [], _∷_, _++_, map, append-assoc}
 use Prim.Native.Nat.{ℕ, _+_}
 use Rattle.cuttree.specs.Tree.{Tree, leaf, branch, id}
-use Rattle.cuttree.specs.Run.{World, call, answers, worldAfter, fresh}
+use Rattle.cuttree.specs.Run.{World, Answer, call, answers, worldAfter, fresh}
 use Rattle.cuttree.specs.Counts.{Counts, nothing}
-use Rattle.cuttree.specs.Graph.{IsNode}
+use Rattle.cuttree.specs.Graph.{View, IsNode}
 use Rattle.cuttree.specs.Demand3.{viewOf}
 use Rattle.cuttree.proofs.Tests.{nonsense}
 use Rattle.cuttree.proofs.Nodes.{In, here, left, right, in-trans}
@@ -17,13 +17,18 @@ use Rattle.cuttree.proofs.Roots.{is-root}
 use Rattle.wholetree.specs.Reading.{Reading}
 use Rattle.wholetree.specs.Whole.{whole}
 use Rattle.wholetree.proofs.Laws.{whole-laws}
+use Rattle.randomcuttree.specs.declared.RCFTree.{RCFTree}
 use Rattle.randomcuttree.specs.declared.Made.{Made}
+use Rattle.randomcuttree.specs.declared.Made.the-variants.{Tree as TreeMade}
+use Rattle.randomcuttree.specs.Making.{madeBy}
 use Rattle.form.specs.Rows.{Op}
-use Rattle.form.specs.Making.{sixteenthsOf}
+use Rattle.form.specs.Making.{Making, sixteenthsOf}
+use Rattle.form.specs.Form.{read, parsed}
 use Rattle.lines.specs.Lines.{namesLine}
 use Rattle.printed.specs.Printed.{linesOf, printedTree}
 use Rattle.rowcalls.specs.Ops.{callOf}
-use Rattle.treelist_text.specs.Output.{toldRow, outputFrom, outputBy, outputOf}
+use Rattle.treelist_text.specs.Output.{toldRow, output, outputFrom, outputBy, outputOf}
+use Rattle.demand3.specs.Answered.{Answered}
 use Rattle.demand3.proofs.Answered as Demand3
 use Rattle.demand3_outputs.specs.Text.{LinesFrom, leaf-line, branch-line, Listing, toldRows, TextsAnswer}
 use Rattle.demand3_outputs.proofs.Made.{taken}
@@ -42,7 +47,7 @@ module _ (d c : ℕ) where
     lines-from : (t : Tree (whole d)) (I : Inv (whole d) c (record { table = f; tree = some t; free = u }) K) (v : Tree (whole d)) → In (whole d) v t
         → LinesFrom d (viewOf (whole d) c (record { table = f; tree = some t; free = u }) K) (id (whole d) c v) (linesOf d c v)
     lines-from t I (leaf i q n) j = leaf-line (leaf-asked (whole d) c (whole-laws d) f t u K I j)
-    lines-from t I (branch b k g l r) j = branch-line (rowOf (whole d) c b k g l r) (branch-asked (whole d) c (whole-laws d) f t u K I j) (lines-from t I l (in-trans (whole d) (left here) j)) (lines-from t I r (in-trans (whole d) (right here) j))
+    lines-from t I (branch b k l r) j = branch-line (rowOf (whole d) c b k l r) (branch-asked (whole d) c (whole-laws d) f t u K I j) (lines-from t I l (in-trans (whole d) (left here) j)) (lines-from t I r (in-trans (whole d) (right here) j))
 
     no-node : (x : ℕ) → IsNode (whole d) (viewOf (whole d) c (record { table = f; tree = none; free = u }) K) x → ⊥
     no-node x (inl (n, e)) = nonsense (cc)
@@ -63,8 +68,14 @@ module _ (d c : ℕ) where
       let last = namesLine ++ linesIn (worldAfter (whole d) c after (map (callOf d) os) .tree) in
       ap (λ (l : List ℕ). row ++ l) (output-is after (n + 1) os) ∙ sym (append-assoc row rows last)
 
-pub texts-answer : TextsAnswer
-texts-answer text m os tree P M =
+-- A text's answers and printed lines, with what P says of these lines and of the last tree.
+pub texts-with : (P : (d c : ℕ) → List ℕ → View (whole d) → Type 0)
+    → ((d c : ℕ) (W : World (whole d)) (K : Counts (whole d)) → Inv (whole d) c W K → P d c (linesIn d c (W .tree)) (viewOf (whole d) c W K))
+    → (text : List ℕ) (m : Making) (os : List Op) (tree : RCFTree) → parsed text ≡ read m os → madeBy (m .channels) (m .capacity) (sixteenthsOf (m .sixteenths)) ≡ TreeMade tree
+    → (as′ : List (Answer (whole (m .channels)))) × (lines : List ℕ) × (G : View (whole (m .channels)))
+    × Answered (m .channels) (m .capacity) (P (m .channels) (m .capacity) lines) G (nothing (whole (m .channels))) (map (callOf (m .channels)) os) as′
+    × (output text ≡ toldRows (m .channels) 0 as′ ++ (namesLine ++ lines))
+texts-with P p text m os tree F M =
     let d = m .channels in
     let c = m .capacity in
     let es = map (callOf d) os in
@@ -72,6 +83,9 @@ texts-answer text m os tree P M =
       answers (whole d) c (fresh (whole d) c) es,
       linesIn d c (last .tree),
       viewOf (whole d) c (fresh (whole d) c) (nothing (whole d)),
-      Demand3.answered d c (Listing d (linesIn d c (last .tree))) (taken d c (sixteenthsOf (m .sixteenths)) tree M .1) es (λ K I. listing-of d c (last .table) (last .free) K (last .tree) I),
-      ap outputOf P ∙ ap (λ (x : Made). outputBy d c x os) M ∙ output-is d c (fresh (whole d) c) 0 os,
+      Demand3.answered d c (P d c (linesIn d c (last .tree))) (taken d c (sixteenthsOf (m .sixteenths)) tree M .1) es (λ K I. p d c last K I),
+      ap outputOf F ∙ ap (λ (x : Made). outputBy d c x os) M ∙ output-is d c (fresh (whole d) c) 0 os,
     )
+
+pub texts-answer : TextsAnswer
+texts-answer = texts-with (λ d c lines. Listing d lines) (λ d c W K I. listing-of d c (W .table) (W .free) K (W .tree) I)

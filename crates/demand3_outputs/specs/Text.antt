@@ -4,7 +4,6 @@ use mathlib.Core.Logic.{_⊎_}
 use mathlib.Core.List.{List, [], _∷_, _++_, map}
 use Prim.Native.Nat.{ℕ, _+_}
 use lib.Ieee.{binary32, toBits}
-use Rattle.cuttree.specs.Tree.{leafMass}
 use Rattle.cuttree.specs.Run.{Answer, Row}
 use Rattle.cuttree.specs.Counts.{nothing}
 use Rattle.cuttree.specs.Graph.{View, IsLeaf, IsBranch, IsNode, IsRoot}
@@ -24,7 +23,7 @@ use Rattle.demand3.specs.Answered.{Answered}
 module _ (d : ℕ) where
   -- the lines of the nodes that the queries give, from the node x on: 'branch before left before right'
   pub data LinesFrom (G : View (whole d)) : ℕ → List ℕ → Type 0 where
-    leaf-line : {x n : ℕ} → IsLeaf (whole d) G x n → LinesFrom G x (leafLine x (leafMass n))
+    leaf-line : {x n : ℕ} → IsLeaf (whole d) G x n → LinesFrom G x (leafLine x n)
     branch-line : {x : ℕ} {ls rs : List ℕ} (r : Row (whole d)) → IsBranch (whole d) G x r → LinesFrom G (r .left) ls → LinesFrom G (r .right) rs
         → LinesFrom G x (branchLine x (r .cut .channel) (toBits binary32 (r .cut .value .value)) (r .left) (r .right) (r .mass) ++ ls ++ rs)
 

@@ -23,7 +23,7 @@ module _ (d c : ℕ) where
   count-none (leaf j q n) i h = by-test (eqb j i)
       (λ e. let z : j ≡ i = eqb-true j i e in absurd (omega (arith, subst (λ x. is (x + c) (i + c) ≡ 0) z h, is-same (i + c))))
       (λ e. rw e)
-  count-none (branch b k g l r) i h = omega (arith, count-none l i (omega arith), count-none r i (omega arith))
+  count-none (branch b k l r) i h = omega (arith, count-none l i (omega arith), count-none r i (omega arith))
 
   -- the leaf of an index has the copies that are counted there
   pub count-in : {i n : ℕ} {q : Reading} {t : Tree (whole d)} → Apart d c t → In (whole d) (leaf i q n) t → countAt d c t i ≡ n

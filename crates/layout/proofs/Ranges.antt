@@ -1,5 +1,4 @@
 -- Numbers in range through the edits of a tree.
-use mathlib.Core.Bool.{Bool}
 use Prim.Native.Nat.{ℕ, _<_}
 use native.Mathlib.Omega.{arith}
 use lib.Dec.{ltb}
@@ -22,8 +21,8 @@ module _ (d c : ℕ) where
   range-node (left i) h = range-node i (h .2)
   range-node (right i) h = range-node i (h .3)
 
-  range-rejoin : (b : ℕ) (k : Cut (whole d)) (g : Bool) (l r : Tree (whole d)) (p : Reading) (x : Tree (whole d)) → InRange d c (branch b k g l r) → InRange d c x → InRange d c (rejoin (whole d) b k g l r p x)
-  range-rejoin b k g l r p x h e = by-cond (InRange d c) (below (whole d) k p) _ _ (λ _. (h .0, h .1, e, h .3)) (λ _. (h .0, h .1, h .2, e))
+  range-rejoin : (b : ℕ) (k : Cut (whole d)) (l r : Tree (whole d)) (p : Reading) (x : Tree (whole d)) → InRange d c (branch b k l r) → InRange d c x → InRange d c (rejoin (whole d) b k l r p x)
+  range-rejoin b k l r p x h e = by-cond (InRange d c) (below (whole d) k p) _ _ (λ _. (h .0, h .1, e, h .3)) (λ _. (h .0, h .1, h .2, e))
 
   pub range-ending : (p : Reading) (t : Tree (whole d)) → InRange d c t → ending (whole d) t p .index < pointLimit
   range-ending p t h = rw (sub-leaf (whole d) p t) at (range-node (in-sub d c 0 p t (omega arith)) h)
@@ -31,6 +30,6 @@ module _ (d c : ℕ) where
   pub range-forget : (p : Reading) (t : Tree (whole d)) → InRange d c t → OfTree (whole d) (InRange d c) (forget (whole d) p t)
   range-forget p = along (whole d) (λ t. InRange d c t → OfTree (whole d) (InRange d c) (forget (whole d) p t)) p
       (λ i q n h. by-cond (OfTree (whole d) (InRange d c)) (ltb 1 n) _ _ (λ _. h) (λ _. tt))
-      (λ b k g l r ih h. rw (forget-step (whole d) b k g l r p)
-      (lifted (whole d) (InRange d c) (InRange d c) (forget (whole d) p (toward (whole d) k p l r)) (λ x. rejoin (whole d) b k g l r p x) (aside (whole d) k p l r)
-      (ih (by-cond (InRange d c) (below (whole d) k p) l r (λ _. h .2) (λ _. h .3))) (by-cond (InRange d c) (below (whole d) k p) r l (λ _. h .3) (λ _. h .2)) (λ t y. range-rejoin b k g l r p t h y)))
+      (λ b k l r ih h. rw (forget-step (whole d) b k l r p)
+      (lifted (whole d) (InRange d c) (InRange d c) (forget (whole d) p (toward (whole d) k p l r)) (λ x. rejoin (whole d) b k l r p x) (aside (whole d) k p l r)
+      (ih (by-cond (InRange d c) (below (whole d) k p) l r (λ _. h .2) (λ _. h .3))) (by-cond (InRange d c) (below (whole d) k p) r l (λ _. h .3) (λ _. h .2)) (λ t y. range-rejoin b k l r p t h y)))

@@ -1,6 +1,6 @@
 -- One node of a walk replaced: what every slot then has. All edits of a tree are such replacements.
 use mathlib.Core.Path.{_≡_, refl, sym, ap, _∙_, subst}
-use mathlib.Core.Bool.{Bool, false, cond}
+use mathlib.Core.Bool.{false, cond}
 use Prim.Native.Nat.{ℕ, _+_, _≤_, _<_}
 use native.Mathlib.Omega.{arith}
 use lib.Dec.{eqb, ltb}
@@ -23,37 +23,37 @@ module _ (d c : ℕ) where
   -- how often j is the number of a branch of p's walk above the height h
   abbrev pub upper : Tree (whole d) → ℕ → Reading → ℕ → ℕ
   upper (leaf i q n) h p j = 0
-  upper (branch b k g l r) h p j = cond (eqb (height (whole d) (branch b k g l r) p) h) 0 (is b j + cond (below (whole d) k p) (upper l h p j) (upper r h p j))
+  upper (branch b k l r) h p j = cond (eqb (height (whole d) (branch b k l r) p) h) 0 (is b j + cond (below (whole d) k p) (upper l h p j) (upper r h p j))
 
   pub upper-top : (t : Tree (whole d)) (p : Reading) (j : ℕ) → upper t (height (whole d) t p) p j ≡ 0
   upper-top (leaf i q n) p j = refl
-  upper-top (branch b k g l r) p j = let H = height (whole d) (branch b k g l r) p in cond-true _ _ _ (eq-eqb H H refl)
+  upper-top (branch b k l r) p j = let H = height (whole d) (branch b k l r) p in cond-true _ _ _ (eq-eqb H H refl)
 
-  pub upper-down : (b : ℕ) (k : Cut (whole d)) (g : Bool) (l r : Tree (whole d)) (p : Reading) (h j : ℕ) → h ≤ height (whole d) (toward (whole d) k p l r) p → upper (branch b k g l r) h p j ≡ is b j + upper (toward (whole d) k p l r) h p j
-  upper-down b k g l r p h j m =
-      cond-false _ _ _ (ne-eqb (height (whole d) (branch b k g l r) p) h (λ e. omega (arith, height-step (whole d) b k g l r p)))
+  pub upper-down : (b : ℕ) (k : Cut (whole d)) (l r : Tree (whole d)) (p : Reading) (h j : ℕ) → h ≤ height (whole d) (toward (whole d) k p l r) p → upper (branch b k l r) h p j ≡ is b j + upper (toward (whole d) k p l r) h p j
+  upper-down b k l r p h j m =
+      cond-false _ _ _ (ne-eqb (height (whole d) (branch b k l r) p) h (λ e. omega (arith, height-step (whole d) b k l r p)))
       ∙ by-test (below (whole d) k p) (λ e. rw e) (λ e. rw e)
 
-  uses-side : (b : ℕ) (k : Cut (whole d)) (g : Bool) (l r : Tree (whole d)) (p : Reading) (j : ℕ) → is b j + uses d c (toward (whole d) k p l r) j ≤ uses d c (branch b k g l r) j
-  uses-side b k g l r p j = by-test (below (whole d) k p) (λ e. rw e (omega arith)) (λ e. rw e (omega arith))
+  uses-side : (b : ℕ) (k : Cut (whole d)) (l r : Tree (whole d)) (p : Reading) (j : ℕ) → is b j + uses d c (toward (whole d) k p l r) j ≤ uses d c (branch b k l r) j
+  uses-side b k l r p j = by-test (below (whole d) k p) (λ e. rw e (omega arith)) (λ e. rw e (omega arith))
 
   -- those above and those in the node's place are all different branches of the tree
   pub upper-uses : (h : ℕ) (p : Reading) (j : ℕ) (t : Tree (whole d)) → h ≤ height (whole d) t p → upper t h p j + uses d c (sub (whole d) t h p) j ≤ uses d c t j
   upper-uses h p j = along (whole d) (λ t. h ≤ height (whole d) t p → upper t h p j + uses d c (sub (whole d) t h p) j ≤ uses d c t j) p (λ i q n m. omega arith)
-      (λ b k g l r ih m. by-height (whole d) b k g l r p h m
-      (λ e. let t = branch b k g l r in
+      (λ b k l r ih m. by-height (whole d) b k l r p h m
+      (λ e. let t = branch b k l r in
       let x = ap (λ y. uses d c (sub (whole d) t y p) j) e ∙ ap (λ y. uses d c y j) (sub-top (whole d) t p) in
       let y = ap (λ y. upper t y p j) e ∙ upper-top t p j in omega (arith, x, y))
-      (λ n. let x = ap (λ y. uses d c y j) (sub-down (whole d) b k g l r p h n) in
-      omega (arith, x, ih n, upper-down b k g l r p h j n, uses-side b k g l r p j)))
+      (λ n. let x = ap (λ y. uses d c y j) (sub-down (whole d) b k l r p h n) in
+      omega (arith, x, ih n, upper-down b k l r p h j n, uses-side b k l r p j)))
 
   -- a branch of a height above is one of them, and each of them has such a height
   pub upper-at : (h m : ℕ) (p : Reading) → h < m → (t : Tree (whole d)) → m ≤ height (whole d) t p → 0 < upper t h p (id (whole d) c (sub (whole d) t m p))
   upper-at h m p a = along (whole d) (λ t. m ≤ height (whole d) t p → 0 < upper t h p (id (whole d) c (sub (whole d) t m p))) p (λ i q n e. absurd (omega arith))
-      (λ b k g l r ih e. let t = branch b k g l r in by-height (whole d) b k g l r p m e
+      (λ b k l r ih e. let t = branch b k l r in by-height (whole d) b k l r p m e
       (λ f. let x : sub (whole d) t m p ≡ t = ap (λ y. sub (whole d) t y p) f ∙ sub-top (whole d) t p in
-      rw x (omega (arith, upper-down b k g l r p h b (omega (arith, height-step (whole d) b k g l r p)), is-same b)))
-      (λ n. rw (sub-down (whole d) b k g l r p m n) (omega (arith, ih n, upper-down b k g l r p h (id (whole d) c (sub (whole d) (toward (whole d) k p l r) m p)) (omega arith)))))
+      rw x (omega (arith, upper-down b k l r p h b (omega (arith, height-step (whole d) b k l r p)), is-same b)))
+      (λ n. rw (sub-down (whole d) b k l r p m n) (omega (arith, ih n, upper-down b k l r p h (id (whole d) c (sub (whole d) (toward (whole d) k p l r) m p)) (omega arith)))))
 
   pub record Above (t : Tree (whole d)) (h : ℕ) (p : Reading) (j : ℕ) : Type 0 where
     pub at : ℕ
@@ -63,22 +63,22 @@ module _ (d c : ℕ) where
 
   pub above-of : (h : ℕ) (p : Reading) (j : ℕ) (t : Tree (whole d)) → h ≤ height (whole d) t p → 0 < upper t h p j → Above t h p j
   above-of h p j = along (whole d) (λ t. h ≤ height (whole d) t p → 0 < upper t h p j → Above t h p j) p (λ i q n m x. absurd (omega arith))
-      (λ b k g l r ih m x. let t = branch b k g l r in by-height (whole d) b k g l r p h m
+      (λ b k l r ih m x. let t = branch b k l r in by-height (whole d) b k l r p h m
       (λ e. absurd (omega (arith, ap (λ y. upper t y p j) e ∙ upper-top t p j)))
       (λ n. by-test (eqb b j)
       (λ e. record {
         at = height (whole d) t p;
-        higher = omega (arith, height-step (whole d) b k g l r p);
+        higher = omega (arith, height-step (whole d) b k l r p);
         within = omega arith;
         is-id = ap (id (whole d) c) (sub-top (whole d) t p) ∙ eqb-true b j e;
       })
       (λ e. let z : is b j ≡ 0 = rw e in
-      let u = ih n (omega (arith, upper-down b k g l r p h j n)) in
+      let u = ih n (omega (arith, upper-down b k l r p h j n)) in
       record {
         at = u .at;
         higher = u .higher;
-        within = omega (arith, u .within, height-step (whole d) b k g l r p);
-        is-id = ap (id (whole d) c) (sub-down (whole d) b k g l r p (u .at) (u .within)) ∙ u .is-id;
+        within = omega (arith, u .within, height-step (whole d) b k l r p);
+        is-id = ap (id (whole d) c) (sub-down (whole d) b k l r p (u .at) (u .within)) ∙ u .is-id;
       })))
 
   -- a number of no height above is none of theirs
@@ -89,12 +89,12 @@ module _ (d c : ℕ) where
 
   pub in-sub : (m : ℕ) (p : Reading) (t : Tree (whole d)) → m ≤ height (whole d) t p → In (whole d) (sub (whole d) t m p) t
   in-sub m p = along (whole d) (λ t. m ≤ height (whole d) t p → In (whole d) (sub (whole d) t m p) t) p (λ i q n e. here)
-      (λ b k g l r ih e. let t = branch b k g l r in by-height (whole d) b k g l r p m e
+      (λ b k l r ih e. let t = branch b k l r in by-height (whole d) b k l r p m e
       (λ f. let x : sub (whole d) t m p ≡ t = ap (λ y. sub (whole d) t y p) f ∙ sub-top (whole d) t p in rw x here)
-      (λ n. rw (sub-down (whole d) b k g l r p m n) (in-side b k g l r p (ih n))))
+      (λ n. rw (sub-down (whole d) b k l r p m n) (in-side b k l r p (ih n))))
     where
-      in-side : (b : ℕ) (k : Cut (whole d)) (g : Bool) (l r : Tree (whole d)) (p : Reading) {u : Tree (whole d)} → In (whole d) u (toward (whole d) k p l r) → In (whole d) u (branch b k g l r)
-      in-side b k g l r p {u} = by-cond (λ y. In (whole d) u y → In (whole d) u (branch b k g l r)) (below (whole d) k p) l r (λ _ i. left i) (λ _ i. right i)
+      in-side : (b : ℕ) (k : Cut (whole d)) (l r : Tree (whole d)) (p : Reading) {u : Tree (whole d)} → In (whole d) u (toward (whole d) k p l r) → In (whole d) u (branch b k l r)
+      in-side b k l r p {u} = by-cond (λ y. In (whole d) u y → In (whole d) u (branch b k l r)) (below (whole d) k p) l r (λ _ i. left i) (λ _ i. right i)
 
   -- a branch of the walk has its number in its own slot
   pub uses-sub : (m : ℕ) (p : Reading) (t : Tree (whole d)) → 0 < m → m ≤ height (whole d) t p → 0 < uses d c (sub (whole d) t m p) (id (whole d) c (sub (whole d) t m p))
@@ -102,14 +102,14 @@ module _ (d c : ℕ) where
     where
       go : (u : Tree (whole d)) → height (whole d) u p ≡ m → 0 < uses d c u (id (whole d) c u)
       go (leaf i q n) h = absurd (omega arith)
-      go (branch b k g l r) h = omega (arith, is-same b)
+      go (branch b k l r) h = omega (arith, is-same b)
 
   -- WHAT IS IN THE NEW TREE: s, and each branch above with its own part replaced
   pub in-replace : (h m : ℕ) (p : Reading) (s : Tree (whole d)) → h ≤ m → (t : Tree (whole d)) → m ≤ height (whole d) t p → In (whole d) (replace (whole d) (sub (whole d) t m p) h p s) (replace (whole d) t h p s)
   in-replace h m p s a = along (whole d) (λ t. m ≤ height (whole d) t p → In (whole d) (replace (whole d) (sub (whole d) t m p) h p s) (replace (whole d) t h p s)) p (λ i q n e. here)
-      (λ b k g l r ih e. let t = branch b k g l r in by-height (whole d) b k g l r p m e
+      (λ b k l r ih e. let t = branch b k l r in by-height (whole d) b k l r p m e
       (λ f. let x : sub (whole d) t m p ≡ t = ap (λ y. sub (whole d) t y p) f ∙ sub-top (whole d) t p in rw x here)
-      (λ n. rw (sub-down (whole d) b k g l r p m n, replace-down (whole d) b k g l r p h s (omega arith))
+      (λ n. rw (sub-down (whole d) b k l r p m n, replace-down (whole d) b k l r p h s (omega arith))
       (by-cond (λ y. In (whole d) (replace (whole d) (sub (whole d) (toward (whole d) k p l r) m p) h p s) y) (below (whole d) k p) _ _ (λ _. left (ih n)) (λ _. right (ih n)))))
 
   pub in-new : (h : ℕ) (p : Reading) (s t : Tree (whole d)) → h ≤ height (whole d) t p → In (whole d) s (replace (whole d) t h p s)
@@ -121,7 +121,7 @@ module _ (d c : ℕ) where
   -- a branch above keeps its number
   pub id-replace : (h : ℕ) (p : Reading) (s u : Tree (whole d)) → h < height (whole d) u p → (id (whole d) c (replace (whole d) u h p s) ≡ id (whole d) c u) × (0 < uses d c (replace (whole d) u h p s) (id (whole d) c u))
   id-replace h p s (leaf i q n) m = absurd (omega arith)
-  id-replace h p s (branch b k g l r) m = rw (replace-down (whole d) b k g l r p h s (omega (arith, height-step (whole d) b k g l r p)))
+  id-replace h p s (branch b k l r) m = rw (replace-down (whole d) b k l r p h s (omega (arith, height-step (whole d) b k l r p)))
       (by-cond (λ y. (id (whole d) c y ≡ b) × (0 < uses d c y b)) (below (whole d) k p) _ _ (λ _. (refl, omega (arith, is-same b))) (λ _. (refl, omega (arith, is-same b))))
 
   -- THE SLOTS OF THE NEW TREE
@@ -136,10 +136,10 @@ module _ (d c : ℕ) where
         (slot-node d c f z (replace (whole d) u h p s) o (in-replace h m p s (omega arith) t e) (rw (x .0) (x .1)))
 
     -- a branch whose side is exchanged for one of the same slot
-    slot-rejoin : (b : ℕ) (k : Cut (whole d)) (g : Bool) (l r : Tree (whole d)) (p : Reading) (j : ℕ) (x : Tree (whole d)) → eqb b j ≡ false → uses d c x j ≡ uses d c (toward (whole d) k p l r) j → slot d c f z x j ≡ slot d c f z (toward (whole d) k p l r) j →
-        slot d c f z (rejoin (whole d) b k g l r p x) j ≡ slot d c f z (branch b k g l r) j
+    slot-rejoin : (b : ℕ) (k : Cut (whole d)) (l r : Tree (whole d)) (p : Reading) (j : ℕ) (x : Tree (whole d)) → eqb b j ≡ false → uses d c x j ≡ uses d c (toward (whole d) k p l r) j → slot d c f z x j ≡ slot d c f z (toward (whole d) k p l r) j →
+        slot d c f z (rejoin (whole d) b k l r p x) j ≡ slot d c f z (branch b k l r) j
     unfolding slot
-    slot-rejoin b k g l r p j x n u e = by-test (below (whole d) k p)
+    slot-rejoin b k l r p j x n u e = by-test (below (whole d) k p)
         (λ t. let u′ : uses d c x j ≡ uses d c l j = rw t at u in let e′ : slot d c f z x j ≡ slot d c f z l j = rw t at e in rw (t, n, u′, e′))
         (λ t. let e′ : slot d c f z x j ≡ slot d c f z r j = rw t at e in rw (t, n, e′))
 
@@ -148,15 +148,15 @@ module _ (d c : ℕ) where
         slot d c f z (replace (whole d) t h p s) j ≡ slot d c f z t j
     slot-other h p s j e = along (whole d) (λ t. h ≤ height (whole d) t p → upper t h p j ≡ 0 → uses d c (sub (whole d) t h p) j ≡ 0 → slot d c f z (replace (whole d) t h p s) j ≡ slot d c f z t j) p
         (λ i q n m a w. slot-none d c f z s j e ∙ sym (slot-none d c f z (leaf i q n) j w))
-        (λ b k g l r ih m a w. let t = branch b k g l r in by-height (whole d) b k g l r p h m
+        (λ b k l r ih m a w. let t = branch b k l r in by-height (whole d) b k l r p h m
         (λ f′. let x : sub (whole d) t h p ≡ t = ap (λ y. sub (whole d) t y p) f′ ∙ sub-top (whole d) t p in
         let y : replace (whole d) t h p s ≡ s = ap (λ y. replace (whole d) t y p s) f′ ∙ replace-top (whole d) t p s in
         rw y (slot-none d c f z s j e ∙ sym (slot-none d c f z t j (subst (λ y. uses d c y j ≡ 0) x w))))
         (λ n. let v = toward (whole d) k p l r in
-        let a′ = upper-down b k g l r p h j n in
-        let w′ : uses d c (sub (whole d) v h p) j ≡ 0 = subst (λ y. uses d c y j ≡ 0) (sub-down (whole d) b k g l r p h n) w in
+        let a′ = upper-down b k l r p h j n in
+        let w′ : uses d c (sub (whole d) v h p) j ≡ 0 = subst (λ y. uses d c y j ≡ 0) (sub-down (whole d) b k l r p h n) w in
         let same : uses d c (replace (whole d) v h p s) j ≡ uses d c v j = omega (arith, sum-replace (whole d) (λ i q n. 0) (λ b. is b j) h p s v n) in
-        rw (replace-down (whole d) b k g l r p h s n) (slot-rejoin b k g l r p j (replace (whole d) v h p s) (is-zero b j (omega (arith, a′))) same (ih n (omega (arith, a′)) w′))))
+        rw (replace-down (whole d) b k l r p h s n) (slot-rejoin b k l r p j (replace (whole d) v h p s) (is-zero b j (omega (arith, a′))) same (ih n (omega (arith, a′)) w′))))
 
     -- of a branch that both trees have: v is the part of the node's place that stays
     pub slot-kept : (h : ℕ) (p : Reading) (s t v : Tree (whole d)) (j : ℕ) → Once d c t → Once d c (replace (whole d) t h p s) → h ≤ height (whole d) t p → In (whole d) v t → In (whole d) v s → upper t h p j ≡ 0 →

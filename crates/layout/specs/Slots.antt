@@ -21,17 +21,17 @@ module _ (d c : ℕ) where
   -- f of the branch numbered j, or z where there is none
   unfoldable pub slot : {A : Type 0} → (Tree (whole d) → A) → A → Tree (whole d) → ℕ → A
   slot f z (leaf i q n) j = z
-  slot f z (branch b k g l r) j = cond (eqb b j) (f (branch b k g l r)) (cond (ltb 0 (uses l j)) (slot f z l j) (slot f z r j))
+  slot f z (branch b k l r) j = cond (eqb b j) (f (branch b k l r)) (cond (ltb 0 (uses l j)) (slot f z l j) (slot f z r j))
 
   -- a branch's row: the ids of its left and right sides, its mass, and the channel of its cut
   abbrev pub rowOf : Tree (whole d) → List ℕ
   rowOf (leaf i q n) = 0 ∷ 0 ∷ 0 ∷ 0 ∷ []
-  rowOf (branch b k g l r) = id (whole d) c l ∷ id (whole d) c r ∷ mass (whole d) (branch b k g l r) ∷ k .channel ∷ []
+  rowOf (branch b k l r) = id (whole d) c l ∷ id (whole d) c r ∷ mass (whole d) (branch b k l r) ∷ k .channel ∷ []
 
   -- the value of its cut
   abbrev pub cutOf : Tree (whole d) → Float
   cutOf (leaf i q n) = nought
-  cutOf (branch b k g l r) = k .value .value
+  cutOf (branch b k l r) = k .value .value
 
   -- the lower and the upper ends of its box
   abbrev pub lowOf : Tree (whole d) → List Float

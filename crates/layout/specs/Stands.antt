@@ -20,12 +20,12 @@ module _ (d c : ℕ) where
   -- R gives f of each branch at its number
   abbrev pub Laid : {A : Type 0} → (Tree (whole d) → A) → (ℕ → A) → Tree (whole d) → Type 0
   Laid f R (leaf i q n) = Unit {0}
-  Laid f R (branch b k g l r) = (R b ≡ f (branch b k g l r)) × Laid f R l × Laid f R r
+  Laid f R (branch b k l r) = (R b ≡ f (branch b k l r)) × Laid f R l × Laid f R r
 
   -- the same for the branches numbered below k alone: those that are cached
   abbrev pub LaidBelow : {A : Type 0} → ℕ → (Tree (whole d) → A) → (ℕ → A) → Tree (whole d) → Type 0
   LaidBelow k f R (leaf i q n) = Unit {0}
-  LaidBelow k f R (branch b x g l r) = (b < k → R b ≡ f (branch b x g l r)) × LaidBelow k f R l × LaidBelow k f R r
+  LaidBelow k f R (branch b x l r) = (b < k → R b ≡ f (branch b x l r)) × LaidBelow k f R l × LaidBelow k f R r
 
   -- each number is one branch's at most
   abbrev pub Once : Tree (whole d) → Type 0
@@ -34,7 +34,7 @@ module _ (d c : ℕ) where
   -- branch numbers, channels and point indices are in range
   abbrev pub InRange : Tree (whole d) → Type 0
   InRange (leaf i q n) = i < pointLimit
-  InRange (branch b k g l r) = (b + 1 < c) × (k .channel < width) × InRange l × InRange r
+  InRange (branch b k l r) = (b + 1 < c) × (k .channel < width) × InRange l × InRange r
 
   -- the rows, the cuts and the points of the table
   pub record Stands (nodes : List (List ℕ)) (cuts : List Float) (points : List (List Float)) (t : Tree (whole d)) : Type 0 where
@@ -50,7 +50,7 @@ module _ (d c : ℕ) where
   -- The walk of p as `set_path` keeps it: from the root to the leaf, each node's id with that of its sibling; s stands for the root's, which has none.
   abbrev pub trailFrom : ℕ → Tree (whole d) → Reading → List (List ℕ)
   trailFrom s (leaf i q n) p = ((i + c) ∷ s ∷ []) ∷ []
-  trailFrom s (branch b k g l r) p = (b ∷ s ∷ []) ∷ cond (below (whole d) k p) (trailFrom (id (whole d) c r) l p) (trailFrom (id (whole d) c l) r p)
+  trailFrom s (branch b k l r) p = (b ∷ s ∷ []) ∷ cond (below (whole d) k p) (trailFrom (id (whole d) c r) l p) (trailFrom (id (whole d) c l) r p)
 
   abbrev pub trail : Tree (whole d) → Reading → List (List ℕ)
   trail t p = trailFrom noSibling t p

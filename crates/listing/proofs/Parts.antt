@@ -1,19 +1,15 @@
 -- A node that stands in arrays, by its kind: a leaf with its line, or a branch with its line and its two sides. Laws.
 use mathlib.Core.Path.{_≡_, refl, sym}
-use mathlib.Core.Bool.{Bool}
 use mathlib.Core.List.{List, _++_}
 use Prim.Native.Nat.{ℕ, _+_, _-_, _≤_, _<_}
 use native.Mathlib.Omega.{arith}
-use borrow.Author.Tests.{eqb-true, eqb-false, ne-eqb}
-use lib.Dec.{eqb}
 use lib.ListN.{length, getD, length-append}
 use lib.Ieee.{Float, nan, binary32, toBits}
 use Rattle.limits.specs.Limits.{capacityLimit, pointLimit}
 use Rattle.lines.specs.Lines.{branchLine, leafLine, Wrote}
 use Rattle.lines.proofs.Writes.{then, long}
 use Rattle.cuttree.specs.Setting.{Cut}
-use Rattle.cuttree.specs.Tree.{Tree, leaf, branch, id, leafMass}
-use Rattle.cuttree.proofs.Tests.{by-test}
+use Rattle.cuttree.specs.Tree.{Tree, leaf, branch, id}
 use Rattle.wholetree.specs.Whole.{whole}
 use Rattle.layout.specs.Slots.{field}
 use Rattle.layout.specs.Stands.{Once}
@@ -21,13 +17,6 @@ use Rattle.boxstore.proofs.Depths.{deep, depth, depth-few, deep-is}
 use Rattle.printed.specs.Printed.{linesOf}
 use Rattle.treestore.proofs.Links.{linked}
 use Rattle.listing.specs.Listing.{rowLine, Listed, SomeListed, PrintsNode}
-
--- a leaf's mass: of more copies than one, and of one at most
-pub mass-less : {k n : ℕ} → k ≡ n → 1 < k → k - 1 ≡ leafMass n
-mass-less {k} {n} e h = rw (ne-eqb n 1 (omega arith)) (omega arith)
-
-pub mass-same : {k n : ℕ} → k ≡ n → k ≤ 1 → k ≡ leafMass n
-mass-same {k} {n} e h = by-test (eqb n 1) (λ f. rw f (omega (arith, eqb-true n 1 f))) (λ f. let z = eqb-false n 1 f in rw f (omega arith))
 
 -- a branch's line, of numbers that are read from its row
 pub row-written : (nodes : List (List ℕ)) (cuts : List Float) (b : ℕ) {dimension cut left right mass at place : ℕ} {before after : List ℕ}
@@ -37,14 +26,14 @@ row-written nodes cuts b e f g h m w = rw (e, f, g, h, m) at w
 
 module _ (c : ℕ) (nodes : List (List ℕ)) (cuts : List Float) (copies : List ℕ) where
   -- the sides of a branch stand there too, and the branch's line is that of its row
-  module _ (d : ℕ) {b : ℕ} {x : Cut (whole d)} {g : Bool} {l r : Tree (whole d)} (B : Listed d c nodes cuts copies (branch b x g l r)) where
+  module _ (d : ℕ) {b : ℕ} {x : Cut (whole d)} {l r : Tree (whole d)} (B : Listed d c nodes cuts copies (branch b x l r)) where
     left-listed : Listed d c nodes cuts copies l
     left-listed = record { rows = B .rows .1; values = B .values .1; leaves = B .leaves .0; in-range = B .in-range .2 }
 
     right-listed : Listed d c nodes cuts copies r
     right-listed = record { rows = B .rows .2; values = B .values .2; leaves = B .leaves .1; in-range = B .in-range .3 }
 
-    lines-are : rowLine nodes cuts b ++ linesOf d c l ++ linesOf d c r ≡ linesOf d c (branch b x g l r)
+    lines-are : rowLine nodes cuts b ++ linesOf d c l ++ linesOf d c r ≡ linesOf d c (branch b x l r)
     lines-are = rw (B .rows .0, B .values .0) refl
 
   module _ (node : ℕ) where
@@ -58,14 +47,14 @@ module _ (c : ℕ) (nodes : List (List ℕ)) (cuts : List Float) (copies : List 
       where
         go : (t : Tree (whole (w .channels))) → id (whole (w .channels)) c t ≡ node → Listed (w .channels) c nodes cuts copies t → node - c < pointLimit
         go (leaf i q n) e B = omega (arith, B .in-range)
-        go (branch b x g l r) e B = absurd (omega (arith, B .in-range))
+        go (branch b x l r) e B = absurd (omega (arith, B .in-range))
 
-    pub leaf-printed : c ≤ node → {at : ℕ} {before : List ℕ} {place : ℕ} {after : List ℕ} → Wrote before at (leafLine node (leafMass (getD copies (node - c) 0))) place after
+    pub leaf-printed : c ≤ node → {at m : ℕ} {before : List ℕ} {place : ℕ} {after : List ℕ} → m ≡ getD copies (node - c) 0 → Wrote before at (leafLine node m) place after
         → PrintsNode c node nodes cuts copies at before place after
-    leaf-printed h w d (leaf i q n) e B =
+    leaf-printed h f w d (leaf i q n) e B =
         let z : node - c ≡ i = omega arith in
-        rw e (rw (z, B .leaves) at w)
-    leaf-printed h w d (branch b x g l r) e B = absurd (omega (arith, B .in-range))
+        rw e (rw (f, z, B .leaves) at w)
+    leaf-printed h f w d (branch b x l r) e B = absurd (omega (arith, B .in-range))
 
     -- BRANCHES
     abbrev left : ℕ
@@ -77,8 +66,8 @@ module _ (c : ℕ) (nodes : List (List ℕ)) (cuts : List Float) (copies : List 
     pub branch-printed : node < c → {at p q place : ℕ} {before x y after : List ℕ} → Wrote before at (rowLine nodes cuts node) p x
         → PrintsNode c left nodes cuts copies p x q y → PrintsNode c right nodes cuts copies q y place after → PrintsNode c node nodes cuts copies at before place after
     branch-printed h w F G d (leaf i q n) e B = absurd (omega arith)
-    branch-printed h w F G d (branch b x g l r) e B =
-        let L = linked d c nodes (branch b x g l r) (B .rows) in
+    branch-printed h w F G d (branch b x l r) e B =
+        let L = linked d c nodes (branch b x l r) (B .rows) in
         let one = F d l (rw (← e) (sym (L .0))) (left-listed d B) in
         let two = G d r (rw (← e) (sym (L .1))) (right-listed d B) in
         rw (← lines-are d B) (then (then (rw (← e) at w) one) two)
@@ -96,9 +85,9 @@ module _ (c : ℕ) (nodes : List (List ℕ)) (cuts : List Float) (copies : List 
       where
         go : (t : Tree (whole (w .channels))) → id (whole (w .channels)) c t ≡ node → Once (w .channels) c t → Listed (w .channels) c nodes cuts copies t → at + length (linesOf (w .channels) c t) < 100000000000 → Parts at
         go (leaf i q n) e o B m = absurd (omega arith)
-        go (branch b x g u v) e o B m =
+        go (branch b x u v) e o B m =
             let d = w .channels in
-            let t = branch b x g u v in
+            let t = branch b x u v in
             let bl = left-listed d B in
             let br = right-listed d B in
             let ol : Once d c u = λ j. omega (arith, o j) in

@@ -13,12 +13,11 @@ use Rattle.readings.specs.Number.{nought}
 use Rattle.lines.specs.Lines.{namesLine, Wrote}
 use Rattle.lines.proofs.Lengths.{branch-few, leaf-few}
 use Rattle.lines.proofs.Writes.{then}
-use Rattle.cuttree.specs.Tree.{Tree, leaf, branch, id, sum, mass, total, leaves, All}
+use Rattle.cuttree.specs.Tree.{Tree, leaf, branch, id, sum, mass, leaves, All}
 use Rattle.cuttree.specs.Run.{World, Call, fresh, worldAfter}
 use Rattle.cuttree.specs.Sound.{Sound}
 use Rattle.cuttree.proofs.Nodes.{In, here, left, right}
 use Rattle.cuttree.proofs.Leaves.{leaves-branches}
-use Rattle.cuttree.proofs.Masses.{mass-most}
 use Rattle.cuttree.proofs.Room.{at-leaf, index-below, index-once, intervals-few}
 use Rattle.wholetree.specs.Reading.{Reading}
 use Rattle.wholetree.specs.Whole.{whole, tab}
@@ -42,7 +41,7 @@ use Rattle.listing.specs.Printed.{SomeRead, PrintsTree}
 -- what holds of each leaf in a tree holds of all
 all-by : (d : ℕ) (P : ℕ → Reading → ℕ → Type 0) (t : Tree (whole d)) → ((i : ℕ) (q : Reading) (n : ℕ) → In (whole d) (leaf i q n) t → P i q n) → All (whole d) P t
 all-by d P (leaf i q n) h = h i q n here
-all-by d P (branch b k g l r) h = (all-by d P l (λ i q n j. h i q n (left j)), all-by d P r (λ i q n j. h i q n (right j)))
+all-by d P (branch b k l r) h = (all-by d P l (λ i q n j. h i q n (left j)), all-by d P r (λ i q n j. h i q n (right j)))
 
 -- HOW LONG: at most 31 bytes for a branch and 19 for a leaf
 abbrev branches : (d : ℕ) → Tree (whole d) → ℕ
@@ -50,15 +49,15 @@ branches d t = sum (whole d) (λ i q n. 0) (λ b. 1) t
 
 id-below : (d c : ℕ) (t : Tree (whole d)) → c ≤ capacityLimit → InRange d c t → id (whole d) c t < 10000
 id-below d c (leaf i q n) m h = omega arith
-id-below d c (branch b k g l r) m h = omega (arith, h .0)
+id-below d c (branch b k l r) m h = omega (arith, h .0)
 
 -- the lines of a tree
-lines-few : (d c : ℕ) (t : Tree (whole d)) → c ≤ capacityLimit → InRange d c t → total (whole d) t < 65536 → length (linesOf d c t) ≤ 31 * branches d t + 19 * leaves (whole d) t
-lines-few d c (leaf i q n) m h w = omega (arith, leaf-few (i + c) (mass (whole d) (leaf i q n)) (id-below d c (leaf i q n) m h) (omega (arith, mass-most (whole d) (leaf i q n))))
-lines-few d c (branch b k g l r) m h w =
+lines-few : (d c : ℕ) (t : Tree (whole d)) → c ≤ capacityLimit → InRange d c t → mass (whole d) t < 65536 → length (linesOf d c t) ≤ 31 * branches d t + 19 * leaves (whole d) t
+lines-few d c (leaf i q n) m h w = omega (arith, leaf-few (i + c) n (id-below d c (leaf i q n) m h) (omega arith))
+lines-few d c (branch b k l r) m h w =
     let one = lines-few d c l m (h .2) (omega arith) in
     let two = lines-few d c r m (h .3) (omega arith) in
-    let here = branch-few b (k .channel) (toBits binary32 (k .value .value)) (id (whole d) c l) (id (whole d) c r) (mass (whole d) (branch b k g l r)) (omega (arith, h .0)) (omega (arith, h .1)) (id-below d c l m (h .2)) (id-below d c r m (h .3)) (omega arith) in
+    let here = branch-few b (k .channel) (toBits binary32 (k .value .value)) (id (whole d) c l) (id (whole d) c r) (mass (whole d) (branch b k l r)) (omega (arith, h .0)) (omega (arith, h .1)) (id-below d c l m (h .2)) (id-below d c r m (h .3)) (omega arith) in
     rw (length-append, length-append) (omega arith)
 
 -- A SOUND WORLD'S TREE

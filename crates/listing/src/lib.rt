@@ -12,7 +12,6 @@ ghost use Prim.Native.Nat.{_≤_, _<_};
 ghost use lib.ListN.{getD};
 ghost use Rattle.limits.specs.Limits.{capacityLimit, branchLimit, pointLimit};
 ghost use Rattle.lines.specs.Lines.{Wrote};
-ghost use Rattle.cuttree.specs.Tree.{leafMass};
 ghost use Rattle.layout.specs.Slots.{field};
 ghost use Rattle.listing.specs.Listing.{rowLine, PrintsNode, SomeListed};
 ghost use Rattle.listing.specs.Printed.{PrintsTree, SomeRead};
@@ -28,16 +27,12 @@ fn number_of(nodes: &Nodes, node: usize, i: usize) -> usize
     wide16(nodes[node][i])
 }
 
-// The mass of a leaf, which is one less than its copies where it has more than one.
+// The mass of a leaf: its copies.
 fn mass_of(copies: &Copies, index: usize) -> usize
     requires { ⌜ index < pointLimit ⌝ }
-    ensures { λ r. ⌜ r ≡ leafMass (getD (now (copies .entry)) index 0) ⌝ }
+    ensures { λ r. ⌜ r ≡ getD (now (copies .entry)) index 0 ⌝ }
 {
-    let k = wide16(copies[index]);
-    if 1 < k {
-        return k - 1;
-    }
-    k
+    wide16(copies[index])
 }
 
 // A branch's line.
@@ -55,7 +50,7 @@ fn print_branch(id: usize, nodes: &Nodes, cuts: &Cuts, out: &mut [u8], at: usize
 }
 
 // The lines of a node and of all below it. A leaf's id is at least the capacity.
-// Rules out the right side before the left, and a leaf's copies printed for its mass.
+// Rules out the right side before the left, and a leaf of two copies printed with mass 1.
 pub fn print_node(
     id: usize,
     nodes: &Nodes,

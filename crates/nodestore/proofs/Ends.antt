@@ -13,12 +13,13 @@ use borrow.Author.Tests.{lt-ltb, le-ltb, eq-eqb, ne-eqb}
 use Rattle.limits.specs.Limits.{branchLimit, pointLimit, totalLimit}
 use Rattle.readings.specs.Number.{nought}
 use Rattle.cuttree.specs.Setting.{Setting}
-use Rattle.cuttree.specs.Tree.{Tree, leaf, branch, id, ending, height, total, addCopy, forget, freed}
+use Rattle.cuttree.specs.Tree.{Tree, leaf, branch, id, ending, height, mass, addCopy, forget, freed}
 use Rattle.cuttree.specs.Walk.{sibling, replace}
 use Rattle.cuttree.proofs.Tests.{cond-true, cond-false}
 use Rattle.cuttree.proofs.Leaves.{all-ending}
-use Rattle.cuttree.proofs.Heights.{sub-leaf}
+use Rattle.cuttree.proofs.Masses.{mass-in}
 use Rattle.cuttree.proofs.Edits.{leafWith, copy-replace, less-replace, last-alone, last-lifted}
+use Rattle.cuttree.proofs.Nodes.{ending-in}
 use Rattle.wholetree.specs.Reading.{Reading}
 use Rattle.wholetree.specs.Whole.{whole, tab}
 use Rattle.layout.specs.Slots.{rowOf, cutOf, countAt, field}
@@ -32,7 +33,7 @@ use Rattle.walk.proofs.Ends.{walk-is, fork-is, sibling-is}
 use Rattle.nodestore.specs.Rows.{massOver, heavier, lighter, Climb, relink}
 use Rattle.nodestore.specs.Stored.{Arrays, Stored, Reached}
 use Rattle.nodestore.proofs.Facts.{root-replace}
-use Rattle.nodestore.proofs.Climbs.{sub-total, climbs}
+use Rattle.nodestore.proofs.Climbs.{climbs}
 use Rattle.nodestore.proofs.Recounts.{copy-linked, copy-arrays}
 use Rattle.nodestore.proofs.Removals.{gone-small, parent-low, gone-climb, gone-arrays}
 
@@ -49,27 +50,27 @@ module _ {d c n index : ℕ} {N path : List (List ℕ)} {C : List Float} {K : Li
   pub copies-some : 1 ≤ getD K index 0
   copies-some = rw copies-are (all-ending S (λ i q n. 0 < n) p t (w .stored .filled))
 
-  pub copies-most : (high : ℕ) → total S t ≤ high → getD K index 0 ≤ high
-  copies-most high m = omega (arith, copies-are, sub-total d c 0 p t (omega arith), ap (total S) (sub-leaf S p t))
+  pub copies-most : (high : ℕ) → mass S t ≤ high → getD K index 0 ≤ high
+  copies-most high m = omega (arith, copies-are, mass-in S (ending-in S p t))
 
   k-is : (n - 1) + 0 ≡ height S t p
   k-is = omega (arith, w .walked .count)
 
-  pub copy-climb : (high : ℕ) → total S t ≤ high → Climb 1 high N (take (n - 1) path)
+  pub copy-climb : (high : ℕ) → mass S t ≤ high → Climb 1 high N (take (n - 1) path)
   copy-climb = climbs d c t (leafWith S t p 0) p 0 (n - 1) path k-is N (copy-linked d c t p 0 N C K (w .stored) (n - 1) path k-is) (w .stored .small) (apart-once d c t (w .stored .apart)) (w .stored .in-range) (w .stored .filled) (walk-is (w .walked))
 
-  recount : (f : ℕ → ℕ) (m : ℕ) → 0 < m → ((x : ℕ) → 0 < x → f x + getD K index 0 ≡ x + m) → Arrays d c (massOver f (take (n - 1) path) N) C (set K index m) (some (replace S t 0 p (leafWith S t p m)))
-  recount f m pos gain = rw (w .index-is) (copy-arrays d c t p m N C K (w .stored) f (n - 1) path k-is (walk-is (w .walked)) pos (rw (← copies-are) gain))
+  recount : (f : ℕ → ℕ) (m : ℕ) → ((x : ℕ) → 0 < x → f x + getD K index 0 ≡ x + m) → Arrays d c (massOver f (take (n - 1) path) N) C (set K index m) (some (replace S t 0 p (leafWith S t p m)))
+  recount f m gain = rw (w .index-is) (copy-arrays d c t p m N C K (w .stored) f (n - 1) path k-is (walk-is (w .walked)) (rw (← copies-are) gain))
 
   pub more-arrays : Arrays d c (massOver heavier (take (n - 1) path) N) C (set K index (getD K index 0 + 1)) (some (addCopy S p t))
   more-arrays =
       let e : getD K index 0 + 1 ≡ suc (ending S t p .copies) = omega (arith, copies-are) in
-      rw (copy-replace S p t, ← e) (recount heavier (getD K index 0 + 1) (omega arith) (λ x m. omega arith))
+      rw (copy-replace S p t, ← e) (recount heavier (getD K index 0 + 1) (λ x m. omega arith))
 
   pub less-arrays : 2 ≤ getD K index 0 → Arrays d c (massOver lighter (take (n - 1) path) N) C (set K index (getD K index 0 - 1)) (forget S p t) × (freed S p t ≡ none)
   less-arrays m =
       let z = less-replace S p t (lt-ltb 1 (ending S t p .copies) (omega (arith, copies-are))) in
-      (rw (z .0, ← copies-are) (recount lighter (getD K index 0 - 1) (omega arith) (λ x l. omega arith)), z .1)
+      (rw (z .0, ← copies-are) (recount lighter (getD K index 0 - 1) (λ x l. omega arith)), z .1)
 
   -- THE LAST COPY
   module _ (one : getD K index 0 ≡ 1) where
@@ -81,7 +82,7 @@ module _ {d c n index : ℕ} {N path : List (List ℕ)} {C : List Float} {K : Li
     lone-arrays e = let z = last-alone S p t (omega (arith, w .walked .count)) last in (rw (z .0) (lone t (w .stored) (omega (arith, w .walked .count)) (w .index-is)), z .1)
       where
         lone : (u : Tree S) → Stored d c N C K u → height S u p ≡ 0 → index ≡ ending S u p .index → Arrays d c N C (set K index 0) none
-        lone (branch b k g l r) v h i = absurd (omega arith)
+        lone (branch b k l r) v h i = absurd (omega arith)
         lone (leaf j q m) v h i = record {
           rows = v .arrays .rows ∙ leaf-tab d c (rowOf d c) noRow j q m;
           values = v .arrays .values ∙ leaf-tab d c (cutOf d c) nought j q m;

@@ -12,14 +12,14 @@ use borrow.Author.Tests.{eqb-true, lt-ltb, le-ltb}
 use Rattle.limits.specs.Limits.{branchLimit, pointLimit}
 use Rattle.readings.specs.Number.{nought}
 use Rattle.cuttree.specs.Setting.{Setting, Cut, below}
-use Rattle.cuttree.specs.Tree.{Tree, leaf, branch, is, id, height, walk, total, lags, mass, above}
+use Rattle.cuttree.specs.Tree.{Tree, leaf, branch, is, id, height, walk, mass, above}
 use Rattle.cuttree.specs.Walk.{sub, replace, graft}
 use Rattle.cuttree.proofs.Tests.{by-cond, by-test}
 use Rattle.cuttree.proofs.Intervals.{is-same, is-other}
 use Rattle.cuttree.proofs.Sums.{sum-above}
-use Rattle.cuttree.proofs.Masses.{mass-above}
+use Rattle.cuttree.proofs.Masses.{mass-laws}
 use Rattle.cuttree.proofs.Heights.{sum-replace}
-use Rattle.cuttree.proofs.Nodes.{In, here, left, right, all-in}
+use Rattle.cuttree.proofs.Nodes.{In, here, left, right}
 use Rattle.wholetree.specs.Reading.{Reading}
 use Rattle.wholetree.specs.Whole.{whole, tab}
 use Rattle.layout.specs.Slots.{uses, slot, rowOf, cutOf, countAt, field}
@@ -50,16 +50,13 @@ module _ (d c : ℕ) (t : Tree (whole d)) (p : Reading) (N : List (List ℕ)) (C
       let z : (i + c) - c ≡ i = omega arith in
       let m : getD K i 0 ≡ n = entry-of pointLimit (countAt d c t) K (w .arrays .counts) 0 i (range-node d c e (w .in-range)) ∙ count-in d c (w .apart) e in
       rw (le-ltb (i + c) c (omega arith), z, m)
-  mass-at (branch b k g l r) e =
+  mass-at (branch b k l r) e =
       let m = range-in d c (w .in-range) e in
       rw (lt-ltb b c (omega (arith, m))) (ap (λ y. getD y 2 0) (entry-of branchLimit (slot d c (rowOf d c) noRow t) N (w .arrays .rows) [] b (omega (arith, m, w .small)) ∙ slot-in d c (rowOf d c) noRow once e))
 
-  pub id-low : (v : Tree S) → In S v t → (id S c v < c → id S c v < branchLimit) × ((id S c v - c < pointLimit) × (c ≤ id S c v → 1 ≤ getD K (id S c v - c) 0))
-  id-low (leaf i q n) e =
-      let z : (i + c) - c ≡ i = omega arith in
-      let m = range-node d c e (w .in-range) in
-      ((λ x. absurd (omega arith)), (omega (arith, m), λ x. rw (z, entry-of pointLimit (countAt d c t) K (w .arrays .counts) 0 i m ∙ count-in d c (w .apart) e) (all-in S (λ i q n. 0 < n) e (w .filled))))
-  id-low (branch b k g l r) e = let m = range-in d c (w .in-range) e in ((λ x. omega (arith, m, w .small)), (omega (arith, m), λ x. absurd (omega (arith, m))))
+  pub id-low : (v : Tree S) → In S v t → (id S c v < c → id S c v < branchLimit) × (id S c v - c < pointLimit)
+  id-low (leaf i q n) e = ((λ x. absurd (omega arith)), omega (arith, range-node d c e (w .in-range)))
+  id-low (branch b k l r) e = let m = range-in d c (w .in-range) e in ((λ x. omega (arith, m, w .small)), omega (arith, m))
 
   -- THE NEW BRANCH b above the node of height h, with the cut x and the leaf of index i
   module _ (h b i : ℕ) (x : Cut S) (within : h ≤ height S t p) (fresh : uses d c t b ≡ 0) (small : b < branchLimit) where
@@ -98,10 +95,10 @@ module _ (d c : ℕ) (t : Tree (whole d)) (p : Reading) (N : List (List ℕ)) (C
 
     pub new-row : rowOf d c new ≡ rowFor (below S x p) (i + c) (id S c old) (mass S old) (x .channel)
     new-row =
-        let m : mass S new ≡ mass S old + 1 = mass-above S b x i p old (all-in S (λ i q n. 0 < n) (in-sub d c h p t within) (w .filled)) ∙ omega arith in
+        let m = mass-laws S .new-branch-mass b x i p old in
         by-test (below S x p)
-        (λ e. let y : mass S (branch b x (lags S old) (leaf i p 1) old) ≡ mass S old + 1 = rw e at m in rw (e, y))
-        (λ e. let y : mass S (branch b x (lags S old) old (leaf i p 1)) ≡ mass S old + 1 = rw e at m in rw (e, y))
+        (λ e. let y : mass S (branch b x (leaf i p 1) old) ≡ mass S old + 1 = rw e at m in rw (e, y))
+        (λ e. let y : mass S (branch b x old (leaf i p 1)) ≡ mass S old + 1 = rw e at m in rw (e, y))
 
     new-cut : cutOf d c new ≡ x .value .value
     new-cut = by-cond (λ y. cutOf d c y ≡ x .value .value) (below S x p) _ _ (λ _. refl) (λ _. refl)
@@ -122,14 +119,14 @@ module _ (d c : ℕ) (t : Tree (whole d)) (p : Reading) (N : List (List ℕ)) (C
       pub parent-low : 0 < k → field path (k - 1) 0 < branchLimit
       parent-low = parent-small d c t new p h k path k-is (w .apart) (w .small) (w .in-range) walked
 
-      pub new-climb : (high : ℕ) → total S t ≤ high → Climb 1 high linkedRows (take k path)
+      pub new-climb : (high : ℕ) → mass S t ≤ high → Climb 1 high linkedRows (take k path)
       new-climb = climbs d c t new p h k path k-is linkedRows linked (w .small) once (w .in-range) (w .filled) walked
 
       pub new-arrays : countAt d c t i ≡ 0 → i < pointLimit → Arrays d c (massOver heavier (take k path) linkedRows) (set C b (x .value .value)) (set K i 1) (some (graft S b i p (h, x) t))
       new-arrays none low =
-          let more : total S new ≡ total S old + 1 = omega (arith, sum-above S (λ i q n. n) (λ b. 0) b x i p old) in
+          let more = mass-laws S .new-branch-mass b x i p old in
           record {
-            rows = weighed d c t new p h k path k-is linkedRows linked (w .small) once (w .in-range) (w .filled) walked heavier once-new (omega (arith, more)) (λ y m. omega (arith, more));
+            rows = weighed d c t new p h k path k-is linkedRows linked (w .small) once (w .in-range) (w .filled) walked heavier once-new (λ y m. omega (arith, more));
             values = ap (set C b) (sym (new-slot (cutOf d c) nought ∙ new-cut)) ∙ cuts-placed d c t new old p h b spot C (w .arrays .values);
             counts = new-counts none low;
           }

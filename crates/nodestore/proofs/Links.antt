@@ -49,7 +49,7 @@ module _ (d c : ℕ) where
 
   turned-mass : (u : Tree S) (old new x : ℕ) → 0 < uses d c u (id S c u) → set (set (turned (rowOf d c u) old new) 2 x) 2 (mass S u) ≡ turned (rowOf d c u) old new
   turned-mass (leaf i q n) old new x m = absurd (omega arith)
-  turned-mass (branch b k g l r) old new x m = by-test (eqb (id S c l) old) (λ e. rw e) (λ e. rw e)
+  turned-mass (branch b k l r) old new x m = by-test (eqb (id S c l) old) (λ e. rw e) (λ e. rw e)
 
   module _ (t s : Tree S) (p : Reading) (h k : ℕ) (path : List (List ℕ)) (k-is : k + h ≡ height S t p) where
     -- the rows of the new tree, and above the node those of the old

@@ -6,14 +6,14 @@ use mathlib.Core.List.{List}
 use Prim.Native.Nat.{ℕ, _+_, _-_, _≤_, _<_}
 use native.Mathlib.Omega.{arith}
 use lib.Dec.{eqb}
-use lib.ListN.{getD, take, set}
+use lib.ListN.{take, set}
 use lib.Ieee.{Float}
 use Rattle.limits.specs.Limits.{capacityLimit, branchLimit, pointLimit, totalLimit}
 use Rattle.cut.specs.declared.Cut.{Cut}
 use Rattle.cuttree.specs.Setting.{Setting, Cut as CutOf}
 use Rattle.cuttree.specs.Tree.{Tree, id, height, mass, above}
 use Rattle.cuttree.specs.Walk.{sub, graft}
-use Rattle.cuttree.proofs.Masses.{mass-most}
+use Rattle.cuttree.proofs.Masses.{mass-in}
 use Rattle.wholetree.specs.Reading.{Reading}
 use Rattle.wholetree.specs.Whole.{whole}
 use Rattle.layout.specs.Slots.{rowOf, field}
@@ -23,7 +23,6 @@ use Rattle.nodestore.specs.Rows.{massOver, relink, heavier, Climb, rowFo
 use Rattle.nodestore.specs.Stored.{Arrays, Graft}
 use Rattle.nodestore.proofs.Masses.{climb-low}
 use Rattle.nodestore.proofs.Facts.{root-replace}
-use Rattle.nodestore.proofs.Climbs.{sub-total}
 use Rattle.walk.proofs.Ends.{walk-is}
 use Rattle.nodestore.proofs.Grafts.{mass-at, id-low, new-id, new-row, parent-low, new-climb, new-arrays}
 
@@ -40,14 +39,14 @@ module _ {d c n k b index h : ℕ} {N path : List (List ℕ)} {C : List Float} {
   node-is : field path k 0 ≡ id S c (sub S t h p)
   node-is = path-node d c p path t (walk-is (w .walked)) k h (w .place)
 
-  pub mass-asks : (o : ℕ) → o ≡ field path k 0 → (o < c → o < branchLimit) × ((o - c < pointLimit) × (c ≤ o → 1 ≤ getD K (o - c) 0))
+  pub mass-asks : (o : ℕ) → o ≡ field path k 0 → (o < c → o < branchLimit) × (o - c < pointLimit)
   mass-asks o e = rw (e ∙ node-is) (id-low d c t p N C K (w .stored) (sub S t h p) (in-sub d c h p t within))
 
   mass-is : (o : ℕ) → o ≡ field path k 0 → massAt c N K o ≡ mass S (sub S t h p)
   mass-is o e = rw (e ∙ node-is) (mass-at d c t p N C K (w .stored) (sub S t h p) (in-sub d c h p t within))
 
   pub mass-low : (o : ℕ) → o ≡ field path k 0 → massAt c N K o ≤ totalLimit - 1
-  mass-low o e = omega (arith, mass-is o e, mass-most S (sub S t h p), sub-total d c h p t within, w .room)
+  mass-low o e = omega (arith, mass-is o e, mass-in S (in-sub d c h p t within), w .room)
 
   row-is : (o m : ℕ) → o ≡ field path k 0 → m ≡ massAt c N K o → rowFor left (index + c) o m (cut .dimension) ≡ rowOf d c (above S b x index p (sub S t h p))
   row-is o m e g = rw (g ∙ mass-is o e, e ∙ node-is, w .left-is, w .channel-is) (sym (new-row d c t p N C K (w .stored) h b index x within (w .fresh) (w .small)))

@@ -83,10 +83,10 @@ module _ (d c : ℕ) where
       copy-counts = count-set d c K t (replace S t 0 p s) (ending S t p .index) (ending S t p .copies) n (w .arrays .counts) (range-ending d c p t (w .in-range)) (count-ending d c p t (w .apart))
           (λ x. omega (arith, sum-replace S (λ i q n. cond (eqb i x) n 0) (λ b. 0) 0 p s t (omega arith), ap (λ y. countAt d c y x) (sub-leaf S p t)))
 
-      pub copy-arrays : (f : ℕ → ℕ) (k : ℕ) (path : List (List ℕ)) → k + 0 ≡ height S t p → take (walk S t p) path ≡ trail d c t p → 0 < n → ((x : ℕ) → 0 < x → f x + ending S t p .copies ≡ x + n) →
+      pub copy-arrays : (f : ℕ → ℕ) (k : ℕ) (path : List (List ℕ)) → k + 0 ≡ height S t p → take (walk S t p) path ≡ trail d c t p → ((x : ℕ) → 0 < x → f x + ending S t p .copies ≡ x + n) →
           Arrays d c (massOver f (take k path) N) C (set K (ending S t p .index) n) (some (replace S t 0 p s))
-      copy-arrays f k path k-is walked pos gain = record {
-        rows = weighed d c t s p 0 k path k-is N (copy-linked k path k-is) (w .small) once (w .in-range) (w .filled) walked f once-new pos (rw (sub-leaf S p t) gain);
+      copy-arrays f k path k-is walked gain = record {
+        rows = weighed d c t s p 0 k path k-is N (copy-linked k path k-is) (w .small) once (w .in-range) (w .filled) walked f once-new (rw (sub-leaf S p t) gain);
         values = copy-cuts;
         counts = copy-counts;
       }

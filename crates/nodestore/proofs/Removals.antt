@@ -15,7 +15,7 @@ use Rattle.cuttree.specs.Tree.{Tree, is, id, ending, height, walk}
 use Rattle.cuttree.specs.Walk.{sub, sibling, replace}
 use Rattle.cuttree.proofs.Intervals.{is-same, is-other}
 use Rattle.cuttree.proofs.Heights.{sum-replace}
-use Rattle.cuttree.proofs.Nodes.{here, all-in}
+use Rattle.cuttree.proofs.Nodes.{here}
 use Rattle.wholetree.specs.Reading.{Reading}
 use Rattle.wholetree.specs.Whole.{whole, tab}
 use Rattle.layout.specs.Slots.{uses, slot, rowOf, cutOf, countAt, field}
@@ -29,7 +29,7 @@ use Rattle.layout.proofs.Ranges.{range-ending}
 use Rattle.layout.proofs.Counts.{count-ending, count-set}
 use Rattle.nodestore.specs.Rows.{massOver, relink, lighter, Climb}
 use Rattle.nodestore.specs.Stored.{Arrays, Stored}
-use Rattle.nodestore.proofs.Facts.{no-either, filled-total, uses-replace}
+use Rattle.nodestore.proofs.Facts.{no-either, uses-replace}
 use Rattle.nodestore.proofs.Climbs.{Linked, climbs, weighed}
 use Rattle.nodestore.proofs.Links.{Spot, linked-turned, parent-small, placed, cuts-placed}
 
@@ -90,7 +90,6 @@ module _ (d c : ℕ) (t : Tree (whole d)) (p : Reading) (N : List (List ℕ)) (C
     pub gone-arrays : Arrays d c (massOver lighter (take k path) (relink (set N gone noRow) path k gone (id S c other))) (set C gone nought) (set K (ending S t p .index) 0) (some (replace S t 1 p other))
     gone-arrays = record {
       rows = weighed d c t other p 1 k path k-is _ linked (w .small) once (w .in-range) (w .filled) walked lighter once-new
-          (filled-total d c other (all-in S (λ i q n. 0 < n) (in-sibling d 0 p t deep) (w .filled)))
           (λ x m. omega (arith, sum-fork d (λ i q n. n) (λ b. 0) c p t deep));
       values = ap (set C gone) (sym (empty (cutOf d c) nought)) ∙ cuts-placed d c t other other p 1 gone spot C (w .arrays .values);
       counts = gone-counts;

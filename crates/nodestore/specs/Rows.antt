@@ -5,7 +5,7 @@ use Prim.Native.Nat.{ℕ, _+_, _-_, _≤_, _<_}
 use lib.Dec.{eqb, ltb}
 use lib.ListN.{getD, set}
 use Rattle.limits.specs.Limits.{branchLimit}
-use Rattle.cuttree.specs.Tree.{is, leafMass}
+use Rattle.cuttree.specs.Tree.{is}
 use Rattle.layout.specs.Slots.{field}
 use Rattle.walk.specs.Walks.{nodeOf}
 
@@ -49,6 +49,6 @@ relink n path k old new = cond (eqb k 0) n (redirect n (field path (k - 1) 0) ol
 abbrev pub rowFor : Bool → ℕ → ℕ → ℕ → ℕ → List ℕ
 rowFor left new old m d = cond left new old ∷ cond left old new ∷ (m + 1) ∷ d ∷ []
 
--- the mass of the node of an id
+-- the mass of the node of an id: a branch's stands in its row, a leaf's is its copies
 abbrev pub massAt : ℕ → List (List ℕ) → List ℕ → ℕ → ℕ
-massAt c n k x = cond (ltb x c) (field n x 2) (leafMass (getD k (x - c) 0))
+massAt c n k x = cond (ltb x c) (field n x 2) (getD k (x - c) 0)

@@ -9,7 +9,7 @@ use Rattle.limits.specs.Limits.{width, capacityLimit, branchLimit, pointLimit, 
 use Rattle.readings.specs.Number.{nought}
 use Rattle.cut.specs.declared.Cut.{Cut}
 use Rattle.cuttree.specs.Setting.{Cut as CutOf, below}
-use Rattle.cuttree.specs.Tree.{Tree, is, ending, height, total, sum, All}
+use Rattle.cuttree.specs.Tree.{Tree, is, ending, height, mass, sum, All}
 use Rattle.wholetree.specs.Reading.{Reading}
 use Rattle.wholetree.specs.Whole.{whole, tab}
 use Rattle.layout.specs.Slots.{uses, rowOf, cutOf, countAt}
@@ -30,7 +30,7 @@ pub record Stored (d c : ℕ) (nodes : List (List ℕ)) (cuts : List Float) (cop
   pub apart : (x : ℕ) → sum (whole d) (λ i q n. is (i + c) x) (λ b. is b x) t ≤ 1
   pub in-range : InRange d c t
   pub filled : All (whole d) (λ i q n. 0 < n) t
-  pub light : total (whole d) t ≤ totalLimit
+  pub light : mass (whole d) t ≤ totalLimit
 
 -- and the path is p's walk, which ends in the leaf of that index
 pub record Reached (d c : ℕ) (nodes : List (List ℕ)) (cuts : List Float) (copies : List ℕ) (path : List (List ℕ)) (n index : ℕ) (t : Tree (whole d)) (p : Reading) : Type 0 where
@@ -45,14 +45,14 @@ pub record SomeReached (nodes : List (List ℕ)) (copies : List ℕ) (path : Lis
   pub tree : Tree (whole channels)
   pub reading : Reading
   pub reached : Reached channels capacity nodes cuts copies path n index tree reading
-  pub room : total (whole channels) tree ≤ most
+  pub room : mass (whole channels) tree ≤ most
 
 -- A NEW VALUE: below the first k nodes of the path, above the node of height h, with the cut x, the new branch b and the new leaf of that
 -- index may come
 pub record Graft (d c : ℕ) (nodes : List (List ℕ)) (cuts : List Float) (copies : List ℕ) (path : List (List ℕ)) (k b index : ℕ) (cut : Cut) (left : Bool) (n : ℕ) (t : Tree (whole d)) (p : Reading) (h : ℕ) (x : CutOf (whole d)) : Type 0 where
   pub stored : Stored d c nodes cuts copies t
   pub walked : Walked d c path n t p
-  pub room : total (whole d) t ≤ totalLimit - 1
+  pub room : mass (whole d) t ≤ totalLimit - 1
   pub place : k + h ≡ height (whole d) t p
   pub fresh : uses d c t b ≡ 0
   pub small : b < branchLimit

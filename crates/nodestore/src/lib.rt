@@ -15,7 +15,7 @@ ghost use lib.ListN.{length, getD, set, take};
 ghost use lib.Ieee.{Float};
 ghost use Rattle.limits.specs.Limits.{width, capacityLimit, branchLimit, pointLimit, totalLimit};
 ghost use Rattle.readings.specs.Number.{nought};
-ghost use Rattle.cuttree.specs.Tree.{Tree, leaf, id, leafMass, addCopy, forget, freed};
+ghost use Rattle.cuttree.specs.Tree.{Tree, leaf, id, addCopy, forget, freed};
 ghost use Rattle.cuttree.specs.Setting.{Cut as CutOf};
 ghost use Rattle.cuttree.specs.Walk.{graft};
 ghost use Rattle.wholetree.specs.Reading.{Reading};
@@ -256,29 +256,17 @@ pub fn lifted_root(root: u16, path: &Path, n: usize) -> u16
     root_of(root, n - 2, sibling_at(path, n - 1))
 }
 
-// The mass of a leaf of k copies.
-fn leaf_mass(k: u16) -> u16
-    requires { ⌜ 1 ≤ k ⌝ }
-    ensures { λ r. ⌜ r ≡ leafMass k ⌝ }
-{
-    if k == 1 {
-        return 1;
-    }
-    k - 1
-}
-
-// The mass of the node of an id.
-// Rules out a leaf's copies taken for its mass, and a branch's mass read for a leaf.
+// The mass of the node of an id: a branch's row has it, and a leaf's copies are it.
+// Rules out a leaf of two copies counted once, and a branch's mass read for a leaf.
 pub fn mass_of(nodes: &Nodes, copies: &Copies, node: u16, capacity: u16) -> u16
     requires { ⌜ (node < capacity → node < branchLimit) ⌝ }
     requires { ⌜ node - capacity < pointLimit ⌝ }
-    requires { ⌜ (capacity ≤ node → 1 ≤ getD (now copies) (node - capacity) 0) ⌝ }
     ensures { λ r. ⌜ r ≡ massAt capacity (now (nodes .entry)) (now (copies .entry)) node ⌝ }
 {
     if node < capacity {
         return nodes[wide16(node)][2];
     }
-    leaf_mass(copies[wide16(node) - wide16(capacity)])
+    copies[wide16(node) - wide16(capacity)]
 }
 
 fn leaf_id(index: usize, capacity: u16) -> u16

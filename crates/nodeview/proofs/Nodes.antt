@@ -36,7 +36,7 @@ use Rattle.nodeview.specs.Writing.{Writing}
 -- the chance of a node with others below it, a branch, is that of its box
 pub branch-chance : (d c : ℕ) (u : Tree (whole d)) (p : Reading) → 0 < height (whole d) u p → probability (lowOf d c u) (highOf d c u) (p .row) width ≡ chance d c u p
 branch-chance d c (leaf i q n) p h = absurd (omega arith)
-branch-chance d c (branch b k g l r) p h = refl
+branch-chance d c (branch b k l r) p h = refl
 
 module _ {d c k : ℕ} {nodes : List (List ℕ)} {copies : List ℕ} {points : List (List Float)} {boxes : List (List (List Float))} {path : List (List ℕ)} {len : ℕ} {point : List Float} {t : Tree (whole d)} {p : Reading} (w : Writing d c k nodes copies points boxes path len point t p) where
   -- the leaf: its point index, and its chance
@@ -71,7 +71,7 @@ module _ {d c k : ℕ} {nodes : List (List ℕ)} {copies : List ℕ} {points : L
       is-node : o ≡ id (whole d) c u
       is-node = f ∙ path-node d c p path t (walk-is (w .walked)) i m (omega (arith, w .walked .count))
 
-      pub mass-asks : (o < c → o < branchLimit) × ((o - c < pointLimit) × (c ≤ o → 1 ≤ getD copies (o - c) 0))
+      pub mass-asks : (o < c → o < branchLimit) × (o - c < pointLimit)
       mass-asks = rw is-node (id-low d c t p nodes (w .cuts) copies (w .stored) u inside)
 
       -- its number where it is cached, and then its box

@@ -50,7 +50,7 @@ module _ (d c : ℕ) where
   -- operations on the node's box; that they come to this is `ChancesAsDocument` (Laws.antt).
   abbrev pub chance : Tree (whole d) → Reading → Float
   chance (leaf i q n) p = cond (whole d .same q p) nought one
-  chance (branch b k g l r) p = probability (lowOf d c (branch b k g l r)) (highOf d c (branch b k g l r)) (p .row) width
+  chance (branch b k l r) p = probability (lowOf d c (branch b k l r)) (highOf d c (branch b k l r)) (p .row) width
 
   -- the row of the walk's node of height m. The root's depth is 0, and each node's is one more than that of the node above it.
   abbrev pub rowAt : Tree (whole d) → Reading → ℕ → ReportRow

@@ -13,8 +13,8 @@ module _ (d c : ℕ) where
   -- 'id dimension cut left right mass' of each node, 'branch before left before right'
   abbrev pub linesOf : Tree (whole d) → List ℕ
   linesOf (leaf i q n) = leafLine (id (whole d) c (leaf i q n)) (mass (whole d) (leaf i q n))
-  linesOf (branch b k g l r) =
-      branchLine b (k .channel) (toBits binary32 (k .value .value)) (id (whole d) c l) (id (whole d) c r) (mass (whole d) (branch b k g l r)) ++ linesOf l ++ linesOf r
+  linesOf (branch b k l r) =
+      branchLine b (k .channel) (toBits binary32 (k .value .value)) (id (whole d) c l) (id (whole d) c r) (mass (whole d) (branch b k l r)) ++ linesOf l ++ linesOf r
 
   -- 'a line of names, then lines of values', and 'An empty tree prints the names line alone.'
   abbrev pub printedTree : Option (Tree (whole d)) → List ℕ

@@ -11,11 +11,11 @@ use lib.Ieee.{Float}
 use borrow.Author.Tests.{le-leb, lt-leb, eq-eqb, ne-eqb, lt-ltb, le-ltb, leb-false, eqb-false}
 use Rattle.limits.specs.Limits.{pointLimit, totalLimit}
 use Rattle.intervalstoremanager.specs.Stack.{next}
-use Rattle.cuttree.specs.Tree.{Tree, leaf, branch, id, ending, found, walk, leaves, total, addCopy}
+use Rattle.cuttree.specs.Tree.{Tree, leaf, branch, id, ending, found, walk, leaves, mass, addCopy}
 use Rattle.cuttree.specs.Setting.{below}
 use Rattle.cuttree.specs.Run.{World, add, call, refuse, withPoint, enter, withTree, totalOf, Answer, refused, added, indexAbove, neverWritten, full, fewWords}
 use Rattle.cuttree.proofs.Tests.{by-cond, cond-true, cond-false}
-use Rattle.cuttree.proofs.Copies.{total-copy, total-insert}
+use Rattle.cuttree.proofs.Copies.{mass-copy, mass-insert}
 use Rattle.cuttree.proofs.Room.{full-is, next-free, index-absent, at-none}
 use Rattle.wholetree.specs.Reading.{Reading}
 use Rattle.wholetree.specs.Whole.{whole}
@@ -44,7 +44,7 @@ use Rattle.randomcuttree.proofs.Calls as Calls
 -- a copy more leaves the root's id
 copy-root : (d c : ℕ) (p : Reading) (t : Tree (whole d)) → id (whole d) c (addCopy (whole d) p t) ≡ id (whole d) c t
 copy-root d c p (leaf i q n) = refl
-copy-root d c p (branch b x g l r) = by-cond (λ s. id (whole d) c s ≡ b) (below (whole d) x p) _ _ (λ _. refl) (λ _. refl)
+copy-root d c p (branch b x l r) = by-cond (λ s. id (whole d) c s ≡ b) (below (whole d) x p) _ _ (λ _. refl) (λ _. refl)
 
 module _ {d c : ℕ} {s : Float} {W : World (whole d)} {tree : RCFTree} {a : Lent} {points : List (List Float)} {marks : List ℕ} (H : State d c s W tree a points marks) (i : ℕ) where
   abbrev k : ℕ
@@ -113,10 +113,10 @@ module _ {d c : ℕ} {s : Float} {W : World (whole d)} {tree : RCFTree} {a : Len
           walking : Walking d c k t (W .free) p (headerOf d c s W .root) (headerOf d c s W .manager) a points path (f .walk) (f .leaf) (getD points i [])
           walking = Calls.walking H T m P F
 
-          total-of : tree .total ≡ total (whole d) t
+          total-of : tree .total ≡ mass (whole d) t
           total-of = Parts.total-is H ∙ ap (totalOf (whole d)) T
 
-          light : total (whole d) t ≤ totalLimit - 1
+          light : mass (whole d) t ≤ totalLimit - 1
           light = omega (arith, walking .stored .light, total-of, room)
 
           pub total-low : tree .total ≤ totalLimit - 1
@@ -132,7 +132,7 @@ module _ {d c : ℕ} {s : Float} {W : World (whole d)} {tree : RCFTree} {a : Len
           copied ws g header N K e h =
               let boxes = copy-boxes d c k t p (walking .once) in
               done ws (added (ending (whole d) t p .index) 0) (some (addCopy (whole d) p t)) (W .free) (record { root = tree .root; manager = tree .manager }) (tree .total + 1) header _ (Added header (f .leaf) 0)
-              (entered ws (some t) T ∙ cond-true _ _ _ (sym (found-in .held-is) ∙ g)) (ap (λ j. Added header j 0) (found-in .leaf-is)) e (omega (arith, total-of, total-copy (whole d) p t))
+              (entered ws (some t) T ∙ cond-true _ _ _ (sym (found-in .held-is) ∙ g)) (ap (λ j. Added header j 0) (found-in .leaf-is)) e (omega (arith, total-of, mass-copy (whole d) p t))
               (edit-done d c k (some (addCopy (whole d) p t)) (W .free) (tree .root) (tree .manager) _
               (ap (λ (x : RCFTree). x .root) (H .header-is) ∙ walking .root-is ∙ sym (copy-root d c p t)) (ap (λ (x : RCFTree). x .manager) (H .header-is)) (h d c (a .cuts) t p (reached walking)) (free-are walking)
               (boxes-are walking ∙ sym boxes))
@@ -184,4 +184,4 @@ module _ {d c : ℕ} {s : Float} {W : World (whole d)} {tree : RCFTree} {a : Len
                     let left = subst (λ (x : RCFTree). Enters (x .capacity) (x .cached) (x .root) (x .manager) a points path (f .walk) (f .leaf) i ws (getD points i []) r b) (H .header-is) h d t (W .free) p entering in
                     done ws (added i (walk (whole d) t p)) _ _ (record { root = r .root; manager = r .manager }) (tree .total + 1) header b (Added header i (r .words))
                     (entered ws (some t) T ∙ cond-false _ _ _ absent ∙ cond-false _ _ _ (full-as e false empty some-left) ∙ cond-false _ _ _ (le-ltb (length ws) (walk (whole d) t p) (omega (arith, enough, found-in .walked .count))))
-                    (ap (λ x. Added header i x) (left .1)) g (omega (arith, total-of, total-insert (whole d) (next (W .free)) i p (λ m. getD ws m 0) t)) (left .0)
+                    (ap (λ x. Added header i x) (left .1)) g (omega (arith, total-of, mass-insert (whole d) (next (W .free)) i p (λ m. getD ws m 0) t)) (left .0)

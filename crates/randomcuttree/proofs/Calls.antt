@@ -12,7 +12,7 @@ use Rattle.cuttree.specs.Tree.{Tree}
 use Rattle.cuttree.specs.Run.{World, Answer, totalOf}
 use Rattle.cuttree.proofs.Tests.{at-most-one}
 use Rattle.cuttree.proofs.Freed.{freed-used, freed-below}
-use Rattle.cuttree.proofs.Leaves.{leaves-total, leaves-branches}
+use Rattle.cuttree.proofs.Leaves.{leaves-mass, leaves-branches}
 use Rattle.wholetree.specs.Reading.{Reading}
 use Rattle.wholetree.specs.Whole.{whole}
 use Rattle.layout.specs.Layout.{Table, tableOf, mark}
@@ -86,7 +86,7 @@ module _ {d c : ℕ} {s : Float} {W : World (whole d)} {tree : RCFTree} {a : Len
     where
       go : (o : Option (Tree (whole d))) → W .tree ≡ o → W .tree ≡ none
       go none h = h
-      go (some t) h = absurd (omega (arith, e, total-is H ∙ ap (totalOf (whole d)) h, leaves-total (whole d) t (sound (H .reachable) h .filled), leaves-branches (whole d) t))
+      go (some t) h = absurd (omega (arith, e, total-is H ∙ ap (totalOf (whole d)) h, leaves-mass (whole d) t (sound (H .reachable) h .filled), leaves-branches (whole d) t))
 
   pub a-tree : (tree .total ≡ 0 → ⊥) → (t : Tree (whole d)) × (W .tree ≡ some t)
   a-tree e = go (W .tree) refl

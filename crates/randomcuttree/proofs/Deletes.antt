@@ -12,7 +12,7 @@ use Rattle.limits.specs.Limits.{pointLimit}
 use Rattle.cuttree.specs.Tree.{Tree, ending, forget}
 use Rattle.cuttree.specs.Run.{World, Answer, refused, deleted, indexAbove, neverWritten, treeEmpty, notHeld, delete, call, withPoint, leave, totalOf}
 use Rattle.cuttree.proofs.Tests.{cond-true, cond-false}
-use Rattle.cuttree.proofs.Copies.{total-forget}
+use Rattle.cuttree.proofs.Copies.{mass-forget}
 use Rattle.wholetree.specs.Reading.{Reading}
 use Rattle.wholetree.specs.Whole.{whole}
 use Rattle.treestore.specs.declared.Edited.{Edited}
@@ -75,7 +75,7 @@ module _ {d c : ℕ} {s : Float} {W : World (whole d)} {tree : RCFTree} {a : Len
         walking = Calls.walking H T m P F
 
         fewer : tree .total ≡ totalOf (whole d) (forget (whole d) p t) + 1
-        fewer = omega (arith, total-is H ∙ ap (totalOf (whole d)) T, total-forget (whole d) p t (walking .stored .filled))
+        fewer = omega (arith, total-is H ∙ ap (totalOf (whole d)) T, mass-forget (whole d) p t (walking .stored .filled))
 
         pub not-held : f .held ≡ false → Done (NotDeleted 13) a
         not-held g = refusing (refused notHeld) _ (leaving (some t) T ∙ cond-true _ _ _ (ap not (sym (found-in .held-is) ∙ g))) refl

@@ -39,7 +39,7 @@ module _ {d c : ℕ} {W : World (whole d)} (R : Reachable d c W) {t : Tree (whol
 
   range-in : d ≤ width → (u : Tree (whole d)) → In (whole d) u t → OnChannels d u → InRange d c u
   range-in m (leaf i q n) h o = index-below (whole d) c (whole-laws d) (W .table) t (W .free) sound h
-  range-in m (branch b x g l r) h o = (
+  range-in m (branch b x l r) h o = (
     omega (arith, number-below (whole d) c (whole-laws d) (W .table) t (W .free) sound b (uses-in (whole d) h)),
     omega (arith, o .0),
     range-in m l (in-trans (whole d) (left here) h) (o .1),

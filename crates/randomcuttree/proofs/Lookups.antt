@@ -1,6 +1,5 @@
 -- Nodes looked up by their ids: where a state's arrays say that there is a leaf or a branch, and that the tree has it there and nowhere else. Assumes nothing.
 use mathlib.Core.Path.{_≡_, refl, sym, ap, _∙_}
-use mathlib.Core.Bool.{Bool}
 use mathlib.Core.Option.{Option, none, some}
 use mathlib.Core.List.{List}
 use Prim.Native.Nat.{ℕ, _+_, _-_, _≤_, _<_}
@@ -10,10 +9,11 @@ use lib.ListN.{getD}
 use borrow.Author.Tests.{ltb-true, ltb-false, lt-ltb}
 use Rattle.limits.specs.Limits.{pointLimit}
 use Rattle.cuttree.specs.Setting.{Cut}
-use Rattle.cuttree.specs.Tree.{Tree, leaf, branch, id, total, mass, All}
+use Rattle.cuttree.specs.Tree.{Tree, leaf, branch, id, mass}
 use Rattle.cuttree.specs.Sound.{Sound}
 use Rattle.cuttree.specs.Run.{refused, copiesAre, noSuchNode, look, copiesFound, branchFound, boxFound}
-use Rattle.cuttree.proofs.Tests.{by-test, by-cond}
+use Rattle.cuttree.proofs.Tests.{by-test}
+use Rattle.cuttree.proofs.Masses.{mass-pos}
 use Rattle.cuttree.proofs.Nodes.{In, all-in, look-in, in-look, nodes-one}
 use Rattle.cuttree.proofs.Room.{indexed, find-leaf, at-leaf, leaf-copies, number-below, index-below, index-once}
 use Rattle.wholetree.specs.Reading.{Reading}
@@ -23,16 +23,6 @@ use Rattle.layout.specs.Slots.{uses, slot, rowOf, countAt}
 use Rattle.layout.specs.Layout.{noRow}
 use Rattle.layout.specs.Stands.{Once}
 use Rattle.layout.proofs.Slots.{Branch, uses-in, branch-of, slot-none, slot-in}
-
--- a tree whose leaves have copies has some, and a branch's mass is not 0
-module _ (d c : ℕ) where
-  some-total : (t : Tree (whole d)) → All (whole d) (λ i q n. 0 < n) t → 0 < total (whole d) t
-  some-total (leaf i q n) h = h
-  some-total (branch b k g l r) h = omega (arith, some-total l (h .0))
-
-  some-mass : (b : ℕ) (k : Cut (whole d)) (g : Bool) (l r : Tree (whole d)) → All (whole d) (λ i q n. 0 < n) (branch b k g l r) → 0 < mass (whole d) (branch b k g l r)
-  some-mass b k g l r h = by-cond (λ (x : ℕ). 0 < total (whole d) (branch b k g l r) - x) g 1 0
-      (λ _. omega (arith, some-total l (h .0), some-total r (h .1))) (λ _. omega (arith, some-total l (h .0)))
 
 -- the tree of a sound world
 module _ (d c : ℕ) (f : ℕ → Option Reading) (t : Tree (whole d)) (u : List (ℕ × ℕ)) (H : Sound (whole d) c (record { table = f; tree = some t; free = u })) where
@@ -68,7 +58,7 @@ module _ (d c : ℕ) (f : ℕ → Option Reading) (t : Tree (whole d)) (u : List
         go : (o : Option (Tree (whole d))) → look (whole d) c t x ≡ o → copiesFound (whole d) o ≡ refused noSuchNode
         go none e = refl
         go (some (leaf i q n)) e = let w = leaf-at i q n e in absurd (omega (arith, h (w .above) (w .within), w .copies, w .some-copies))
-        go (some (branch b k g l r)) e = refl
+        go (some (branch b k l r)) e = refl
 
     copied : (q : Reading) (n : ℕ) → c ≤ x → In (whole d) (leaf (x - c) q n) t → copiesFound (whole d) (look (whole d) c t x) ≡ copiesAre (countAt d c t (x - c))
     copied q n a i =
@@ -86,7 +76,7 @@ module _ (d c : ℕ) (f : ℕ → Option Reading) (t : Tree (whole d)) (u : List
     pub branch-below : 0 < uses d c t x → x + 1 < c
     branch-below h = omega (arith, number-below (whole d) c (whole-laws d) f t u H x h)
 
-    pub branch-found : (B : Branch d c t x) → look (whole d) c t x ≡ some (branch x (B .cut) (B .lag) (B .low) (B .high))
+    pub branch-found : (B : Branch d c t x) → look (whole d) c t x ≡ some (branch x (B .cut) (B .low) (B .high))
     branch-found B = found (B .inside)
 
     -- the mass in a slot tells whether it is a branch's
@@ -100,14 +90,14 @@ module _ (d c : ℕ) (f : ℕ → Option Reading) (t : Tree (whole d)) (u : List
     pub without-mass : massAt ≡ 0 → uses d c t x ≡ 0
     without-mass h = by-test (ltb 0 (uses d c t x))
         (λ e. let B = branch-of d c t x (ltb-true 0 (uses d c t x) e) in
-        let z : massAt ≡ mass (whole d) (branch x (B .cut) (B .lag) (B .low) (B .high)) = rw (slot-in d c (rowOf d c) noRow once (B .inside)) refl in
-        absurd (omega (arith, some-mass d c x (B .cut) (B .lag) (B .low) (B .high) (all-in (whole d) (λ i q n. 0 < n) (B .inside) (H .filled)))))
+        let z : massAt ≡ mass (whole d) (branch x (B .cut) (B .low) (B .high)) = rw (slot-in d c (rowOf d c) noRow once (B .inside)) refl in
+        absurd (omega (arith, mass-pos (whole d) (branch x (B .cut) (B .low) (B .high)) (all-in (whole d) (λ i q n. 0 < n) (B .inside) (H .filled)))))
         (λ e. omega (arith, ltb-false 0 (uses d c t x) e))
 
     -- no branch has the id: a branch query and a box query are refused
-    not-branch : uses d c t x ≡ 0 → (b : ℕ) (k : Cut (whole d)) (g : Bool) (l r : Tree (whole d)) → look (whole d) c t x ≡ some (branch b k g l r) → ⊥
-    not-branch h b k g l r e =
-        let (i, z) = in-look (whole d) c t x (branch b k g l r) e in
+    not-branch : uses d c t x ≡ 0 → (b : ℕ) (k : Cut (whole d)) (l r : Tree (whole d)) → look (whole d) c t x ≡ some (branch b k l r) → ⊥
+    not-branch h b k l r e =
+        let (i, z) = in-look (whole d) c t x (branch b k l r) e in
         let p : 0 < uses d c t x = rw z at (uses-in d c i) in
         omega arith
 
@@ -117,4 +107,4 @@ module _ (d c : ℕ) (f : ℕ → Option Reading) (t : Tree (whole d)) (u : List
         go : (o : Option (Tree (whole d))) → look (whole d) c t x ≡ o → (branchFound (whole d) c o ≡ refused noSuchNode) × (boxFound (whole d) o ≡ refused noSuchNode)
         go none e = (refl, refl)
         go (some (leaf i q n)) e = (refl, refl)
-        go (some (branch b k g l r)) e = absurd (not-branch h b k g l r e)
+        go (some (branch b k l r)) e = absurd (not-branch h b k l r e)

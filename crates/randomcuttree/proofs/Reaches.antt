@@ -33,19 +33,19 @@ module _ (d : ℕ) where
 
   insert-in : 1 ≤ d → d ≤ width → (b i : ℕ) (p : Reading) (w : ℕ → ℕ) → Padded (p .row) d width → (t : Tree (whole d)) → All (whole d) (λ i q n. Padded (q .row) d width) t → OnChannels d t → OnChannels d (insert (whole d) b i p w t)
   insert-in o m b i p w z (leaf j q n) y h = above-in b _ i p (leaf j q n) (tree-channel d (leaf j q n) p (w 0) o m y z) tt
-  insert-in o m b i p w z (branch a k g l r) y h = by-cond (OnChannels d) (parted (whole d) (branch a k g l r) p (w (height (whole d) (branch a k g l r) p))) _ _
-      (λ _. above-in b _ i p (branch a k g l r) (tree-channel d (branch a k g l r) p _ o m y z) h)
+  insert-in o m b i p w z (branch a k l r) y h = by-cond (OnChannels d) (parted (whole d) (branch a k l r) p (w (height (whole d) (branch a k l r) p))) _ _
+      (λ _. above-in b _ i p (branch a k l r) (tree-channel d (branch a k l r) p _ o m y z) h)
       (λ _. by-cond (OnChannels d) (below (whole d) k p) _ _ (λ _. (h .0, insert-in o m b i p w z l (y .0) (h .1), h .2)) (λ _. (h .0, h .1, insert-in o m b i p w z r (y .1) (h .2))))
 
   copy-in : (p : Reading) (t : Tree (whole d)) → OnChannels d t → OnChannels d (addCopy (whole d) p t)
   copy-in p (leaf i q n) h = tt
-  copy-in p (branch b k g l r) h = by-cond (OnChannels d) (below (whole d) k p) _ _ (λ _. (h .0, copy-in p l (h .1), h .2)) (λ _. (h .0, h .1, copy-in p r (h .2)))
+  copy-in p (branch b k l r) h = by-cond (OnChannels d) (below (whole d) k p) _ _ (λ _. (h .0, copy-in p l (h .1), h .2)) (λ _. (h .0, h .1, copy-in p r (h .2)))
 
   forget-in : (p : Reading) (t : Tree (whole d)) → OnChannels d t → OfTree (whole d) (OnChannels d) (forget (whole d) p t)
   forget-in p (leaf i q n) h = by-cond (OfTree (whole d) (OnChannels d)) (ltb 1 n) _ _ (λ _. tt) (λ _. tt)
-  forget-in p (branch b k g l r) h = by-cond (OnChannels d) (below (whole d) k p) _ _
-      (λ _. lifted (whole d) (OnChannels d) (OnChannels d) (forget (whole d) p l) (λ t. branch b k g t r) r (forget-in p l (h .1)) (h .2) (λ t w. (h .0, w, h .2)))
-      (λ _. lifted (whole d) (OnChannels d) (OnChannels d) (forget (whole d) p r) (λ t. branch b k g l t) l (forget-in p r (h .2)) (h .1) (λ t w. (h .0, h .1, w)))
+  forget-in p (branch b k l r) h = by-cond (OnChannels d) (below (whole d) k p) _ _
+      (λ _. lifted (whole d) (OnChannels d) (OnChannels d) (forget (whole d) p l) (λ t. branch b k t r) r (forget-in p l (h .1)) (h .2) (λ t w. (h .0, w, h .2)))
+      (λ _. lifted (whole d) (OnChannels d) (OnChannels d) (forget (whole d) p r) (λ t. branch b k l t) l (forget-in p r (h .2)) (h .1) (λ t w. (h .0, h .1, w)))
 
   -- after a call
   abbrev After : Answer (whole d) × World (whole d) → Type 0

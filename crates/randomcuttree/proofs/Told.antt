@@ -1,6 +1,5 @@
 -- The queries, place by place: what is read in the arrays of a state is what the tree has at an id. Assumes nothing.
 use mathlib.Core.Path.{_≡_, refl, sym, ap, _∙_, subst}
-use mathlib.Core.Bool.{Bool}
 use mathlib.Core.Option.{Option, none, some}
 use mathlib.Core.List.{List, []}
 use Prim.Native.Nat.{ℕ, _-_, _≤_, _<_}
@@ -175,10 +174,10 @@ module _ (tree : RCFTree) (nodes : List (List ℕ)) (points : List (List Float))
   module _ (l : x < branchLimit) (h : massRead nodes x ≡ 0 → ⊥) where
     -- the branch of the id, whose box stands in the arrays
     record BoxAt (d c k : ℕ) (o : Option (Tree (whole d))) : Type 0 where
-      pub node : Cut (whole d) × Bool × Tree (whole d) × Tree (whole d)
-      pub found : lookIn (whole d) c o x ≡ some (branch x (node .0) (node .1) (node .2) (node .3))
-      pub singly : Once d c (branch x (node .0) (node .1) (node .2) (node .3))
-      pub boxed-there : Boxed d c k nodes points boxes (branch x (node .0) (node .1) (node .2) (node .3))
+      pub node : Cut (whole d) × Tree (whole d) × Tree (whole d)
+      pub found : lookIn (whole d) c o x ≡ some (branch x (node .0) (node .1) (node .2))
+      pub singly : Once d c (branch x (node .0) (node .1) (node .2))
+      pub boxed-there : Boxed d c k nodes points boxes (branch x (node .0) (node .1) (node .2))
 
     box-at : (d c : ℕ) (s : Float) (W : World (whole d)) (a : Lent) (marks : List ℕ) → State d c s W tree a points marks → BoxRead a nodes boxes → BoxAt d c (cachedBy s c) (W .tree)
     box-at d c s W a marks S e = go (W .tree) refl
@@ -193,7 +192,7 @@ module _ (tree : RCFTree) (nodes : List (List ℕ)) (points : List (List Float))
             let B = used nodes x d c (W .table) t (W .free) H (S .limits .3) (rw T at rows) l h in
             let b : Boxed d c (cachedBy s c) nodes points boxes t = rw (e .nodes-are, e .boxes-are) at (boxed S T) in
             record {
-              node = (B .cut, B .lag, B .low, B .high);
+              node = (B .cut, B .low, B .high);
               found = branch-found d c (W .table) t (W .free) H x B;
               singly = once-in d c (B .inside) (once d c (W .table) t (W .free) H);
               boxed-there = boxed-in d c (B .inside) b;
@@ -203,12 +202,12 @@ module _ (tree : RCFTree) (nodes : List (List ℕ)) (points : List (List Float))
     some-boxed w =
         let S = w .state .state in
         let B = box-at (w .state .channels) (w .state .capacity) (w .state .share) (w .state .world) (w .lent) (w .marks) S (w .read) in
-        rw (capacity-is S, cached-is S) (S .limits .3, record { channels = w .state .channels; tree = branch x (B .node .0) (B .node .1) (B .node .2) (B .node .3); at-node = refl; once = B .singly; boxed = B .boxed-there })
+        rw (capacity-is S, cached-is S) (S .limits .3, record { channels = w .state .channels; tree = branch x (B .node .0) (B .node .1) (B .node .2); at-node = refl; once = B .singly; boxed = B .boxed-there })
 
     pub box-told : (b : BoundingBox) → BoxOf (tree .capacity) (tree .cached) x nodes points boxes b → BoxTold tree nodes points boxes x (record { refusal = 0; «bounding_box» = b })
     box-told b F d c s W a marks S e =
         let B = box-at d c s W a marks S e in
-        let w = (rw (capacity-is S, cached-is S) at F) d (branch x (B .node .0) (B .node .1) (B .node .2) (B .node .3)) refl (B .boxed-there) in
+        let w = (rw (capacity-is S, cached-is S) at F) d (branch x (B .node .0) (B .node .1) (B .node .2)) refl (B .boxed-there) in
         rw (B .found) (answered _ _ (w .0) (w .1))
       where
         answered : (p q : List Float) → b .«min_values» ≡ p → b .«max_values» ≡ q → _≡_ {A = BoxAnswer} (record { refusal = 0; «bounding_box» = b }) (record { refusal = 0; «bounding_box» = record { «min_values» = p; «max_values» = q } })

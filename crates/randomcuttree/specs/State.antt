@@ -25,7 +25,7 @@ cachedBy s c = min (cachedPart s c) (c - 1)
 -- every branch is cut on one of the tree's d channels
 abbrev pub OnChannels : (d : ℕ) → Tree (whole d) → Type 0
 OnChannels d (leaf i q n) = Unit {0}
-OnChannels d (branch b k g l r) = (k .channel < d) × OnChannels d l × OnChannels d r
+OnChannels d (branch b k l r) = (k .channel < d) × OnChannels d l × OnChannels d r
 
 -- Every world that a making and its calls leave is one of these (`StatesStand`): sound, cut on the tree's own channels, and with readings of its width.
 pub record Reachable (d c : ℕ) (W : World (whole d)) : Type 0 where

@@ -10,14 +10,14 @@ use lib.ListN.{length, getD}
 use borrow.Author.Tests.{lt-leb, le-ltb, lt-ltb, ne-eqb, ltb-false, ltb-true}
 use Rattle.cuttree.specs.Setting.{Setting, Laws}
 use Rattle.intervalstoremanager.specs.Stack.{next, afterGet}
-use Rattle.cuttree.specs.Tree.{Tree, leaf, is, Leaf, ending, found, walk, leaves, total, copies, sum, sumOf, forget, freed, All}
+use Rattle.cuttree.specs.Tree.{Tree, leaf, is, Leaf, ending, found, walk, leaves, mass, copies, sum, sumOf, forget, freed, All}
 use Rattle.cuttree.specs.Run.{World, Answer, added, deleted, call, add, delete, enter, leave, totalOf}
 use Rattle.cuttree.specs.Counts.{one}
 use Rattle.cuttree.specs.Sound.{Sound}
 use Rattle.cuttree.proofs.Tests.{by-test}
 use Rattle.cuttree.proofs.Sums.{numberIn, sum-insert, sum-copy, sum-forget}
-use Rattle.cuttree.proofs.Leaves.{walk-leaves, leaves-total, all-ending}
-use Rattle.cuttree.proofs.Copies.{total-insert, total-copy, total-forget, copies-copy, copies-forget}
+use Rattle.cuttree.proofs.Leaves.{walk-leaves, leaves-mass, all-ending}
+use Rattle.cuttree.proofs.Copies.{mass-insert, mass-copy, mass-forget, copies-copy, copies-forget}
 use Rattle.cuttree.proofs.Cuts.{leaf-ending}
 use Rattle.cuttree.proofs.Nodes.{In, all-in}
 use Rattle.cuttree.proofs.Room.{find-leaf, leaf-copies}
@@ -54,7 +54,7 @@ module _ (S : Setting) (L : Laws S) (c : ℕ) where
       totalOf S o < c → c ≤ length ws → Adds (record { table = f; tree = o; free = u }) (enter S c (record { table = f; tree = o; free = u }) o i p ws)
   enter-adds f none u i p ws H at m w = record { leaf-index = i; words = 0; answer = refl; one-more = λ j. omega arith; value-more = λ v. rw at (omega arith); total-more = refl }
   enter-adds f (some t) u i p ws H at m w =
-      let few : leaves S t ≤ total S t = leaves-total S t (H .filled) in
+      let few : leaves S t ≤ mass S t = leaves-mass S t (H .filled) in
       let room : leb c (leaves S t) ≡ false = lt-leb c (leaves S t) (omega arith) in
       let enough : ltb (length ws) (walk S t p) ≡ false = le-ltb (length ws) (walk S t p) (omega (arith, walk-leaves S t p)) in
       by-test (found S t p)
@@ -64,7 +64,7 @@ module _ (S : Setting) (L : Laws S) (c : ℕ) where
         answer = refl;
         one-more = λ j. omega (arith, sum-copy S (λ i q n. cond (eqb i j) n 0) (λ b. 0) p t, by-index (ending S t p .index) j (ending S t p .copies));
         value-more = λ v. copies-copy S L p t v e ∙ ap (λ (n : ℕ). copies S t v + n) (sym (found-value f t p v (H .agree) e));
-        total-more = total-copy S p t;
+        total-more = mass-copy S p t;
       }))
       (λ e. rw (e, room, enough) (record {
         leaf-index = i;
@@ -72,7 +72,7 @@ module _ (S : Setting) (L : Laws S) (c : ℕ) where
         answer = refl;
         one-more = λ j. omega (arith, sum-insert S (λ i q n. cond (eqb i j) n 0) (λ b. 0) (next u) i p (λ n. getD ws n noWord) t);
         value-more = λ v. rw at (omega (arith, sum-insert S (λ i q n. cond (same q v) n 0) (λ b. 0) (next u) i p (λ n. getD ws n noWord) t));
-        total-more = total-insert S (next u) i p (λ n. getD ws n noWord) t;
+        total-more = mass-insert S (next u) i p (λ n. getD ws n noWord) t;
       }))
 
   pub add-admits : (W : World S) (i : ℕ) (p : Point) (ws : List Word) → Sound S c W → W .table i ≡ some p → totalOf S (W .tree) < c → c ≤ limit → c ≤ length ws → Adds W (call S c W (add i ws))
@@ -109,7 +109,7 @@ module _ (S : Setting) (L : Laws S) (c : ℕ) where
         answer = ap (λ (x : Leaf S). deleted (x .index)) a;
         one-less = λ j. omega (arith, rw a at (sum-forget S (λ i q n. cond (eqb i j) n 0) (λ b. 0) q t), less e j n h, none-in (freed S q t));
         value-less = λ v. rw at (copies-forget S L q t v (H .filled) hit);
-        total-less = total-forget S q t (H .filled);
+        total-less = mass-forget S q t (H .filled);
       })
 
   pub delete-admits : (f : ℕ → Option Point) (o : Option (Tree S)) (u : List (ℕ × ℕ)) (e : ℕ) → Sound S c (record { table = f; tree = o; free = u }) → 0 < held o e → Deletes (record { table = f; tree = o; free = u }) e (call S c (record { table = f; tree = o; free = u }) (delete e))

@@ -11,4 +11,4 @@ use Rattle.boxstore.specs.Boxed.{Linked}
 
 pub linked : (d c : ℕ) (nodes : List (List ℕ)) (t : Tree (whole d)) → Laid d c (rowOf d c) (λ (j : ℕ). getD nodes j []) t → Linked d c nodes t
 linked d c nodes (leaf i q n) h = tt
-linked d c nodes (branch b x g l r) h = (ap (λ (y : List ℕ). getD y 0 0) (h .0), ap (λ (y : List ℕ). getD y 1 0) (h .0), linked d c nodes l (h .1), linked d c nodes r (h .2))
+linked d c nodes (branch b x l r) h = (ap (λ (y : List ℕ). getD y 0 0) (h .0), ap (λ (y : List ℕ). getD y 1 0) (h .0), linked d c nodes l (h .1), linked d c nodes r (h .2))

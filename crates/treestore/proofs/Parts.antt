@@ -45,5 +45,5 @@ module _ (d c k : ℕ) where
 
   -- a lone leaf has no boxes
   pub no-boxes : (p : Reading) (s : Tree (whole d)) → height (whole d) s p ≡ 0 → tab branchLimit (boxIn d c k (some s)) ≡ tab branchLimit (boxIn d c k none)
-  no-boxes p (branch b x g l r) h = absurd (omega arith)
+  no-boxes p (branch b x l r) h = absurd (omega arith)
   no-boxes p (leaf i q x) h = same-tab noBoxEnds branchLimit (boxIn d c k (some (leaf i q x))) (boxIn d c k none) (λ j _. ap (λ (y : List (List Float)). cond (ltb j k) y noBoxEnds) (slot-none d c (boxEnds d c) noBoxEnds (leaf i q x) j refl))

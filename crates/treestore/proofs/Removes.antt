@@ -66,7 +66,7 @@ module _ {d c k : ℕ} {t : Tree (whole d)} {u : List (ℕ × ℕ)} {p : Reading
   -- ---- copies are left
   less-root : (m : ℕ) (s : Tree S) → id S c (replace S s 0 p (leafWith S s p m)) ≡ id S c s
   less-root m (leaf i q x) = refl
-  less-root m (branch b x g l r) = root-replace d c (branch b x g l r) _ p 0 (height S (branch b x g l r) p) (omega arith) ∙ cond-false _ _ _ (ne-eqb (height S (branch b x g l r) p) 0 (λ e. omega (arith, e)))
+  less-root m (branch b x l r) = root-replace d c (branch b x l r) _ p 0 (height S (branch b x l r) p) (omega arith) ∙ cond-false _ _ _ (ne-eqb (height S (branch b x l r) p) 0 (λ e. omega (arith, e)))
 
   pub dropped : (N : List (List ℕ)) (K : List ℕ) → 1 < getD (a .copies) index 0 → Arrays d c N (a .cuts) K (forget S p t) × (freed S p t ≡ none) → Gone root manager (lent N (a .cuts) K (a .free) (a .boxes))
   dropped N K m A =

@@ -9,7 +9,7 @@ use lib.Ieee.{Float}
 use Rattle.limits.specs.Limits.{pointLimit, totalLimit}
 use Rattle.intervalstoremanager.specs.declared.IntervalStoreManager.{IntervalStoreManager}
 use Rattle.intervalstoremanager.specs.Stack.{next, afterGet}
-use Rattle.cuttree.specs.Tree.{Tree, found, total, walk, insert}
+use Rattle.cuttree.specs.Tree.{Tree, found, mass, walk, insert}
 use Rattle.wholetree.specs.Reading.{Reading}
 use Rattle.wholetree.specs.Whole.{whole}
 use Rattle.layout.specs.Slots.{uses, countAt}
@@ -21,7 +21,7 @@ use Rattle.treestore.specs.Edits.{Walking}
 pub record Entering (d c k : ℕ) (t : Tree (whole d)) (u : List (ℕ × ℕ)) (p : Reading) (root : ℕ) (manager : IntervalStoreManager) (a : Lent) (points : List (List Float)) (path : List (List ℕ)) (n leaf index : ℕ) (words : List ℕ) (point : List Float) : Type 0 where
   pub walking : Walking d c k t u p root manager a points path n leaf point
   pub absent : found (whole d) t p ≡ false
-  pub room : total (whole d) t ≤ totalLimit - 1
+  pub room : mass (whole d) t ≤ totalLimit - 1
   pub some-free : 0 < length u
   pub number-below : next u < c - 1
   pub number-fresh : uses d c t (next u) ≡ 0

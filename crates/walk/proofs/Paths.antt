@@ -1,6 +1,5 @@
 -- The loop that writes a walk down: what holds at a node that it has reached, and of the step to the next.
 use mathlib.Core.Path.{_≡_, refl, sym, ap, _∙_}
-use mathlib.Core.Bool.{Bool}
 use mathlib.Core.List.{List, [], _∷_, _++_, append-nil}
 use Prim.Native.Nat.{ℕ, _+_, _≤_, _<_}
 use native.Mathlib.Omega.{arith}
@@ -35,11 +34,11 @@ module _ (c : ℕ) (N : List (List ℕ)) (C P : List Float) where
     -- the rows after that of the node itself
     abbrev rest : Tree (whole d) → List (List ℕ)
     rest (leaf i q n) = []
-    rest (branch b k g l r) = trailFrom d c (id (whole d) c (aside (whole d) k p l r)) (toward (whole d) k p l r) p
+    rest (branch b k l r) = trailFrom d c (id (whole d) c (aside (whole d) k p l r)) (toward (whole d) k p l r) p
 
     trail-rest : (s : ℕ) (t : Tree (whole d)) → trailFrom d c s t p ≡ (id (whole d) c t ∷ s ∷ []) ∷ rest t
     trail-rest s (leaf i q n) = refl
-    trail-rest s (branch b k g l r) = trail-step d c p s b k g l r
+    trail-rest s (branch b k l r) = trail-step d c p s b k l r
 
     -- n rows are written, and the walk stands at the node `at`
     pub record Reaching (t : Tree (whole d)) (path : List (List ℕ)) (n node : ℕ) : Type 0 where
@@ -68,10 +67,10 @@ module _ (c : ℕ) (N : List (List ℕ)) (C P : List Float) where
       low = omega (arith, walk-leaves (whole d) t p, w .few);
     }
 
-    step-is : (b : ℕ) (k : Cut (whole d)) (g : Bool) (l r : Tree (whole d)) (x : ℕ) → x ≡ b → P ≡ p .row → Laid d c (rowOf d c) (λ (j : ℕ). getD N j []) (branch b k g l r) → Laid d c (cutOf d c) (λ (j : ℕ). getD C j nan) (branch b k g l r) → k .channel < width →
+    step-is : (b : ℕ) (k : Cut (whole d)) (l r : Tree (whole d)) (x : ℕ) → x ≡ b → P ≡ p .row → Laid d c (rowOf d c) (λ (j : ℕ). getD N j []) (branch b k l r) → Laid d c (cutOf d c) (λ (j : ℕ). getD C j nan) (branch b k l r) → k .channel < width →
         stepOf N C P x ≡ id (whole d) c (toward (whole d) k p l r) ∷ id (whole d) c (aside (whole d) k p l r) ∷ []
-    step-is b k g l r x a e h v m =
-        let row : getD N x [] ≡ rowOf d c (branch b k g l r) = rw a (h .0) in
+    step-is b k l r x a e h v m =
+        let row : getD N x [] ≡ rowOf d c (branch b k l r) = rw a (h .0) in
         let value : getD C x nan ≡ k .value .value = rw a (v .0) in
         let coord : channel P (k .channel) ≡ coordinate p (k .channel) .value = rw e (sym (coordinate-is p (k .channel) m)) in
         rw (row, value, coord) (by-test (below (whole d) k p) (λ f. rw f) (λ f. rw f))
@@ -89,10 +88,10 @@ module _ (c : ℕ) (N : List (List ℕ)) (C P : List Float) where
         go : (u : Tree (whole d)) → In (whole d) u t → Laid d c (rowOf d c) (λ (j : ℕ). getD N j []) u → Laid d c (cutOf d c) (λ (j : ℕ). getD C j nan) u → InRange d c u → node ≡ id (whole d) c u →
             n + height (whole d) u p ≡ walk (whole d) t p → take n path ++ rest u ≡ trail d c t p → Turn t path n node
         go (leaf i q x) y h v f a k g = absurd (omega arith)
-        go (branch b k x l r) y h v f a j g =
-            let s = step-is b k x l r node a e h v (f .1) in
+        go (branch b k l r) y h v f a j g =
+            let s = step-is b k l r node a e h v (f .1) in
             let u = toward (whole d) k p l r in
-            let hs = height-step (whole d) b k x l r p in
+            let hs = height-step (whole d) b k l r p in
             record {
               small = omega (arith, f .0);
               chan = rw (a, h .0) (f .1);
@@ -100,7 +99,7 @@ module _ (c : ℕ) (N : List (List ℕ)) (C P : List Float) where
               next = rw s (record {
                 long = length-set path n _ ∙ w .long;
                 at = u;
-                inside = in-trans (whole d) (by-cond (λ v. In (whole d) v (branch b k x l r)) (below (whole d) k p) l r (λ _. left here) (λ _. right here)) y;
+                inside = in-trans (whole d) (by-cond (λ v. In (whole d) v (branch b k l r)) (below (whole d) k p) l r (λ _. left here) (λ _. right here)) y;
                 rows = by-cond (Laid d c (rowOf d c) (λ (j : ℕ). getD N j [])) (below (whole d) k p) l r (λ _. h .1) (λ _. h .2);
                 values = by-cond (Laid d c (cutOf d c) (λ (j : ℕ). getD C j nan)) (below (whole d) k p) l r (λ _. v .1) (λ _. v .2);
                 in-range = by-cond (InRange d c) (below (whole d) k p) l r (λ _. f .2) (λ _. f .3);
@@ -116,4 +115,4 @@ module _ (c : ℕ) (N : List (List ℕ)) (C P : List Float) where
       where
         go : (u : Tree (whole d)) → InRange d c u → node ≡ id (whole d) c u → n + height (whole d) u p ≡ walk (whole d) t p → take n path ++ rest u ≡ trail d c t p → Walked d c path n t p
         go (leaf i q x) f a k g = record { long = w .long; most = omega (arith, w .low); count = omega arith; is-trail = rw append-nil at g }
-        go (branch b k x l r) f a j g = absurd (omega (arith, f .0))
+        go (branch b k l r) f a j g = absurd (omega (arith, f .0))

@@ -45,7 +45,7 @@ module _ (d : ℕ) where
   -- an end is one of two, so what holds of the coordinates of all leaves holds of it
   pub chosen : {m : Number → Number → Number} {to : Number → Number → Bool} (E : End (whole d) m to) (P : Number → Type 0) (t : Tree (whole d)) (i : ℕ) → All (whole d) (λ j q n. P (coordinate q i)) t → P (end (whole d) m t i)
   chosen E P (leaf j q n) i h = h
-  chosen {m} E P (branch b k g l r) i h = go (E .chosen (end (whole d) m l i) (end (whole d) m r i)) (chosen E P l i (h .0)) (chosen E P r i (h .1))
+  chosen {m} E P (branch b k l r) i h = go (E .chosen (end (whole d) m l i) (end (whole d) m r i)) (chosen E P l i (h .0)) (chosen E P r i (h .1))
     where
       go : (m (end (whole d) m l i) (end (whole d) m r i) ≡ end (whole d) m l i) ⊎ (m (end (whole d) m l i) (end (whole d) m r i) ≡ end (whole d) m r i) → P (end (whole d) m l i) → P (end (whole d) m r i) → P (m (end (whole d) m l i) (end (whole d) m r i))
       go (inl e) x y = rw e x
@@ -53,13 +53,13 @@ module _ (d : ℕ) where
 
   anywhere : (P : Number → Type 0) (t : Tree (whole d)) (i : ℕ) → ((q : Reading) → P (coordinate q i)) → All (whole d) (λ j q n. P (coordinate q i)) t
   anywhere P (leaf j q n) i h = h q
-  anywhere P (branch b k g l r) i h = (anywhere P l i h, anywhere P r i h)
+  anywhere P (branch b k l r) i h = (anywhere P l i h, anywhere P r i h)
 
   in-order : (t : Tree (whole d)) (i : ℕ) → le (lo (whole d) t i .value) (hi (whole d) t i .value) ≡ true
   in-order (leaf j q n) i = le-refl (coordinate q i)
-  in-order (branch b k g l r) i =
-      le-trans (lo (whole d) (branch b k g l r) i) (lo (whole d) l i) (hi (whole d) (branch b k g l r) i) (least-end (whole d) (whole-laws d) .first (lo (whole d) l i) (lo (whole d) r i))
-      (le-trans (lo (whole d) l i) (hi (whole d) l i) (hi (whole d) (branch b k g l r) i) (in-order l i) (most-end (whole d) (whole-laws d) .first (hi (whole d) l i) (hi (whole d) r i)))
+  in-order (branch b k l r) i =
+      le-trans (lo (whole d) (branch b k l r) i) (lo (whole d) l i) (hi (whole d) (branch b k l r) i) (least-end (whole d) (whole-laws d) .first (lo (whole d) l i) (lo (whole d) r i))
+      (le-trans (lo (whole d) l i) (hi (whole d) l i) (hi (whole d) (branch b k l r) i) (in-order l i) (most-end (whole d) (whole-laws d) .first (hi (whole d) l i) (hi (whole d) r i)))
 
   pub tree-box : (t : Tree (whole d)) → CoordinateBox (lo (whole d) t) (hi (whole d) t)
   tree-box t = record {

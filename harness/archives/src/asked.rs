@@ -139,8 +139,8 @@ fn sample(answer: &[u32]) -> Option<String> {
     all_zero(beyond).then(|| kept(&entries))
 }
 
-/// The printed tree: from the one node that is no child, branch before left before right. A leaf of k
-/// copies has the mass 1 for k = 1, otherwise k - 1.
+/// The printed tree: from the one node that is no child, branch before left before right. A leaf's mass is its
+/// copies.
 fn list(branches: &BTreeMap<u32, Branch>, copies: &BTreeMap<u32, u32>) -> String {
     let children = |[_, _, left, right, _]: &Branch| [*left, *right];
     let below: BTreeSet<u32> = branches.values().flat_map(children).collect();
@@ -156,8 +156,7 @@ fn list(branches: &BTreeMap<u32, Branch>, copies: &BTreeMap<u32, u32>) -> String
                 ahead.extend([*right, *left]);
                 writeln!(text, "{id} {channel} {cut:08X} {left} {right} {mass}")
             }
-            (None, Some(1)) => writeln!(text, "{id} - - - - 1"),
-            (None, Some(copies)) => writeln!(text, "{id} - - - - {}", copies.wrapping_sub(1)),
+            (None, Some(copies)) => writeln!(text, "{id} - - - - {copies}"),
             (None, None) => writeln!(text, "{id} is no node"),
         };
         written.expect("a string takes every text");

@@ -1,5 +1,6 @@
 //! Reports on a full tree, of queries from the full range. The Rust's visitor pushes its rows into a vector
-//! that has room for them; the port is lent exactly the rows that it writes.
+//! that has room for them; the port is lent exactly the rows that it writes. What the port answers is held to rows with
+//! counted masses; the Rust that is timed shows its own.
 use crate::adds::Grown;
 use crate::readings::{bits, reading};
 use crate::workload::Workload;
@@ -7,7 +8,7 @@ use crate::{Shape, SEED};
 use oracle::rcflib::samplerplustree::nodeview::SmallNodeView;
 use oracle::rcflib::samplerplustree::randomcuttree::Traversable;
 use oracle::rcflib::visitor::visitor::{Visitor, VisitorInfo};
-use oracle::{report, Result, Row, Table, Tree, Words};
+use oracle::{report, Masses, Result, Row, Table, Tree, Words};
 use runs::Call;
 use std::cell::Cell;
 use std::hint::black_box;
@@ -70,17 +71,18 @@ pub fn reports(shape: &Shape, calls: usize) -> Workload {
     }
     let before = grown.bytes.clone();
     let (tree, table) = (grown.bare.tree(), &grown.table);
+    let masses = Masses::of(tree);
     let mut queries = Vec::new();
     let mut rows = 0;
     for _ in 0..calls {
         let query = reading(shape.channels, &mut words);
-        let shown = report(tree, table, &query).expect("a report");
-        rows += shown.len();
+        let expected = report(tree, table, &masses, &query).expect("a report");
+        rows += expected.len();
         let call = Call::Report {
-            rows: shown.len() as u32,
+            rows: expected.len() as u32,
             coordinates: bits(&query),
         };
-        grown.bytes.push(&call, &answer(&shown));
+        grown.bytes.push(&call, &answer(&expected));
         queries.push(query);
     }
     Workload {

@@ -4,17 +4,23 @@
 
 mod compared;
 mod difference;
+mod masses;
 mod program;
 mod spoiled;
 mod tally;
 
 pub use compared::{given, write, Compared, Judge};
 pub use difference::difference;
+pub use masses::{lessen, Column};
 pub use program::{Pieces, Printed, Program};
 pub use tally::Tally;
 
 use std::fmt::Debug;
 use std::process::ExitCode;
+
+/// Which columns are compared with which; every comparison of trees says so.
+pub const HELD_TO: &str =
+    "held to: masses to a count over the leaves of the Rust's tree, all other columns to the Rust";
 
 /// The seed where none is given.
 pub const SEED: u64 = 20;

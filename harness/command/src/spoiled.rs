@@ -1,6 +1,6 @@
 //! Faults made on purpose in what a program is handed, in what it prints and in what is expected of it, to
 //! show that its comparison notices them.
-use crate::{Compared, Faults, Pieces, Printed, Program, Shows, Tries, SEED};
+use crate::{lessen, Column, Compared, Faults, Pieces, Printed, Program, Shows, Tries, SEED};
 use oracle::Words;
 
 /// Texts to look through for those that a fault can touch.
@@ -15,6 +15,8 @@ enum Fault {
     PrintedBit,
     ByteMissing,
     ByteMore,
+    /// A printed mass is one less.
+    LessMass(Column),
     /// All is printed, but then a signal ends the program.
     Signal,
     /// All is printed, but the program exits with a status other than 0.
@@ -23,11 +25,13 @@ enum Fault {
     Row,
 }
 
-const SPOILED: [Fault; 6] = [
+const SPOILED: [Fault; 8] = [
     Fault::ExpectedBit,
     Fault::PrintedBit,
     Fault::ByteMissing,
     Fault::ByteMore,
+    Fault::LessMass(Column::Leaf),
+    Fault::LessMass(Column::Branch),
     Fault::Signal,
     Fault::Status,
 ];
@@ -36,7 +40,9 @@ impl Compared {
     /// Tries the faults that any program can have.
     pub fn try_faults(&self, program: &Program, faults: &mut Faults) -> Result<(), String> {
         for fault in SPOILED {
-            let tries = self.try_spoiled(fault, program)?;
+            let tries = self.try_spoiled(program, |expected, got, words| {
+                spoil(fault, expected, got, words)
+            })?;
             faults.tell(fault, self.texts, tries, Shows::Always);
         }
         let tries = self.try_handed(program, without_last_row)?;
@@ -68,21 +74,27 @@ impl Compared {
         })
     }
 
-    /// Texts whose output differs without a fault are for the comparison itself and are left out.
-    fn try_spoiled(&self, fault: Fault, program: &Program) -> Result<Tries, String> {
+    /// Spoils what is expected or what is printed; `spoil` says whether it could. Texts whose output differs without a
+    /// fault are for the comparison itself and are left out.
+    pub fn try_spoiled(
+        &self,
+        program: &Program,
+        spoil: impl Fn(&mut [u8], &mut Printed, &mut Words) -> bool,
+    ) -> Result<Tries, String> {
         self.try_drawn(|_, text, words| {
             let mut expected = (self.printed)(&text);
             let mut got = program.print(&text, &Pieces::Equal(1))?;
             if got.differs(&expected) {
                 return Ok(None);
             }
-            spoil(fault, &mut expected, &mut got, words);
-            Ok(Some(got.differs(&expected)))
+            let spoiled = spoil(&mut expected, &mut got, words);
+            Ok(spoiled.then(|| got.differs(&expected)))
         })
     }
 }
 
-fn spoil(fault: Fault, expected: &mut [u8], got: &mut Printed, words: &mut Words) {
+/// Makes the fault; false where it can't be made.
+fn spoil(fault: Fault, expected: &mut [u8], got: &mut Printed, words: &mut Words) -> bool {
     let place = words.below(expected.len());
     let bit = 1 << words.below(8);
     match fault {
@@ -92,8 +104,10 @@ fn spoil(fault: Fault, expected: &mut [u8], got: &mut Printed, words: &mut Words
         Fault::ByteMore => got.bytes.push(b'\n'),
         Fault::Signal => got.status = None,
         Fault::Status => got.status = Some(1),
-        Fault::Row => {}
+        Fault::LessMass(column) => return lessen(column, &mut got.bytes, words),
+        Fault::Row => return false,
     }
+    true
 }
 
 /// The text up to the line feed before its last row.

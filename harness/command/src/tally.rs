@@ -1,5 +1,5 @@
 //! What is counted of the texts that a program was compared on.
-use crate::{all_equal, difference, reached, Compared, Pieces, Program};
+use crate::{all_equal, difference, reached, Compared, Pieces, Program, HELD_TO};
 use std::collections::BTreeMap;
 use std::fmt::Display;
 
@@ -55,6 +55,7 @@ impl Tally {
     }
 
     pub fn print(&self) {
+        println!("{HELD_TO}");
         println!("kinds: {}", listed(&self.kinds));
         println!("refusals: {}", listed(&self.refusals));
     }

@@ -1,5 +1,5 @@
 //! What was compared, counted, and the least that has to be.
-use command::reached;
+use command::{reached, HELD_TO};
 use runs::generate::Written;
 use runs::Call;
 use std::collections::BTreeMap;
@@ -60,6 +60,7 @@ impl Tally {
 
     /// The counts in words, the last line last.
     pub fn print(&self) {
+        println!("{HELD_TO}");
         println!(
             "docs/LAYOUT.md: {} calls of its worked runs; {} chains of leaves on a small stack",
             self.shown, self.chains

@@ -1,8 +1,8 @@
-//! Faults made on purpose, to show that the comparison notices them: those of any program, and three more.
+//! Faults made on purpose, to show that the comparison notices them: those of any program, and four more.
 use crate::{of_port, REGROW};
 use archives::form::read;
 use archives::{outcome, printed, Row};
-use command::{Faults, Pieces, Program, Shows};
+use command::{lessen, Column, Faults, Pieces, Program, Shows};
 use oracle::Words;
 
 /// What goes wrong.
@@ -14,6 +14,8 @@ enum Fault {
     NextWord,
     /// One bit of what the port's byte run answers.
     PortBit,
+    /// The mass of a report's row is one less.
+    LessRowMass,
 }
 
 /// Tries every fault; an error if one goes unnoticed.
@@ -27,6 +29,10 @@ pub fn run() -> Result<(), String> {
     faults.tell(Fault::NextWord, REGROW.texts, tries, Shows::Sometimes);
     let tries = REGROW.try_drawn(port_bit)?;
     faults.tell(Fault::PortBit, REGROW.texts, tries, Shows::Always);
+    let tries = REGROW.try_spoiled(&program, |_, got, words| {
+        lessen(Column::Row, &mut got.bytes, words)
+    })?;
+    faults.tell(Fault::LessRowMass, REGROW.texts, tries, Shows::Always);
     faults.finish()
 }
 

@@ -115,10 +115,10 @@ pub const FAULTS: [Fault; 18] = [
         "false",
     ),
     fault(
-        "a branch's row has the mass below it",
+        "a branch's row keeps the leaf's id",
         VIEW,
-        "self.mass = node_store.mass(index)",
-        1,
+        "self.current_node = index",
+        0,
         "()",
     ),
     fault(

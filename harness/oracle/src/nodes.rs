@@ -1,8 +1,9 @@
-use crate::{Table, Tree};
+use crate::{Masses, Table, Tree};
 use rcflib::samplerplustree::nodestore::{BasicStore, BoxStore};
 use std::fmt::Write;
 
-/// A node of a tree, with everything that the port's queries answer.
+/// A node of a tree, with everything that the port's queries answer. All is the Rust's but the mass, which
+/// is counted over its leaves.
 #[derive(Clone, Debug, PartialEq)]
 pub enum Node {
     Leaf {
@@ -48,16 +49,17 @@ pub fn ids(tree: &Tree) -> Vec<usize> {
 
 /// All nodes in printed order; the first is the root.
 pub fn nodes(tree: &Tree, table: &Table) -> Vec<Node> {
+    let masses = Masses::of(tree);
     ids(tree)
         .into_iter()
-        .map(|id| node(tree, table, id))
+        .map(|id| node(tree, table, &masses, id))
         .collect()
 }
 
-/// The node of an id that is in the tree.
-pub fn node(tree: &Tree, table: &Table, id: usize) -> Node {
+/// The node of an id that is in the tree, with its mass among those of the tree.
+pub fn node(tree: &Tree, table: &Table, masses: &Masses, id: usize) -> Node {
     let store = tree.oracle_store();
-    let mass = store.mass(id);
+    let mass = masses.of_node(id);
     if store.is_leaf(id) {
         let point = store.leaf_point_index(id).expect("a leaf");
         let copies = store.oracle_copies(point);
@@ -69,11 +71,7 @@ pub fn node(tree: &Tree, table: &Table, id: usize) -> Node {
         };
     }
     let (dimension, cut, left, right) = store.cut_and_children(id);
-    let around = BoxStore::<u64, u64>::bounding_box(store, id, table).expect("written points");
-    let cached = id < store.oracle_cache_limit();
-    if cached {
-        assert!(store.oracle_range_sum(id) == around.get_range_sum());
-    }
+    let (low, high) = bounds(tree, table, id);
     Node::Branch {
         id,
         dimension,
@@ -81,18 +79,36 @@ pub fn node(tree: &Tree, table: &Table, id: usize) -> Node {
         left,
         right,
         mass,
-        cached,
-        low: around.get_min_values().to_vec(),
-        high: around.get_max_values().to_vec(),
+        cached: id < store.oracle_cache_limit(),
+        low,
+        high,
     }
 }
 
-/// The printed tree of document 01, names line first.
+/// The ends of a node's box, the lower ones first; a leaf's are its reading.
+pub fn bounds(tree: &Tree, table: &Table, id: usize) -> (Vec<f32>, Vec<f32>) {
+    let store = tree.oracle_store();
+    if store.is_leaf(id) {
+        let point = store.leaf_point_index(id).expect("a leaf");
+        let reading = table.point(point).expect("written").to_vec();
+        return (reading.clone(), reading);
+    }
+    let around = BoxStore::<u64, u64>::bounding_box(store, id, table).expect("written points");
+    if id < store.oracle_cache_limit() {
+        assert!(store.oracle_range_sum(id) == around.get_range_sum());
+    }
+    let ends = [around.get_min_values(), around.get_max_values()];
+    let [low, high] = ends.map(|ends| ends.to_vec());
+    (low, high)
+}
+
+/// The printed tree of document 01, names line first, with counted masses.
 pub fn printed(tree: &Tree) -> String {
     let store = tree.oracle_store();
+    let masses = Masses::of(tree);
     let mut text = String::from("id dimension cut left right mass\n");
     for id in ids(tree) {
-        let mass = store.mass(id);
+        let mass = masses.of_node(id);
         let written = if store.is_leaf(id) {
             writeln!(text, "{id} - - - - {mass}")
         } else {

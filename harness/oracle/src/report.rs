@@ -1,4 +1,4 @@
-use crate::{Table, Tree};
+use crate::{Masses, Table, Tree};
 use rcflib::samplerplustree::nodeview::{SmallNodeView, UpdatableNodeView};
 use rcflib::samplerplustree::randomcuttree::Traversable;
 use rcflib::types::Result;
@@ -14,7 +14,7 @@ pub struct Row {
 }
 
 impl Row {
-    /// The row of what a visitor is shown.
+    /// The row of what a visitor is shown, its mass the Rust's own.
     #[inline]
     pub fn shown(view: &SmallNodeView) -> Self {
         Row {
@@ -58,9 +58,15 @@ impl Visitor<SmallNodeView, Vec<Row>> for Rows {
     }
 }
 
-/// The walk report of a query, from the leaf to the root. For an empty tree the Rust gives the
-/// default, here no row.
-pub fn report(tree: &Tree, table: &Table, query: &[f32]) -> Result<Vec<Row>> {
+/// The walk report of a query, from the leaf to the root: ids, depths and probabilities as the Rust shows
+/// them, with the tree's counted masses.
+pub fn report(tree: &Tree, table: &Table, masses: &Masses, query: &[f32]) -> Result<Vec<Row>> {
+    Ok(masses.in_rows(shown(tree, table, query)?))
+}
+
+/// The rows as the unchanged `traverse` shows them, the Rust's own masses among them. For an empty tree the
+/// Rust gives the default, here no row.
+pub fn shown(tree: &Tree, table: &Table, query: &[f32]) -> Result<Vec<Row>> {
     let info = VisitorInfo::default();
     Traversable::<SmallNodeView, Rows, Vec<Row>, u64, u64>::traverse(
         tree,

@@ -68,7 +68,12 @@ impl Lending {
         self.answers.spoil(place);
     }
 
-    /// The same in the run's buffer.
+    /// Other bytes in the lent part.
+    pub fn write_answers(&mut self, place: usize, bytes: &[u8]) {
+        self.answers.lent_mut()[place..][..bytes.len()].copy_from_slice(bytes);
+    }
+
+    /// Flips a bit of the run's buffer.
     pub fn spoil_run(&mut self, place: isize) {
         self.run.spoil(place);
     }

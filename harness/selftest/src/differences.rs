@@ -1,10 +1,10 @@
-//! What docs/DIFFERENCES.md says of the Rust, each on its smallest input. Where document 01 refuses a making or
-//! a call for its arguments alone, that is in `refused_makings` and `refused_calls`.
+//! What docs/DIFFERENCES.md says of the Rust, each on its smallest input. Masses are in `masses`; where document 01
+//! refuses a making or a call for its arguments alone, that is in `refused_makings` and `refused_calls`.
 use crate::examples::line;
 use oracle::rcflib::samplerplustree::boundingbox::BoundingBox;
 use oracle::rcflib::samplerplustree::cut::Cut;
 use oracle::rcflib::samplerplustree::randomcuttree::RCFTree;
-use oracle::{cut_choice, feed, nodes, printed, report, BareTree, Choice, Node, Sampler, Table};
+use oracle::{cut_choice, feed, nodes, printed, shown, BareTree, Choice, Sampler, Table};
 use std::panic::{catch_unwind, set_hook, take_hook, AssertUnwindSafe};
 
 pub const HALF: u64 = 1 << 63;
@@ -13,9 +13,7 @@ pub const BELOW_ZERO: &str = "attempt to subtract with overflow";
 
 /// Runs all and answers how many there are.
 pub fn run() -> usize {
-    let listed: [fn(); 14] = [
-        mass_of_copies,
-        mass_is_history,
+    let listed: [fn(); 12] = [
         words_from_leaf_to_root,
         a_word_for_a_box_that_holds_the_point,
         place_counted_from_the_lower_end,
@@ -55,38 +53,6 @@ pub fn grown(table: &Table, capacity: usize, indices: &[usize]) -> BareTree {
         bare.add(table, index, &[HALF; 4]).unwrap();
     }
     bare
-}
-
-fn masses(bare: &BareTree, table: &Table) -> Vec<usize> {
-    let mass = |node: &Node| match *node {
-        Node::Leaf { mass, .. } | Node::Branch { mass, .. } => mass,
-    };
-    nodes(bare.tree(), table).iter().map(mass).collect()
-}
-
-/// A lone leaf of 1, 2, 3 and 4 copies.
-fn mass_of_copies() {
-    let table = line(&[0.0]);
-    for (copies, mass) in [(1, 1), (2, 1), (3, 2), (4, 3)] {
-        let bare = grown(&table, 4, &[0; 4][..copies]);
-        let leaf = Node::Leaf {
-            id: 4,
-            point: 0,
-            copies,
-            mass,
-        };
-        assert_eq!(nodes(bare.tree(), &table), [leaf]);
-    }
-}
-
-/// The same leaves, the same shape, other masses.
-fn mass_is_history() {
-    let table = line(&[0.0, 8.0]);
-    assert_eq!(masses(&grown(&table, 4, &[0, 0, 1]), &table), [2, 1, 1]);
-    assert_eq!(masses(&grown(&table, 4, &[0, 1, 0]), &table), [3, 1, 1]);
-    let mut bare = grown(&table, 4, &[0, 0, 1]);
-    bare.delete(&table, 0).unwrap();
-    assert_eq!(masses(&bare, &table), [1, 1, 1]);
 }
 
 /// Leaves 0 and 8, cut at 4, then 16. Three quarters part at the root, with a cut at 12; zeros part
@@ -170,7 +136,7 @@ fn full_store() {
 
 fn report_on_an_empty_tree() {
     let bare = BareTree::make(1, 2, 1.0).unwrap();
-    assert_eq!(report(bare.tree(), &Table::new(), &[0.0]), Ok(vec![]));
+    assert_eq!(shown(bare.tree(), &Table::new(), &[0.0]), Ok(vec![]));
 }
 
 /// Without NaN no heap gets out of order, so NaN must help: 3 stands below 1 then.

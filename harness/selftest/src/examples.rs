@@ -1,6 +1,6 @@
 //! The examples that document 01 prints, asked of the Rust.
 use oracle::{
-    cut_choice, free_intervals, printed, report, Added, BareTree, Choice, SampledTree, Table,
+    cut_choice, free_intervals, printed, shown, Added, BareTree, Choice, SampledTree, Table,
 };
 
 const HALF: u64 = 1 << 63;
@@ -109,7 +109,7 @@ fn probabilities() {
         bare.add(&table, 0, &[]).unwrap();
         bare.add(&table, 1, &[HALF]).unwrap();
         let bits = |query: f32| {
-            let rows = report(bare.tree(), &table, &[query]).unwrap();
+            let rows = shown(bare.tree(), &table, &[query]).unwrap();
             rows.iter()
                 .map(|row| row.probability.to_bits())
                 .collect::<Vec<_>>()
@@ -120,7 +120,7 @@ fn probabilities() {
 }
 
 /// A sampled tree of three different readings with initial share 1, after the first two arrivals.
-fn two_held(weights: [f32; 2]) -> (SampledTree, Table) {
+pub fn two_held(weights: [f32; 2]) -> (SampledTree, Table) {
     let table = line(&[0.0, 8.0, 2.0]);
     let mut sampled = SampledTree::make(1, 2, 1.0, 1.0).unwrap();
     for (index, weight) in weights.into_iter().enumerate() {

@@ -9,6 +9,7 @@ mod bare;
 mod differences;
 mod examples;
 mod kept;
+mod masses;
 mod model;
 mod refused_calls;
 mod refused_makings;
@@ -22,6 +23,10 @@ fn main() {
     println!("examples of document 01: {shown} hold");
     let listed = differences::run() + refused_makings::run() + refused_calls::run();
     println!("listed differences: {listed} seen in the Rust");
+    let masses = masses::run();
+    println!(
+        "masses: {masses} entries and rows of docs/DIFFERENCES.md, the Rust's and the counted ones"
+    );
     let draws = oracle::feed::seed17_draws();
     let steps = bare::run(400);
     println!("bare trees: 400 runs, {steps} calls, every tree as document 01 says");

@@ -1,7 +1,7 @@
 //! What document 01 says of a tree, worked out from the counts of copies and from the tree before.
 use oracle::{
-    cut_choice, free_intervals, nodes, report, total, walk_nodes, Choice, Node, Row, Table, Tree,
-    Words,
+    cut_choice, free_intervals, nodes, report, rust_mass, total, walk_nodes, Choice, Masses, Node,
+    Row, Table, Tree, Words,
 };
 use std::collections::{BTreeMap, BTreeSet};
 use std::slice::Iter;
@@ -255,6 +255,7 @@ pub fn check_tree(tree: &Tree, table: &Table, counts: &Counts, capacity: usize, 
     let all = nodes(tree, table);
     check_leaves(&all, table, counts, capacity);
     check_numbers(&all, tree, capacity);
+    check_rust_masses(&all, tree);
     assert_eq!(total(tree), counts.values().sum::<usize>());
     let limit = (share * capacity as f64) as usize;
     let mut rest = all.iter();
@@ -264,7 +265,7 @@ pub fn check_tree(tree: &Tree, table: &Table, counts: &Counts, capacity: usize, 
     assert!(rest.next().is_none());
 }
 
-/// One leaf for each value held, with its copies, and the mass that the Rust gives it.
+/// One leaf for each value held, with its copies, which are its mass.
 fn check_leaves(all: &[Node], table: &Table, counts: &Counts, capacity: usize) {
     let mut found = Counts::new();
     for node in all {
@@ -276,11 +277,23 @@ fn check_leaves(all: &[Node], table: &Table, counts: &Counts, capacity: usize) {
         } = *node
         {
             assert_eq!(id, point + capacity);
-            assert_eq!(mass, copies.max(2) - 1);
+            assert_eq!(mass, copies);
             assert_eq!(found.insert(value_at(table, point), copies), None);
         }
     }
     assert_eq!(found, *counts);
+}
+
+/// What docs/DIFFERENCES.md says of the Rust's own masses, 1.2 and 1.3: one less on a leaf of more than one copy, the
+/// same or one less on a branch.
+fn check_rust_masses(all: &[Node], tree: &Tree) {
+    for node in all {
+        let own = rust_mass(tree, id(node));
+        match *node {
+            Node::Leaf { copies, .. } => assert_eq!(own, copies.max(2) - 1),
+            Node::Branch { mass, .. } => assert!(own == mass || own + 1 == mass),
+        }
+    }
 }
 
 /// Used and free branch numbers fill 0 to c - 2 exactly once.
@@ -337,7 +350,7 @@ fn check_side<'a>(
                 assert_eq!(high[i], side().fold(f32::NEG_INFINITY, f32::max));
             }
             let copies = copies_left + copies_right;
-            assert!(*mass == copies || *mass + 1 == copies);
+            assert_eq!(*mass, copies);
             assert_eq!(*cached, *number < limit);
             (readings, copies)
         }
@@ -346,7 +359,7 @@ fn check_side<'a>(
 
 /// The walk report of a query near the readings, against the definition of document 01.
 fn check_report(tree: &Tree, table: &Table, query: &[f32]) {
-    let rows = report(tree, table, query).expect("written points");
+    let rows = report(tree, table, &Masses::of(tree), query).expect("written points");
     let defined = defined_report(tree, table, query);
     assert_eq!(rows.len(), defined.len());
     for (row, defined) in rows.iter().zip(&defined) {

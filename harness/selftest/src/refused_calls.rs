@@ -6,7 +6,7 @@ use oracle::rcflib::pointstore::{PointStore, VectorizedPointStore};
 use oracle::rcflib::samplerplustree::nodestore::BasicStore;
 use oracle::rcflib::samplerplustree::samplerplustree::SamplerPlusTree;
 use oracle::{
-    draw_of_no_weight, feed, ids, nodes, report, BareTree, Node, SampledTree, Table, Tree,
+    draw_of_no_weight, feed, ids, nodes, shown, BareTree, Node, SampledTree, Table, Tree,
 };
 
 const NO_ATTRIBUTE: usize = usize::MAX;
@@ -45,7 +45,7 @@ fn own_tree() -> Tree {
 
 /// The chances of a report's rows, from the leaf to the root.
 fn chances(bare: &BareTree, table: &Table, query: &[f32]) -> Vec<f64> {
-    let rows = report(bare.tree(), table, query).unwrap();
+    let rows = shown(bare.tree(), table, query).unwrap();
     rows.iter().map(|row| row.probability).collect()
 }
 
@@ -105,7 +105,7 @@ fn coordinates_out_of_range() {
         id: 4,
         point: 0,
         copies: 2,
-        mass: 1,
+        mass: 2,
     };
     assert_eq!(nodes(grown(&table, 4, &[0, 1]).tree(), &table), [leaf]);
 }

@@ -50,7 +50,7 @@ fn channels_out_of_range() {
         id: 4,
         point: 0,
         copies: 2,
-        mass: 1,
+        mass: 2,
     };
     assert_eq!(nodes(none.tree(), &table), [leaf]);
     for channels in [9, 256] {

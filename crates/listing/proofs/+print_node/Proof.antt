@@ -46,7 +46,7 @@ print-node-same-length : (t : ℕ) → print-node-lts.Need-same-length (calls t)
 print-node-same-length t c = long (c .before .before .put-leaf .ensures .0)
 
 print-node-returns : (t : ℕ) → print-node-lts.Need-returns (calls t) (print-node-at t) print-node.Post
-print-node-returns t c = leaf-printed _ _ _ _ _ (c .before .before .before .before .before .if1 .taken) (rw (c .before .before .before .before .mass-of .ensures) at (c .before .before .put-leaf .ensures .0))
+print-node-returns t c = leaf-printed _ _ _ _ _ (c .before .before .before .before .before .if1 .taken) (c .before .before .before .before .mass-of .ensures) (c .before .before .put-leaf .ensures .0)
 
 print-node-number-of-requires : (t : ℕ) → print-node-lts.Need-number-of-requires (calls t) (print-node-at t) print-node.Post
 print-node-number-of-requires t c κs = let w = branch-at t (c .before .before) (c .if1 .left) in (omega arith, omega arith)

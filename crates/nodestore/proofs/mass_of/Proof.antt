@@ -26,20 +26,17 @@ wide16-requires-2 c κs = search needs
 wide16-requires-3 : tie.Need-wide16-requires-3
 wide16-requires-3 c κs = search needs
 
-sub-leaf-mass : tie.Need-sub-leaf-mass
-sub-leaf-mass c = search needs
+sub-result : tie.Need-sub-result
+sub-result c = search needs
 
-mul-leaf-mass : tie.Need-mul-leaf-mass
-mul-leaf-mass c = search needs
+mul-result-2 : tie.Need-mul-result-2
+mul-result-2 c = search needs
 
-element-copy-out-leaf-mass : tie.Need-element-copy-out-leaf-mass
-element-copy-out-leaf-mass c = search needs
-
-leaf-mass-requires : tie.Need-leaf-mass-requires
-leaf-mass-requires c κs = rw (c .before .wide163 .ensures .0, c .before .before .wide162 .ensures .0) (c .before .before .before .before .pre .1 .1 (c .before .before .before .if1 .left))
+element-copy-out-result : tie.Need-element-copy-out-result
+element-copy-out-result c = search needs
 
 returns-2 : tie.Need-returns-2
-returns-2 c = rw (le-ltb _ _ (c .before .before .before .before .if1 .left), ← c .before .before .before .wide162 .ensures .0, ← c .before .before .wide163 .ensures .0) (c .leaf-mass .ensures)
+returns-2 c = rw (le-ltb _ _ (c .before .before .before .if1 .left), ← c .before .before .wide162 .ensures .0, ← c .before .wide163 .ensures .0)
 
 pub mass-of-spec : {M : Type 1} → statement M
 mass-of-spec =
@@ -52,8 +49,7 @@ mass-of-spec =
     returns
     wide16-requires-2
     wide16-requires-3
-    sub-leaf-mass
-    mul-leaf-mass
-    element-copy-out-leaf-mass
-    leaf-mass-requires
+    sub-result
+    mul-result-2
+    element-copy-out-result
     returns-2)

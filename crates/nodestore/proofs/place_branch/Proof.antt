@@ -15,7 +15,7 @@ leaf-id-requires : tie.Need-leaf-id-requires
 leaf-id-requires c κs = search needs
 
 row-for-requires : tie.Need-row-for-requires
-row-for-requires c κs = (rw (c .before .mass-of .ensures) (mass-low (c .before .before .before .before .before .pre .graft) _ (c .before .before .before .before .node-at .ensures)), omega (arith, c .before .before .before .before .before .pre .graft .channel-is, c .before .before .before .before .before .pre .graft .channel-small))
+row-for-requires c κs = (omega (arith, c .before .mass-of .ensures, mass-low (c .before .before .before .before .before .pre .graft) _ (c .before .before .before .before .node-at .ensures)), omega (arith, c .before .before .before .before .before .pre .graft .channel-is, c .before .before .before .before .before .pre .graft .channel-small))
 
 put-copies-requires : tie.Need-put-copies-requires
 put-copies-requires c κs = search needs

@@ -122,7 +122,7 @@ const REFUSED: [&str; 4] = ["9 1 17 17", "1 1 17 17", "1 2 17 17", "1 2 16 17"];
 const AFTER: [&str; 3] = ["", "0 0 0\n", "no row\n"];
 
 /// How many there are.
-pub const SMALLS: usize = LINES.len() + ROWS.len() + REFUSED.len() * AFTER.len();
+pub const SMALLS: usize = LINES.len() + ROWS.len() + REFUSED.len() * AFTER.len() + 1;
 
 /// All of them, always the same.
 pub fn smalls() -> Vec<Given> {
@@ -141,5 +141,24 @@ pub fn smalls() -> Vec<Given> {
         let texts = AFTER.map(|rows| format!("{NAMES}{making}\n{OPS}{rows}"));
         all.extend(texts.map(|text| Given::untold("small, refused making", text)));
     }
+    all.push(held_twice());
     all
+}
+
+/// Equal readings at two indices, held twice and below a branch, the first of them evicted at the end, with reports between:
+/// the masses show it (docs/DIFFERENCES.md, 1.2 to 1.4).
+fn held_twice() -> Given {
+    let words = "0000000000000000".to_string() + &" 8000000000000000".repeat(4);
+    let arrivals = [
+        (0, "BF800000"),
+        (1, "C0000000"),
+        (2, "C0400000"),
+        (2, "C0800000"),
+        (2, "C0A00000"),
+    ];
+    let rows =
+        arrivals.map(|(index, weight)| format!("3 {index} {weight} {words}\n4 - 0\n4 - 12\n"));
+    let puts = "0 0 0\n0 1 0\n0 2 8\n";
+    let text = format!("{NAMES}1 4 16 16\n{OPS}{puts}{}", rows.concat());
+    Given::untold("small, in form", text)
 }

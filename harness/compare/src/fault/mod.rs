@@ -1,12 +1,14 @@
 //! Faults made on purpose, each in some runs, to show that the comparison notices them.
 mod answered;
 mod handed;
+mod masses;
 
 use crate::inputs::Source;
 use crate::judge::{Answers, Judge};
 use answered::{place, Spot};
 use command::{Faults, Shows, Tries};
 use handed::{with_other, Other};
+use masses::Column;
 use oracle::Words;
 use port::{Called, Lending};
 
@@ -27,6 +29,8 @@ enum Fault {
     Returned,
     /// A bit of an answer at a spot that only arrivals, samples and reports have.
     Answered(Spot),
+    /// The Rust's own mass in place of the count.
+    RustMass(Column),
     /// The port is handed another number. One that doesn't decide need not show.
     Handed(Other),
 }
@@ -40,7 +44,7 @@ impl Fault {
     }
 }
 
-const FAULTS: [Fault; 18] = [
+const FAULTS: [Fault; 20] = [
     Fault::AnswerBit,
     Fault::BytesBeyond,
     Fault::BytesOfRefused,
@@ -59,6 +63,8 @@ const FAULTS: [Fault; 18] = [
     Fault::Answered(Spot::RowBeyond),
     Fault::Answered(Spot::Kept),
     Fault::Answered(Spot::KeptBeyond),
+    Fault::RustMass(Column::Branch),
+    Fault::RustMass(Column::Row),
 ];
 
 /// The port with one fault, done once at most.
@@ -107,6 +113,12 @@ impl Faulty {
                 let answers = lending.called().written;
                 match place(spot, run, &answers, &mut self.words) {
                     Some(place) => lending.spoil_answers(place as isize),
+                    None => return,
+                }
+            }
+            Fault::RustMass(column) if !refused => {
+                match masses::place(column, run, &mut self.words) {
+                    Some((place, mass)) => lending.write_answers(place, &mass.to_le_bytes()),
                     None => return,
                 }
             }

@@ -1,6 +1,7 @@
 //! A run carried out call by call on the unchanged Rust, with document 01's refusals in document
 //! 01's order. Where the Rust has an error for a refusal, it must give it on a copy of its tree,
-//! and where document 01 refuses nothing the Rust must give none.
+//! and where document 01 refuses nothing the Rust must give none. Masses are counted over the leaves of
+//! the Rust's tree; every other number of an accepted call is the Rust's.
 mod bare;
 mod queries;
 mod report;
@@ -9,7 +10,7 @@ mod sampled;
 use crate::copies::{value, Copies};
 use crate::layout::{Answer, Call, Making};
 use crate::refusals::*;
-use oracle::{ids, total, walk_nodes, BareTree, SampledTree, Table, Tree};
+use oracle::{ids, total, walk_nodes, BareTree, Masses, SampledTree, Table, Tree};
 use std::cell::OnceCell;
 use std::collections::BTreeSet;
 
@@ -29,6 +30,8 @@ pub struct Driver {
     copies: Copies,
     /// The ids in the tree, worked out when first asked for after a call that changes it.
     ids: OnceCell<BTreeSet<usize>>,
+    /// The same for the masses of its nodes.
+    masses: OnceCell<Masses>,
 }
 
 impl Driver {
@@ -53,6 +56,7 @@ impl Driver {
             made: made.expect("the Rust takes every making"),
             copies: Copies::default(),
             ids: OnceCell::new(),
+            masses: OnceCell::new(),
         })
     }
 
@@ -105,6 +109,7 @@ impl Driver {
     /// After a call that changes the tree.
     fn changed(&mut self) {
         self.ids.take();
+        self.masses.take();
         assert_eq!(total(self.tree()), self.copies.total());
     }
 
@@ -112,6 +117,16 @@ impl Driver {
     pub fn ids(&self) -> &BTreeSet<usize> {
         self.ids
             .get_or_init(|| ids(self.tree()).into_iter().collect())
+    }
+
+    /// The masses of the tree's nodes. The root's is the number of copies that the calls come to.
+    fn masses(&self) -> &Masses {
+        let counted = || {
+            let masses = Masses::of(self.tree());
+            assert_eq!(masses.total(), self.copies.total());
+            masses
+        };
+        self.masses.get_or_init(counted)
     }
 
     pub fn table(&self) -> &Table {

@@ -41,7 +41,7 @@ impl Driver {
     fn node(&self, id: u32) -> Option<Node> {
         let id = id as usize;
         let found = self.ids().contains(&id);
-        found.then(|| node(self.tree(), &self.table, id))
+        found.then(|| node(self.tree(), &self.table, self.masses(), id))
     }
 }
 

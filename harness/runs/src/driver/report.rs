@@ -8,7 +8,8 @@ impl Driver {
     /// How many rows are written, then the numbers of each row lent; 0 beyond those written.
     pub(super) fn report(&self, lent: u32, coordinates: &[u32]) -> Result<Vec<usize>, u32> {
         let query = self.reading(coordinates)?;
-        let rows = report(self.tree(), &self.table, &query).expect("the Rust refuses no report");
+        let rows = report(self.tree(), &self.table, self.masses(), &query);
+        let rows = rows.expect("the Rust refuses no report");
         // on an empty tree the Rust gives its caller's default, here no row
         assert_eq!(rows.is_empty(), self.copies.total() == 0);
         refuse(rows.is_empty(), EMPTY)?;

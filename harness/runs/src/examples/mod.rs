@@ -1,6 +1,7 @@
 //! Document 01's own inputs as runs, each with all queries after it, and makings at their limits.
 mod reported;
 mod sampled;
+mod twice;
 
 pub use reported::all as reported;
 pub use sampled::all as sampled;

@@ -1,19 +1,20 @@
 //! Document 01's walk reports, and others at an edge: lone leaves, empty trees, rows lent, longest sums.
-use super::{puts, written, HALF};
+use super::{puts, twice, written, HALF};
 use crate::generate::Written;
 use crate::layout::{Call, Making, Run};
 use crate::refusals::EDGE;
 
 /// At every cached share a box from 0 to 8, as the Rust has more than one way to a box; then the largest
-/// sums that readings have.
+/// sums that readings have, and values held more than once.
 pub fn all() -> Vec<Written> {
     let shares = [0.0, 0.25, 0.5, 1.0];
     let mut all: Vec<Written> = shares.into_iter().map(one_box).collect();
     all.extend(shares.into_iter().map(longest_sums));
+    all.extend(twice::all());
     all
 }
 
-fn report(rows: u32, query: &[f32]) -> Call {
+pub(super) fn report(rows: u32, query: &[f32]) -> Call {
     Call::Report {
         rows,
         coordinates: query.iter().map(|x| x.to_bits()).collect(),

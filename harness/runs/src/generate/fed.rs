@@ -1,7 +1,7 @@
 //! Words for an add or an arrival: how many, and which.
 use crate::aimed::{self, Aim, Place};
 use crate::Driver;
-use oracle::{node, walk, Node, Words};
+use oracle::{bounds, walk, Words};
 
 /// How the words of a run are made.
 #[derive(Clone, Copy, PartialEq)]
@@ -97,12 +97,9 @@ pub fn so_many(
 fn boxes(driver: &Driver, index: u32) -> Vec<(Vec<i32>, Vec<i32>)> {
     let (tree, table) = (driver.tree(), driver.table());
     let point = table.point(index as usize).expect("written");
-    let around = |id| match node(tree, table, id) {
-        Node::Leaf { point, .. } => {
-            let reading = whole(table.point(point).expect("written"));
-            (reading.clone(), reading)
-        }
-        Node::Branch { low, high, .. } => (whole(&low), whole(&high)),
+    let around = |id| {
+        let (low, high) = bounds(tree, table, id);
+        (whole(&low), whole(&high))
     };
     walk(tree, point).into_iter().map(around).collect()
 }

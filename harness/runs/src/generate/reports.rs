@@ -5,7 +5,7 @@ use super::steps::{any_index, index_where};
 use super::writer::Writer;
 use crate::layout::Call;
 use crate::refusals::EDGE;
-use oracle::{node, Node, Words};
+use oracle::{bounds, Words};
 
 /// One report, good or refused.
 pub fn report(writer: &mut Writer) {
@@ -89,10 +89,7 @@ fn by_a_box(writer: &mut Writer, outside: bool) -> Vec<i32> {
         return point(writer, true);
     }
     let id = writer.words.one_of(&branches);
-    let Node::Branch { low, high, .. } = node(writer.driver.tree(), writer.driver.table(), id)
-    else {
-        panic!("ids below the capacity are those of branches");
-    };
+    let (low, high) = bounds(writer.driver.tree(), writer.driver.table(), id);
     let (low, high) = (whole(low), whole(high));
     let words = &mut *writer.words;
     let away = words.one_of(&[1, 1, 2, 1 << 10, 1 << 19]);

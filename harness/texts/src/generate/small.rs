@@ -57,7 +57,7 @@ const LINES: [&str; 9] = [
 ];
 
 /// Op rows in form.
-const IN_FORM: [&str; 8] = [
+const IN_FORM: [&str; 15] = [
     "0 0 1 2\n",
     "0 0 1 2 3 4 5 6 7 8 9 10 -11\n",
     "0 0 1048577\n",
@@ -66,6 +66,14 @@ const IN_FORM: [&str; 8] = [
     "1 0 8000000000000000 FFFFFFFFFFFFFFFF\n",
     "0 0 -8\n0 1 0\n1 0\n1 1 0000000000000000\n",
     "0 0 0\n0 1 1048576\n1 0\n1 1 8000000000000000\n",
+    // values held more than once, which the masses show: docs/DIFFERENCES.md, 1.2 to 1.4
+    "0 0 0\n1 0\n1 0\n",
+    "0 0 0\n1 0\n1 0\n1 0\n2 0\n1 0\n",
+    "0 0 0\n0 1 8\n1 0\n1 0\n1 1 8000000000000000\n",
+    "0 0 0\n0 1 8\n1 0\n1 1 8000000000000000\n1 0\n",
+    "0 0 0\n0 1 8\n1 0\n1 0\n1 1 8000000000000000\n2 0\n",
+    "0 0 0\n0 1 8\n1 0\n1 0\n1 0\n1 0\n1 1 8000000000000000\n",
+    "0 0 0\n0 1 8\n0 2 24\n1 0\n1 0\n1 1 8000000000000000\n1 2 8000000000000000 8000000000000000\n1 1\n",
 ];
 
 /// How many there are: the lists, a last row without its line feed, and a refused making.

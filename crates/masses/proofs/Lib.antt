@@ -1,0 +1,5 @@
+pub mod Nodes
+pub mod Reports
+pub mod Printed
+pub mod Ended
+pub mod Masses
