@@ -27,7 +27,6 @@ ghost use mathlib.Core.List.{List, [], _∷_};
 ghost use Prim.Native.Nat.{ℕ, _+_, _*_, _/_, _<_, _≤_};
 ghost use lib.ListN.{length, replicate};
 ghost use Rattle.limits.specs.Limits.{pointLimit};
-ghost use Rattle.layout.specs.Layout.{noEnds};
 ghost use Rattle.treestore.specs.Arrays.{lent};
 ghost use Rattle.runlayout.specs.Layout.{RunCall, makingWidth, beginsWithMaking, channels, share};
 ghost use Rattle.runsteps.specs.Told.{toldFrom};
@@ -214,11 +213,11 @@ fn make(
     ))
 }
 
-// A run in its layout, with what its calls' answers need lent or not, and the rows of a table with nothing written.
-fn run_made(run: &[u8], answers: &mut [u8], enough: bool, points: &mut Points) -> usize
+// A run in its layout, with what its calls' answers need lent or not, and the marks of a table with nothing written.
+fn run_made(run: &[u8], answers: &mut [u8], enough: bool, written: &mut Marks) -> usize
     requires making { ⌜ beginsWithMaking (now run) ≡ true ⌝ }
     requires calls { ⌜ Checks (now run) enough (now answers) ⌝ }
-    requires empty { ⌜ now points ≡ replicate pointLimit noEnds ⌝ }
+    requires empty { ⌜ now written ≡ replicate pointLimit 0 ⌝ }
     ensures { λ r. ⌜ ((q : Checks (now (run .entry)) enough (now (answers .entry))) → (r, now (answers .exit)) ≡ given (answered (now (run .entry)) (made (now (run .entry))) (q .calls)) (now (answers .entry))) ⌝ }
 {
     let mut nodes = [[0u16; 4]; BRANCHES];
@@ -226,7 +225,7 @@ fn run_made(run: &[u8], answers: &mut [u8], enough: bool, points: &mut Points) -
     let mut copies = [0u16; POINTS];
     let mut free = [[0u16; 2]; BRANCHES];
     let mut boxes = [[[0.0f32; CHANNELS]; 2]; BRANCHES];
-    let mut written = pointstore::no_marks();
+    let mut points = pointstore::no_points();
     let mut weights = [0.0f32; CAPACITY];
     let mut held = [0u16; CAPACITY];
     let made = make(
@@ -252,8 +251,8 @@ fn run_made(run: &[u8], answers: &mut [u8], enough: bool, points: &mut Points) -
                 &mut copies,
                 &mut free,
                 &mut boxes,
-                points,
-                &mut written,
+                &mut points,
+                written,
                 &mut weights,
                 &mut held,
                 run,
@@ -264,20 +263,20 @@ fn run_made(run: &[u8], answers: &mut [u8], enough: bool, points: &mut Points) -
 }
 
 // Carries out a whole run, and writes its answers to the lent bytes; or refuses it, and writes nothing.
-// The table's rows are made before anything is tested, so that the compiled function has its frame from the start (docs/DECISIONS.md, 69).
+// The table's marks are made before anything is tested, so that the compiled function has its frame from the start (docs/DECISIONS.md, 69).
 // Rules out a run taken that ends inside a call, and a byte written beyond the answers.
 #[no_mangle]
 pub extern "C" fn sicklephlox_run(run: &[u8], answers: &mut [u8]) -> usize
     ensures { λ r. ⌜ (r, now (answers .exit)) ≡ outcome (now (run .entry)) (now (answers .entry)) ⌝ }
 {
-    let mut points = pointstore::no_points();
+    let mut written = pointstore::no_marks();
     if !runlayout::begins_with_making(run) {
         return 17;
     }
     let checked = runlayout::check_calls(run, answers.len() / 4);
     match checked {
         Checked::OutOfLayout => 17,
-        Checked::TooFew => run_made(run, answers, false, &mut points),
-        Checked::Enough => run_made(run, answers, true, &mut points),
+        Checked::TooFew => run_made(run, answers, false, &mut written),
+        Checked::Enough => run_made(run, answers, true, &mut written),
     }
 }

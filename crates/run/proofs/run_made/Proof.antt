@@ -6,8 +6,8 @@ use borrow.Author.Needs.{needs}
 use Rattle.run.proofs.run_made.Statement.{statement}
 use Rattle.run.proofs.run_made.Tie as tie
 
-no-marks-requires : tie.Need-no-marks-requires
-no-marks-requires c κs = search needs
+no-points-requires : tie.Need-no-points-requires
+no-points-requires c κs = search needs
 
 make-requires : tie.Need-make-requires
 make-requires c κs = c .before .before .before .before .before .before .before .before .before .before .pre .0
@@ -29,7 +29,7 @@ returns c =
 run-tree-requires : tie.Need-run-tree-requires
 run-tree-requires c κs =
     let s = c .before .before .before .before .before .before .before .before .before .before .before .before .before .before .before .before .before .before .before .before .before .before .before .before .before in
-    (s .pre .0, record { calls = _; started = starts (s .args .run .now) (s .args .answers .now) _ _ _ _ (c .before .before .before .before .before .before .before .before .before .before .before .before .before .before .make .ensures) _ (s .pre .1 .0) _ (c .before .before .before .before .before .before .before .before .before .before .before .before .made2 .given .1) _ _ (unwritten _ _ (s .pre .1 .1) (c .before .before .before .before .before .before .before .before .before .before .before .before .before .before .before .before .before .before .before .before .before .before .no-marks .ensures)) (not-false _ (c .before .before .before .before .before .before .before .before .before .before .if1 .left)) })
+    (s .pre .0, record { calls = _; started = starts (s .args .run .now) (s .args .answers .now) _ _ _ _ (c .before .before .before .before .before .before .before .before .before .before .before .before .before .before .make .ensures) _ (s .pre .1 .0) _ (c .before .before .before .before .before .before .before .before .before .before .before .before .made2 .given .1) _ _ (unwritten _ _ (c .before .before .before .before .before .before .before .before .before .before .before .before .before .before .before .before .before .before .before .before .before .before .no-points .ensures) (s .pre .1 .1)) (not-false _ (c .before .before .before .before .before .before .before .before .before .before .if1 .left)) })
 
 same-length : tie.Need-same-length
 same-length c = search needs
@@ -47,13 +47,13 @@ returns-3 c =
     let s = c .before .before .before .before .before .before .before .before .before .before .before .before .before .before .before .before .before .before .before .before .before .before .before .before .before .before .before .before in
     let t = c .before .before .before .before .before .before .before .before .before .before .before .before .before .before .before .made2 .given .1 in
     λ q. answers (s .args .run .now) (s .args .answers .now) _ _ _ _ (c .before .before .before .before .before .before .before .before .before .before .before .before .before .before .before .before .before .make .ensures) _ q _ t _
-    (c .before .before .run-tree .ensures _ (starts (s .args .run .now) (s .args .answers .now) _ _ _ _ (c .before .before .before .before .before .before .before .before .before .before .before .before .before .before .before .before .before .make .ensures) _ q _ t _ _ (unwritten _ _ (s .pre .1 .1) (c .before .before .before .before .before .before .before .before .before .before .before .before .before .before .before .before .before .before .before .before .before .before .before .before .before .no-marks .ensures)) (not-false _ (c .before .before .before .before .before .before .before .before .before .before .before .before .before .if1 .left))))
+    (c .before .before .run-tree .ensures _ (starts (s .args .run .now) (s .args .answers .now) _ _ _ _ (c .before .before .before .before .before .before .before .before .before .before .before .before .before .before .before .before .before .make .ensures) _ q _ t _ _ (unwritten _ _ (c .before .before .before .before .before .before .before .before .before .before .before .before .before .before .before .before .before .before .before .before .before .before .before .before .before .no-points .ensures) (s .pre .1 .1)) (not-false _ (c .before .before .before .before .before .before .before .before .before .before .before .before .before .if1 .left))))
 
 pub run-made-spec : {M : Type 1} → statement M
 run-made-spec =
     tie.close
     (tie.spec
-    no-marks-requires
+    no-points-requires
     make-requires
     enum-known-made
     tell-refusal-requires

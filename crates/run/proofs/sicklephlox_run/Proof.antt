@@ -7,8 +7,8 @@ use Rattle.run.proofs.Checking.{no-making, gives, out-of-layout, too-fe
 use Rattle.run.proofs.sicklephlox_run.Statement.{statement}
 use Rattle.run.proofs.sicklephlox_run.Tie as tie
 
-no-points-requires : tie.Need-no-points-requires
-no-points-requires c κs = search needs
+no-marks-requires : tie.Need-no-marks-requires
+no-marks-requires c κs = search needs
 
 begins-with-making-requires : tie.Need-begins-with-making-requires
 begins-with-making-requires c κs = search needs
@@ -28,7 +28,7 @@ enum-told-2 c = search needs
 run-made-requires : tie.Need-run-made-requires
 run-made-requires c κs =
     let m = (sym (c .before .before .before .before .before .before .begins-with-making .ensures) ∙ not-false _ (c .before .before .before .before .before .if1 .left)) in
-    (m, (too-few (c .before .before .before .before .before .before .before .before .before .before .args .run .now) (c .before .before .before .before .before .before .before .before .before .before .args .answers .now) m (sym (c .before .before .enum-told2 .given .1) ∙ c .before .before .before .before .check-calls .ensures), c .before .before .before .before .before .before .before .no-points .ensures))
+    (m, (too-few (c .before .before .before .before .before .before .before .before .before .before .args .run .now) (c .before .before .before .before .before .before .before .before .before .before .args .answers .now) m (sym (c .before .before .enum-told2 .given .1) ∙ c .before .before .before .before .check-calls .ensures), c .before .before .before .before .before .before .before .no-marks .ensures))
 
 enum-told-3 : tie.Need-enum-told-3
 enum-told-3 c = search needs
@@ -36,7 +36,7 @@ enum-told-3 c = search needs
 run-made-requires-2 : tie.Need-run-made-requires-2
 run-made-requires-2 c κs =
     let m = (sym (c .before .before .before .before .before .before .begins-with-making .ensures) ∙ not-false _ (c .before .before .before .before .before .if1 .left)) in
-    (m, (enough (c .before .before .before .before .before .before .before .before .before .before .args .run .now) (c .before .before .before .before .before .before .before .before .before .before .args .answers .now) m (sym (c .before .before .enum-told3 .given .1) ∙ c .before .before .before .before .check-calls .ensures), c .before .before .before .before .before .before .before .no-points .ensures))
+    (m, (enough (c .before .before .before .before .before .before .before .before .before .before .args .run .now) (c .before .before .before .before .before .before .before .before .before .before .args .answers .now) m (sym (c .before .before .enum-told3 .given .1) ∙ c .before .before .before .before .check-calls .ensures), c .before .before .before .before .before .before .before .no-marks .ensures))
 
 returns-2 : tie.Need-returns-2
 returns-2 c = out-of-layout (c .before .before .before .before .before .before .before .before .args .run .now) (c .before .before .before .before .before .before .before .before .args .answers .now) (sym (c .before .before .before .before .begins-with-making .ensures) ∙ not-false _ (c .before .before .before .if1 .left)) (sym (c .enum-told .given .1) ∙ c .before .before .check-calls .ensures)
@@ -65,7 +65,7 @@ pub sicklephlox-run-spec : {M : Type 1} → statement M
 sicklephlox-run-spec =
     tie.close
     (tie.spec
-    no-points-requires
+    no-marks-requires
     begins-with-making-requires
     returns
     check-calls-requires
