@@ -108,7 +108,7 @@ module _ (S : Setting) (capacity : ℕ) (L : Laws S) where
     length-values (leaf i q n) = refl
     length-values (branch b k l r) = omega (arith, length-append (values l) (values r), length-values l, length-values r)
 
-    within : (n : ℕ) → n ≤ leaves S t → (vs : List Point) × Values S K vs × (n ≤ length vs)
+    pub within : (n : ℕ) → n ≤ leaves S t → (vs : List Point) × Values S K vs × (n ≤ length vs)
     within n h = (values t, (λ v. times-values t v ∙ sum-found S L (λ n. 1) v t (I .sound .cut) ∙ ap (λ b. cond b 1 0) (found-held v)), omega (arith, length-values t))
 
   -- OF NO TREE

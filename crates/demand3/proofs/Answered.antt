@@ -19,7 +19,7 @@ use Rattle.sampledtree.specs.Arrivals.{countsAs, answersAs}
 use Rattle.demand3.specs.Answered.{Seen, Leaves, Answered, countArrival}
 
 -- the counts of all answers agree with the world after them
-inv-all : (d c : ℕ) (W : World (whole d)) (K : Counts (whole d)) (es : List (Call (whole d))) → Inv (whole d) c W K → Inv (whole d) c (worldAfter (whole d) c W es) (countAll (whole d) es (answers (whole d) c W es) K)
+pub inv-all : (d c : ℕ) (W : World (whole d)) (K : Counts (whole d)) (es : List (Call (whole d))) → Inv (whole d) c W K → Inv (whole d) c (worldAfter (whole d) c W es) (countAll (whole d) es (answers (whole d) c W es) K)
 inv-all d c W K [] I = I
 inv-all d c W K (e ∷ es) I = inv-all d c (call (whole d) c W e .1) (count (whole d) e (call (whole d) c W e .0) K) es (inv-call (whole d) c (whole-laws d) W K e I)
 

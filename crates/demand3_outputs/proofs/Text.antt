@@ -6,12 +6,12 @@ use mathlib.Core.List.{List, [], _∷_, _++_, map, append-assoc}
 use Prim.Native.Nat.{ℕ, _+_}
 use Rattle.cuttree.specs.Tree.{Tree, leaf, branch, id}
 use Rattle.cuttree.specs.Run.{World, Answer, call, answers, worldAfter, fresh}
-use Rattle.cuttree.specs.Counts.{Counts, nothing}
+use Rattle.cuttree.specs.Counts.{Counts, countAll, nothing}
 use Rattle.cuttree.specs.Graph.{View, IsNode}
 use Rattle.cuttree.specs.Demand3.{viewOf}
 use Rattle.cuttree.proofs.Tests.{nonsense}
 use Rattle.cuttree.proofs.Nodes.{In, here, left, right, in-trans}
-use Rattle.cuttree.proofs.Keeps.{Inv}
+use Rattle.cuttree.proofs.Keeps.{Inv, inv-fresh}
 use Rattle.cuttree.proofs.Views.{rowOf, leaf-asked, branch-asked}
 use Rattle.cuttree.proofs.Roots.{is-root}
 use Rattle.wholetree.specs.Reading.{Reading}
@@ -68,24 +68,28 @@ module _ (d c : ℕ) where
       let last = namesLine ++ linesIn (worldAfter (whole d) c after (map (callOf d) os) .tree) in
       ap (λ (l : List ℕ). row ++ l) (output-is after (n + 1) os) ∙ sym (append-assoc row rows last)
 
--- A text's answers and printed lines, with what P says of these lines and of the last tree.
-pub texts-with : (P : (d c : ℕ) → List ℕ → View (whole d) → Type 0)
-    → ((d c : ℕ) (W : World (whole d)) (K : Counts (whole d)) → Inv (whole d) c W K → P d c (linesIn d c (W .tree)) (viewOf (whole d) c W K))
+-- A text's answers and printed lines, with what P says of the last counts and of these lines.
+pub texts-with : (P : (d c : ℕ) → Counts (whole d) → List ℕ → Type 0)
+    → ((d c : ℕ) (W : World (whole d)) (K : Counts (whole d)) → Inv (whole d) c W K → P d c K (linesIn d c (W .tree)))
     → (text : List ℕ) (m : Making) (os : List Op) (tree : RCFTree) → parsed text ≡ read m os → madeBy (m .channels) (m .capacity) (sixteenthsOf (m .sixteenths)) ≡ TreeMade tree
     → (as′ : List (Answer (whole (m .channels)))) × (lines : List ℕ) × (G : View (whole (m .channels)))
-    × Answered (m .channels) (m .capacity) (P (m .channels) (m .capacity) lines) G (nothing (whole (m .channels))) (map (callOf (m .channels)) os) as′
+    × Answered (m .channels) (m .capacity) (Listing (m .channels) lines) G (nothing (whole (m .channels))) (map (callOf (m .channels)) os) as′
     × (output text ≡ toldRows (m .channels) 0 as′ ++ (namesLine ++ lines))
+    × P (m .channels) (m .capacity) (countAll (whole (m .channels)) (map (callOf (m .channels)) os) as′ (nothing (whole (m .channels)))) lines
 texts-with P p text m os tree F M =
     let d = m .channels in
     let c = m .capacity in
     let es = map (callOf d) os in
-    let last = worldAfter (whole d) c (fresh (whole d) c) es in (
-      answers (whole d) c (fresh (whole d) c) es,
+    let start = fresh (whole d) c in
+    let last = worldAfter (whole d) c start es in
+    let room = taken d c (sixteenthsOf (m .sixteenths)) tree M .1 in (
+      answers (whole d) c start es,
       linesIn d c (last .tree),
-      viewOf (whole d) c (fresh (whole d) c) (nothing (whole d)),
-      Demand3.answered d c (P d c (linesIn d c (last .tree))) (taken d c (sixteenthsOf (m .sixteenths)) tree M .1) es (λ K I. p d c last K I),
-      ap outputOf F ∙ ap (λ (x : Made). outputBy d c x os) M ∙ output-is d c (fresh (whole d) c) 0 os,
+      viewOf (whole d) c start (nothing (whole d)),
+      Demand3.answered d c (Listing d (linesIn d c (last .tree))) room es (λ K I. listing-of d c (last .table) (last .free) K (last .tree) I),
+      ap outputOf F ∙ ap (λ (x : Made). outputBy d c x os) M ∙ output-is d c start 0 os,
+      p d c last _ (Demand3.inv-all d c start (nothing (whole d)) es (inv-fresh (whole d) c room)),
     )
 
 pub texts-answer : TextsAnswer
-texts-answer = texts-with (λ d c lines. Listing d lines) (λ d c W K I. listing-of d c (W .table) (W .free) K (W .tree) I)
+texts-answer text m os tree F M = let (as′, lines, G, A, e, u) = texts-with (λ d c K lines. Unit {0}) (λ d c W K I. tt) text m os tree F M in (as′, lines, G, A, e)

@@ -4,10 +4,9 @@ use mathlib.Core.Path.{_≡_}
 use mathlib.Core.Logic.{_⊎_}
 use mathlib.Core.List.{List, [], _++_}
 use Prim.Native.Nat.{ℕ, _+_, _-_, _<_}
-use lib.ListN.{length}
 use lib.Ieee.{Float}
 use Rattle.lines.specs.Lines.{branchLine, leafLine, namesLine, Wrote}
-use Rattle.sampler.specs.Sample.{Entry}
+use Rattle.sampler.specs.Sample.{entriesIn}
 use Rattle.layout.specs.Slots.{field}
 use Rattle.treestore.specs.Arrays.{Lent}
 use Rattle.randomcuttree.specs.declared.RCFTree.{RCFTree}
@@ -53,9 +52,9 @@ module _ (tree : RCFTree) (a : Lent) where
 abbrev pub MassesOfCode : Type 0
 MassesOfCode = (tree : RCFTree) (a : Lent) (points : List (List Float)) (marks : List ℕ) → SomeState tree a points marks → MassesCount tree a points
 
--- What `print_end` writes where an archive ends, as its contract ensures it: the arrivals that are kept, and the tree, whose root's mass is their number.
+-- What `print_end` writes where an archive ends, as its contract ensures it: the arrivals that the sample keeps, and the tree, whose root's mass is their number.
 abbrev pub EndsCount : Type 0
 EndsCount = (h : SamplerPlusTree) (a : Lent) (points : List (List Float)) (marks : List ℕ) (weights : List Float) (held : List ℕ) → SomeSampled h a points marks weights held
     → (at : ℕ) (before : List ℕ) (place : ℕ) (after : List ℕ) → PrintsEnd h (a .nodes) (a .cuts) (a .copies) weights held at before place after
-    → (kept : List Entry) × (lines : List ℕ) × Wrote before at (sampleNames ++ entryLines kept ++ (namesLine ++ lines)) place after
-    × (((kept ≡ []) × (lines ≡ [])) ⊎ LinesWeigh (h .tree .root) (length kept) lines)
+    → (lines : List ℕ) × Wrote before at (sampleNames ++ entryLines (entriesIn (h .sampler .«current_size») weights held) ++ (namesLine ++ lines)) place after
+    × (((h .sampler .«current_size» ≡ 0) × (lines ≡ [])) ⊎ LinesWeigh (h .tree .root) (h .sampler .«current_size») lines)

@@ -12,6 +12,7 @@ use Rattle.cuttree.specs.Counts.{Counts, times, Values}
 use Rattle.cuttree.proofs.Tests.{by-test, clash}
 use Rattle.cuttree.proofs.Nodes.{In, here, left, right, in-trans, all-in}
 use Rattle.cuttree.proofs.Keeps.{Inv}
+use Rattle.cuttree.proofs.Claims.{within}
 use Rattle.masses_outputs.specs.Seen.{copiesOfAll}
 
 module _ (S : Setting) (L : Laws S) where
@@ -51,19 +52,19 @@ module _ (S : Setting) (L : Laws S) where
   copies-in (left j) = omega (arith, copies-in j)
   copies-in (right j) = omega (arith, copies-in j)
 
-  module _ (capacity : ℕ) (f : ℕ → Option Point) (t : Tree S) (u : List (ℕ × ℕ)) (K : Counts S) (I : Inv S capacity (record { table = f; tree = some t; free = u }) K) (vs : List Point) (each : Values S K vs) where
-    listed : {i : ℕ} {q : Point} {n : ℕ} → In S (leaf i q n) t → times S vs q ≡ 1
-    listed {i} {q} {n} j =
+  module _ (capacity : ℕ) (f : ℕ → Option Point) (t : Tree S) (u : List (ℕ × ℕ)) (K : Counts S) (I : Inv S capacity (record { table = f; tree = some t; free = u }) K) where
+    listed : (vs : List Point) → Values S K vs → {i : ℕ} {q : Point} {n : ℕ} → In S (leaf i q n) t → times S vs q ≡ 1
+    listed vs each {i} {q} {n} j =
         let some : 0 < K .number q = omega (arith, all-in S (λ i q n. 0 < n) j (I .sound .filled), copies-in j, I .number-is q) in
         each q ∙ ap (λ b. cond b 1 0) (lt-ltb 0 (K .number q) some)
 
-    in-all : (v : Tree S) → In S v t → copiesIn v vs ≡ mass S v
-    in-all (leaf i q n) j = once i q n vs (listed j)
-    in-all (branch b k l r) j = omega (arith, sides b k l r vs, in-all l (in-trans S (left here) j), in-all r (in-trans S (right here) j))
+    in-all : (vs : List Point) → Values S K vs → (v : Tree S) → In S v t → copiesIn v vs ≡ mass S v
+    in-all vs each (leaf i q n) j = once i q n vs (listed vs each j)
+    in-all vs each (branch b k l r) j = omega (arith, sides b k l r vs, in-all vs each l (in-trans S (left here) j), in-all vs each r (in-trans S (right here) j))
 
     counted : (ws : List Point) → copiesIn t ws ≡ copiesOfAll S K ws
     counted [] = refl
     counted (w ∷ ws) = omega (arith, I .number-is w, counted ws)
 
-    pub all-copies : copiesOfAll S K vs ≡ mass S t
-    all-copies = sym (counted vs) ∙ in-all t here
+    pub all-copies : (vs : List Point) × Values S K vs × (copiesOfAll S K vs ≡ mass S t)
+    all-copies = let (vs, each, few) = within S capacity L f t u K I 0 (omega arith) in (vs, each, sym (counted vs) ∙ in-all vs each t here)

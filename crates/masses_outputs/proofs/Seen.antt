@@ -32,7 +32,7 @@ module _ (S : Setting) (L : Laws S) (capacity : ℕ) (f : ℕ → Option (Settin
   none-seen = record {
     one = λ x m n p q. no-mass x m p;
     sides = λ x r e. nonsense (cc);
-    root = λ x R vs e. no-node x (R .node);
+    root = λ x R. no-node x (R .node);
   }
     where
       no-mass : {A : Type 0} (x m : ℕ) → HasMass S Bare x m → A
@@ -74,7 +74,8 @@ module _ (S : Setting) (L : Laws S) (capacity : ℕ) (f : ℕ → Option (Settin
     some-seen = record {
       one = one;
       sides = sides;
-      root = λ x R vs e. subst (λ y. HasMass S G y (copiesOfAll S K vs)) (root-is x R) (subst (λ y. HasMass S G (id S capacity t) y) (sym (all-copies S L capacity f t u K I vs e)) (node-mass t here));
+      root = λ x R. let (vs, each, e) = all-copies S L capacity f t u K I in
+          (vs, each, subst (λ y. HasMass S G y (copiesOfAll S K vs)) (root-is x R) (subst (λ y. HasMass S G (id S capacity t) y) (sym e) (node-mass t here)));
     }
 
   pub masses-seen : (o : Option (Tree S)) → Inv S capacity (record { table = f; tree = o; free = u }) K → MassClaim S (viewOf S capacity (record { table = f; tree = o; free = u }) K) K

@@ -25,5 +25,5 @@ module _ (S : Setting) where
     pub one : (x m n : ℕ) → HasMass G x m → HasMass G x n → m ≡ n
     -- "a branch's mass the sum of its sides"
     pub sides : (x : ℕ) (r : Row S) → IsBranch S G x r → (m : ℕ) × (n : ℕ) × HasMass G (r .left) m × HasMass G (r .right) n × (r .mass ≡ m + n)
-    -- the root's is the total, the copies of all values held
-    pub root : (x : ℕ) → IsRoot S G x → (vs : List Point) → Values S K vs → HasMass G x (copiesOfAll K vs)
+    -- the root's is the total: the copies of all values held, each value once
+    pub root : (x : ℕ) → IsRoot S G x → (vs : List Point) × Values S K vs × HasMass G x (copiesOfAll K vs)
