@@ -1,4 +1,4 @@
--- The drawn cut is document 01's, on coordinates: the float loop gives the channel and the rest of the whole numbers. Assumes nothing.
+-- The drawn cut is document 01's, on coordinates: no sum of sides is rounded, and the float loop gives the channel and the rest of the whole numbers. Assumes nothing.
 use mathlib.Core.Path.{_≡_, refl, sym, ap, _∙_, subst}
 use mathlib.Core.List.{List}
 use Prim.Native.Nat.{ℕ, zero, suc, _+_, _-_, _/_, _^_, _≤_, _<_, zero-le}
@@ -8,7 +8,7 @@ use mathlib.Core.Bool.{Bool, true, false, not, _&&_, true≢false}
 use lib.IntN.{pos}
 use lib.Dec.{T, ltb, eqb, leb→le, eqb→eq, ltb→lt, nltb→le}
 use lib.Pow.{pow-pos, pow-mono}
-use lib.Ieee.{Float, binary64, mul, eq, ofInt}
+use lib.Ieee.{Float, binary64, add, mul, eq, ofInt}
 use lib.Ieee.Fits.{and-i, and-l, and-r, eq→eqb}
 use borrow.Table.Steps.{cases as by-test}
 use Rattle.readings.specs.Coordinate.{isCoordinate, rank}
@@ -27,9 +27,9 @@ use Rattle.boundingbox.proofs.Sums.{nought-is, sum-fits, whole-eq}
 use Rattle.cut.specs.declared.Side.the-variants.{At}
 use Rattle.cut.specs.Draw.{outsideSum, lowEnd, highEnd, sideOf, rangeOf, sideFrom, drawnAt, separation}
 use Rattle.cut.specs.Document.{numberDrawn, channelOf, restOf, cutOf, documentCut}
-use Rattle.cut.specs.Laws.{Readings, AsDocument}
+use Rattle.cut.specs.Laws.{Readings, SumsExact, AsDocument}
 use Rattle.cut.proofs.Number.{side-is}
-use Rattle.cut.proofs.Stretched.{beyond, out, outside-exact, range-exact, sum-stretched, side-exact, stretched}
+use Rattle.cut.proofs.Stretched.{beyond, out, outside-exact, range-exact, sum-stretched, side-exact, sides-exact, stretched}
 
 -- ---- the box holds the point exactly where nothing of it lies outside
 module _ (lo hi p : List Float) where
@@ -95,8 +95,14 @@ module _ (lo hi p : List Float) (n : ℕ) (R : Readings lo hi p n) where
   abbrev pub S : ℕ
   S = sumTo (side (lowEnd lo p) (highEnd hi p)) n
 
+  most : (m : ℕ) → m ≤ n → sumTo (side (lowEnd lo p) (highEnd hi p)) m ≤ 2 ^ 26
+  most = sum-fits (lowEnd lo p) (highEnd hi p) n (stretched lo hi p n R)
+
+  most-f64 : (m : ℕ) → m ≤ n → sumTo (side (lowEnd lo p) (highEnd hi p)) m ≤ 2 ^ 53
+  most-f64 m h = le-trans (most m h) (pow-mono (leb→le 26 53 tt))
+
   S-le : S ≤ 2 ^ 53
-  S-le = le-trans (sum-fits (lowEnd lo p) (highEnd hi p) n (stretched lo hi p n R) n (le-refl n)) (pow-mono (leb→le 26 53 tt))
+  S-le = most-f64 n (le-refl n)
 
   A-le : A ≤ 2 ^ 53
   A-le = go A B S (sum-stretched lo hi p n R) S-le
@@ -109,6 +115,10 @@ module _ (lo hi p : List Float) (n : ℕ) (R : Readings lo hi p n) where
     where
       go : (a b s : ℕ) → a + b ≡ s → s ≤ 9007199254740992 → b ≤ 9007199254740992
       go a b s e h = omega arith
+
+  -- the two float sums add up to the sum of the sides
+  all-exact : add binary64 (outsideSum lo hi p n) (rangeSum lo hi n) ≡ ofInt binary64 (pos S)
+  all-exact = rw (outside-exact lo hi p n R, range-exact lo hi p n R) (ofInt-add binary64 A B A-le B-le ∙ ap (λ (k : ℕ). ofInt binary64 (pos k)) (sum-stretched lo hi p n R))
 
   -- the Rust's test whether the box holds the point
   pub outside-is : eq (outsideSum lo hi p n) nought ≡ contains lo hi p p n
@@ -131,13 +141,9 @@ module _ (lo hi p : List Float) (n : ℕ) (R : Readings lo hi p n) where
     unfolding numberDrawn
     product-is = mul-value binary64 (ofInt binary64 (pos S)) (factorOf w) S 1 (w / 2 ^ 11) (2 ^ 53) (zero-lt-suc 0) (pow-pos 53) (ofInt-value binary64 S S-le) (factor-value w W)
 
-    -- the two float sums add up to the sum of the sides
     pub number-is : rangeOf lo hi p n w ≡ numberDrawn (lowEnd lo p) (highEnd hi p) n w
     unfolding rangeOf
-    number-is =
-        ap (λ (x : Float). mul binary64 x (factorOf w))
-        (rw (outside-exact lo hi p n R, range-exact lo hi p n R) (ofInt-add binary64 A B A-le B-le ∙ ap (λ (k : ℕ). ofInt binary64 (pos k)) (sum-stretched lo hi p n R)))
-        ∙ product-is
+    number-is = ap (λ (x : Float). mul binary64 x (factorOf w)) all-exact ∙ product-is
 
     -- outside the box, the loop ends in document 01's channel, with document 01's rest
     pub side-drawn : contains lo hi p p n ≡ false → sideFrom (sideOf lo hi p) n 0 (rangeOf lo hi p n w) ≡ At (channelOf (lowEnd lo p) (highEnd hi p) n w) (restOf (lowEnd lo p) (highEnd hi p) n w)
@@ -151,3 +157,10 @@ module _ (lo hi p : List Float) (n : ℕ) (R : Readings lo hi p n) where
 pub as-document : AsDocument
 unfolding separation documentCut cutOf drawnAt
 as-document n lo hi p w R W = by-test (contains lo hi p p n) (λ t. rw (outside-is lo hi p n R, t) refl) (λ t. rw (t, separation-is lo hi p n R w W t) refl)
+
+pub sums-exact : SumsExact
+sums-exact n lo hi p R = record {
+  most = most lo hi p n R;
+  first = λ m h. rw (sides-exact lo hi p n R m h) (ofInt-value binary64 (sumTo (side (lowEnd lo p) (highEnd hi p)) m) (most-f64 lo hi p n R m h));
+  all = rw (all-exact lo hi p n R) (ofInt-value binary64 (S lo hi p n R) (S-le lo hi p n R));
+}

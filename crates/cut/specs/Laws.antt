@@ -4,12 +4,12 @@ use mathlib.Core.List.{List}
 use Prim.Native.Nat.{ℕ, _+_, _*_, _/_, _^_, _≤_, _<_}
 use mathlib.Core.Bool.{Bool, true, false, not, _&&_}
 use lib.Dec.{T}
-use lib.Ieee.{Float, lt, le, eq}
+use lib.Ieee.{Float, binary64, add, lt, le, eq}
 use lib.Ieee.Exact.{HasValue}
 use Rattle.readings.specs.Coordinate.{isCoordinate}
 use Rattle.boundingbox.specs.Ends.{channel}
 use Rattle.readings.specs.Number.{nought}
-use Rattle.boundingbox.specs.Sides.{rangeSum}
+use Rattle.boundingbox.specs.Sides.{total, rangeSum}
 use Rattle.boundingbox.specs.Contained.{contains}
 use Rattle.boundingbox.specs.Wholes.{Box, side, sumTo}
 use Rattle.cut.specs.declared.Cut.{Cut}
@@ -23,6 +23,16 @@ use Rattle.cut.specs.Document.{numberDrawn, restOf, cutOf, documentCut}
 pub record Readings (lo hi p : List Float) (n : ℕ) : Type 0 where
   pub box : Box (channel lo) (channel hi) n
   pub point : (i : ℕ) → i < n → T (isCoordinate (channel p i))
+
+-- Request A.7, 'Cuts stay exact': of up to 32 channels, as `Box` has them, no sum of sides of the box with the point in it passes 2^26. So the f64 sums that a cut is drawn from are whole
+-- numbers, none of them rounded: the sums of the first m sides, and the sum that is multiplied, of what lies outside and the box's own sides (AsDocument.antt).
+pub record ExactSums (lo hi p : List Float) (n : ℕ) : Type 0 where
+  pub most : (m : ℕ) → m ≤ n → sumTo (side (lowEnd lo p) (highEnd hi p)) m ≤ 2 ^ 26
+  pub first : (m : ℕ) → m ≤ n → HasValue (total (sideOf lo hi p) m) false (sumTo (side (lowEnd lo p) (highEnd hi p)) m) 1
+  pub all : HasValue (add binary64 (outsideSum lo hi p n) (rangeSum lo hi n)) false (sumTo (side (lowEnd lo p) (highEnd hi p)) n) 1
+
+abbrev pub SumsExact : Type 0
+SumsExact = (n : ℕ) (lo hi p : List Float) → Readings lo hi p n → ExactSums lo hi p n
 
 -- The floats draw document 01's cut (AsDocument.antt).
 abbrev pub AsDocument : Type 0
