@@ -46,8 +46,8 @@ refuse r b x = cond b (refused r) x
 
 -- a tree of d channels and capacity c
 module _ (d c : ℕ) where
-  -- 'At the leaf 0 if equal, else 1. Above: 0 if the query is inside; otherwise S / (W + S) in one rounded division'. Above, by the Rust's
-  -- operations on the node's box; that they come to this is `ChancesAsDocument` (Laws.antt).
+  -- 'At the leaf 0 if equal, else 1. Above: 0 if the query is inside; otherwise', by request A.7, 'the single rounded division of the computed sum by the f64 sum of it and the
+  -- box's sides'. Above, by the Rust's operations on the node's box; that they come to this, and up to 8 channels to document 01's S / (W + S), is `ChancesDivided` (Laws.antt).
   abbrev pub chance : Tree (whole d) → Reading → Float
   chance (leaf i q n) p = cond (whole d .same q p) nought one
   chance (branch b k l r) p = probability (lowOf d c (branch b k l r)) (highOf d c (branch b k l r)) (p .row) width

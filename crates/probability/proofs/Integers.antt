@@ -1,7 +1,7 @@
 -- The chance by integers, on coordinates: a side cast to an integer loses nothing, and what the sides grow by, over what they grow to, is the chance. Assumes nothing.
-use mathlib.Core.Path.{_≡_, refl, sym, ap, _∙_}
+use mathlib.Core.Path.{_≡_, refl, sym, ap, _∙_, subst}
 use mathlib.Core.List.{List}
-use mathlib.Core.Bool.{true, false, cond}
+use mathlib.Core.Bool.{true, false}
 use Prim.Native.Nat.{ℕ, _+_, _-_, _^_, _≤_, _<_, max}
 use native.Mathlib.Nat.{le-trans, le-refl, zero-lt-suc, zero-mul}
 use native.Mathlib.Omega.{arith}
@@ -14,7 +14,6 @@ use mir.Syntax.{w32}
 use mir.Val.{toZ, ofZ, SFits}
 use mir.ValLaws.{toZ-ofZ}
 use borrow.Table.Steps.{cases as by-test}
-use Rattle.limits.specs.Limits.{width}
 use Rattle.readings.specs.Coordinate.{isCoordinate, rank}
 use Rattle.readings.specs.Number.{nought}
 use Rattle.readings.proofs.Tests.{yes}
@@ -25,10 +24,12 @@ use Rattle.boundingbox.specs.Wholes.{Box, side, sumTo}
 use Rattle.boundingbox.proofs.Sums.{sumTo-next, sum-fits}
 use Rattle.cut.specs.Draw.{lowEnd, highEnd}
 use Rattle.cut.specs.Laws.{Readings}
-use Rattle.cut.proofs.Stretched.{stretched, sum-same, sum-stretched}
+use Rattle.cut.proofs.Stretched.{sum-same, sum-stretched}
+use Rattle.cut.proofs.AsDocument.{sums-exact}
 use Rattle.probability.specs.Probability.{probability}
-use Rattle.probability.specs.Laws.{S, W}
-use Rattle.probability.proofs.AsDocument.{distance-is, held, some-out, as-document}
+use Rattle.probability.specs.Laws.{S, W, quotient}
+use Rattle.probability.proofs.Computed.{computed-exact}
+use Rattle.probability.proofs.Quotient.{distance-is, held, some-out, one-division}
 
 -- ---- one side
 module _ (a b : Float) (P : T (isCoordinate a)) (Q : T (isCoordinate b)) (h : rank a ≤ rank b) where
@@ -64,7 +65,7 @@ module _ (lo hi : ℕ → Float) (n : ℕ) (B : Box lo hi n) (i : ℕ) (h : i < 
 none-over : (m : ℕ) → 0 < m → round binary64 false 0 m ≡ nought
 none-over m h = let is : round binary64 false 0 1 ≡ nought = unfold round in refl in round-same binary64 false 0 m 0 1 h (zero-lt-suc 0) (zero-mul 1 ∙ sym (zero-mul m)) ∙ is
 
-module _ (n : ℕ) (lo hi p : List Float) (N : n ≤ width) (R : Readings lo hi p n) where
+module _ (n : ℕ) (lo hi p : List Float) (R : Readings lo hi p n) where
   abbrev all : ℕ
   all = sumTo (side (lowEnd lo p) (highEnd hi p)) n
 
@@ -81,22 +82,30 @@ module _ (n : ℕ) (lo hi p : List Float) (N : n ≤ width) (R : Readings lo hi 
   sides-le = omega (arith, grows)
 
   pub all-fits : all ≤ 67108864
-  all-fits = sum-fits (lowEnd lo p) (highEnd hi p) n (stretched lo hi p n R) n (le-refl n)
+  all-fits = sums-exact n lo hi p R .most n (le-refl n)
 
-  pub by-integers : round binary64 false (all - W lo hi n) (max all 1) ≡ probability lo hi p n
-  by-integers = rw (grew all (W lo hi n) (S lo hi p n) grows) (by-test (contains lo hi p p n) inside outside ∙ sym (as-document n lo hi p N R))
+  grown-by : all - W lo hi n ≡ S lo hi p n
+  grown-by = go all (W lo hi n) (S lo hi p n) grows
     where
-      grew : (t w s : ℕ) → t ≡ w + s → t - w ≡ s
-      grew t w s e = omega arith
+      go : (t w s : ℕ) → t ≡ w + s → t - w ≡ s
+      go t w s e = omega arith
 
+  -- where the whole-number sum does not pass 2^24, it is the computed sum
+  by-integers : S lo hi p n ≤ 2 ^ 24 → round binary64 false (all - W lo hi n) (max all 1) ≡ probability lo hi p n
+  by-integers h = rw grown-by (by-test (contains lo hi p p n) inside outside ∙ sym (one-division n lo hi p R ∙ ap (quotient lo hi p n) (computed-exact n lo hi p R h)))
+    where
       some : (t : ℕ) → 0 < max t 1
       some t = omega arith
 
       same : (t w s : ℕ) → t ≡ w + s → 0 < s → max t 1 ≡ w + s
       same t w s e h = omega arith
 
-      inside : contains lo hi p p n ≡ true → round binary64 false (S lo hi p n) (max all 1) ≡ cond (contains lo hi p p n) nought (round binary64 false (S lo hi p n) (W lo hi n + S lo hi p n))
-      inside t = rw (t, eqb→eq (S lo hi p n) 0 (yes (held n lo hi p N R ∙ t))) (none-over (max all 1) (some all))
+      inside : contains lo hi p p n ≡ true → round binary64 false (S lo hi p n) (max all 1) ≡ quotient lo hi p n (S lo hi p n)
+      inside t = rw (t, eqb→eq (S lo hi p n) 0 (yes (held n lo hi p R ∙ t))) (none-over (max all 1) (some all))
 
-      outside : contains lo hi p p n ≡ false → round binary64 false (S lo hi p n) (max all 1) ≡ cond (contains lo hi p p n) nought (round binary64 false (S lo hi p n) (W lo hi n + S lo hi p n))
-      outside t = rw t (ap (round binary64 false (S lo hi p n)) (same all (W lo hi n) (S lo hi p n) grows (some-out n lo hi p N R t)))
+      outside : contains lo hi p p n ≡ false → round binary64 false (S lo hi p n) (max all 1) ≡ quotient lo hi p n (S lo hi p n)
+      outside t = rw t (ap (round binary64 false (S lo hi p n)) (same all (W lo hi n) (S lo hi p n) grows (subst (λ (s : ℕ). 0 < s) (computed-exact n lo hi p R h) (some-out n lo hi p R t))))
+
+  -- the same of sums that were added up
+  pub told-by-integers : (t w : ℕ) → t ≡ all → w ≡ W lo hi n → t - w ≤ 16777216 → round binary64 false (t - w) (max t 1) ≡ probability lo hi p n
+  told-by-integers t w e f h = rw (e, f) (by-integers (rw (e, f, grown-by) at h))

@@ -1,5 +1,7 @@
 pub mod Signs
-pub mod Exact
-pub mod AsDocument
+pub mod Rounds
+pub mod Near
+pub mod Computed
+pub mod Quotient
 pub mod Padding
 pub mod Integers

@@ -21,7 +21,7 @@ total32 g (suc n) = add binary32 (total32 g n) (g n)
 abbrev pub pastSum : List Float → List Float → ℕ → Float
 pastSum xs ys n = total32 (λ i. pastBy (channel xs i) (channel ys i)) n
 
--- `let sum = maxsum + minsum`, in f32
+-- `let sum = maxsum + minsum`, in f32. Request A.7: 'the order of additions is the Rust's'
 abbrev pub outside : List Float → List Float → List Float → ℕ → Float
 outside lo hi p n = add binary32 (pastSum p hi n) (pastSum lo p n)
 

@@ -13,7 +13,10 @@ ghost use Rattle.boundingbox.specs.Ends.{channel};
 ghost use Rattle.boundingbox.specs.Wholes.{Box, side, sumTo};
 ghost use Rattle.cut.specs.Draw.{lowEnd, highEnd};
 ghost use Rattle.cut.specs.Laws.{Readings};
-ghost use Rattle.probability.specs.Probability.{pastBy, pastSum, probability};
+ghost use Rattle.probability.specs.Probability.{pastBy, outside, probability};
+
+// 2^24: every whole number up to here is an f32, so that a sum of distances up to here is exact, in whatever order it is added up.
+const EXACT_IN_F32: u32 = 16777216;
 
 // The chance that a cut of the box with the point in it parts the two: what lies outside over the sides and it, 0 where nothing does.
 // Rules out what lies above measured from the lower ends, and a quotient by the sides alone, which passes 1.
@@ -22,9 +25,7 @@ pub fn probability_of_cut(bounding_box: BoundingBox, point: &Row) -> f64
 {
     let lower = bounding_box.min_values;
     let upper = bounding_box.max_values;
-    let minsum = past_sum(&lower, point);
-    let maxsum = past_sum(point, &upper);
-    let sum = maxsum + minsum;
+    let sum = summed_distance(&lower, &upper, point);
     let range_sum = bounding_box.get_range_sum();
     if sum == 0.0 {
         return 0.0;
@@ -36,17 +37,20 @@ pub fn probability_of_cut(bounding_box: BoundingBox, point: &Row) -> f64
     outside / (range_sum + outside)
 }
 
-// How far the first row lies past the second, summed in channel order: of lower ends and a point `minsum`, of a point and upper ends `maxsum`.
-fn past_sum(first: &Row, second: &Row) -> f32
-    ensures { λ r. ⌜ r ≡ pastSum (now (first .entry)) (now (second .entry)) width ⌝ }
+// How far the point lies outside the box, as the Rust adds it up in f32: the distances below it and those above it apart, each in channel order, then the two sums.
+// Rules out one sum over both, which rounds otherwise once it passes 2^24.
+fn summed_distance(low: &Row, high: &Row, point: &Row) -> f32
+    ensures { λ r. ⌜ r ≡ outside (now (low .entry)) (now (high .entry)) (now (point .entry)) width ⌝ }
 {
-    let mut sum: f32 = 0.0;
+    let mut minsum: f32 = 0.0;
+    let mut maxsum: f32 = 0.0;
     let mut i: usize = 0;
     while i < CHANNELS {
-        sum = sum + past_by(first[i], second[i]);
+        minsum = minsum + past_by(low[i], point[i]);
+        maxsum = maxsum + past_by(point[i], high[i]);
         i += 1;
     }
-    sum
+    maxsum + minsum
 }
 
 // How far x lies past y, and 0 where it does not. The Rust tests the difference.
@@ -57,8 +61,9 @@ fn past_by(x: f32, y: f32) -> f32
 }
 
 // The same chance, of a box and a point of coordinates, from its ends where they lie. All sides are whole numbers: what lies outside is what the sides grow by as
-// the point is taken in, and integers are added up side by side, where the sums above wait for one addition after another. Where the box holds the point nothing
-// lies outside, and 0 over any whole number from 1 on is 0: no branch has to be guessed.
+// the point is taken in, and integers are added up side by side, where the sums above wait for one addition after another. Up to 2^24 the f32 sum is
+// this integer; beyond it, where it may be rounded, it is added up in the Rust's order. Where the box holds the point nothing lies outside, and 0 over any whole number from 1 on is 0:
+// that takes no branch, which would have to be guessed.
 // Rules out what lies outside over the sides without it, and a division by zero at a box that is the point.
 pub fn whole_probability_of_cut(low: &Row, high: &Row, point: &Row) -> f64
     requires { ⌜ Readings (now low) (now high) (now point) width ⌝ }
@@ -66,7 +71,15 @@ pub fn whole_probability_of_cut(low: &Row, high: &Row, point: &Row) -> f64
 {
     let all = stretched_sum(low, high, point);
     let sides = side_sum(low, high);
-    part_of(all - sides, all)
+    let part = all - sides;
+    if part <= EXACT_IN_F32 {
+        return part_of(part, all);
+    }
+    let bounding_box = BoundingBox {
+        min_values: *low,
+        max_values: *high,
+    };
+    probability_of_cut(bounding_box, point)
 }
 
 // The sum of the sides.
