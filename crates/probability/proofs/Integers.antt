@@ -91,7 +91,7 @@ module _ (n : ℕ) (lo hi p : List Float) (R : Readings lo hi p n) where
       go t w s e = omega arith
 
   -- where the whole-number sum does not pass 2^24, it is the computed sum
-  by-integers : S lo hi p n ≤ 2 ^ 24 → round binary64 false (all - W lo hi n) (max all 1) ≡ probability lo hi p n
+  pub by-integers : S lo hi p n ≤ 2 ^ 24 → round binary64 false (all - W lo hi n) (max all 1) ≡ probability lo hi p n
   by-integers h = rw grown-by (by-test (contains lo hi p p n) inside outside ∙ sym (one-division n lo hi p R ∙ ap (quotient lo hi p n) (computed-exact n lo hi p R h)))
     where
       some : (t : ℕ) → 0 < max t 1
@@ -105,7 +105,3 @@ module _ (n : ℕ) (lo hi p : List Float) (R : Readings lo hi p n) where
 
       outside : contains lo hi p p n ≡ false → round binary64 false (S lo hi p n) (max all 1) ≡ quotient lo hi p n (S lo hi p n)
       outside t = rw t (ap (round binary64 false (S lo hi p n)) (same all (W lo hi n) (S lo hi p n) grows (subst (λ (s : ℕ). 0 < s) (computed-exact n lo hi p R h) (some-out n lo hi p R t))))
-
-  -- the same of sums that were added up
-  pub told-by-integers : (t w : ℕ) → t ≡ all → w ≡ W lo hi n → t - w ≤ 16777216 → round binary64 false (t - w) (max t 1) ≡ probability lo hi p n
-  told-by-integers t w e f h = rw (e, f) (by-integers (rw (e, f, grown-by) at h))

@@ -15,9 +15,6 @@ ghost use Rattle.cut.specs.Draw.{lowEnd, highEnd};
 ghost use Rattle.cut.specs.Laws.{Readings};
 ghost use Rattle.probability.specs.Probability.{pastBy, outside, probability};
 
-// 2^24: every whole number up to here is an f32, so that a sum of distances up to here is exact, in whatever order it is added up.
-const EXACT_IN_F32: u32 = 16777216;
-
 // The chance that a cut of the box with the point in it parts the two: what lies outside over the sides and it, 0 where nothing does.
 // Rules out what lies above measured from the lower ends, and a quotient by the sides alone, which passes 1.
 pub fn probability_of_cut(bounding_box: BoundingBox, point: &Row) -> f64
@@ -61,9 +58,8 @@ fn past_by(x: f32, y: f32) -> f32
 }
 
 // The same chance, of a box and a point of coordinates, from its ends where they lie. All sides are whole numbers: what lies outside is what the sides grow by as
-// the point is taken in, and integers are added up side by side, where the sums above wait for one addition after another. Up to 2^24 the f32 sum is
-// this integer; beyond it, where it may be rounded, it is added up in the Rust's order. Where the box holds the point nothing lies outside, and 0 over any whole number from 1 on is 0:
-// that takes no branch, which would have to be guessed.
+// the point is taken in, and integers are added up side by side, where the sums above wait for one addition after another. In so few channels the f32 sum is this integer.
+// Where the box holds the point nothing lies outside, and 0 over any whole number from 1 on is 0: no branch has to be guessed.
 // Rules out what lies outside over the sides without it, and a division by zero at a box that is the point.
 pub fn whole_probability_of_cut(low: &Row, high: &Row, point: &Row) -> f64
     requires { ⌜ Readings (now low) (now high) (now point) width ⌝ }
@@ -71,15 +67,7 @@ pub fn whole_probability_of_cut(low: &Row, high: &Row, point: &Row) -> f64
 {
     let all = stretched_sum(low, high, point);
     let sides = side_sum(low, high);
-    let part = all - sides;
-    if part <= EXACT_IN_F32 {
-        return part_of(part, all);
-    }
-    let bounding_box = BoundingBox {
-        min_values: *low,
-        max_values: *high,
-    };
-    probability_of_cut(bounding_box, point)
+    part_of(all - sides, all)
 }
 
 // The sum of the sides.
