@@ -23,7 +23,8 @@ ghost use Rattle.boxstore.specs.Above.{SomeRising, BoxAbove};
 ghost use Rattle.boxstore.specs.Edited.{SomeGrafted, GrownAbove, SomeForgotten, RepairedAbove};
 
 // The id of a branch's side: 0 is the left one, 1 the right one.
-fn side_of(nodes: &Nodes, node: usize, side: usize) -> usize
+// Rules out the sides swapped, and the side of another branch.
+pub fn side_of(nodes: &Nodes, node: usize, side: usize) -> usize
     requires { ⌜ (node < branchLimit) × (side < 2) ⌝ }
     ensures { λ r. ⌜ r ≡ sideIn (now (nodes .entry)) node side ⌝ }
 {
