@@ -1,5 +1,5 @@
 // The boxes of a tree's branches, worked on in lent rows and only as far as the tree's own channels: what a call costs goes with these, not with the width of
-// a row. Nothing calls these steps yet: they are what the boxes of wide trees are kept by.
+// a row. Nothing calls these steps yet: they are what the boxes of wide trees are to be kept by.
 use boundingbox::greatest_of;
 use boundingbox::least_of;
 use boxstore::side_of;
