@@ -25,12 +25,18 @@ WEIGHT = "refuse(14, not math.isfinite(weight) or is_minus_zero(weight))"
 WALK = "        walk = self.walk(reading)\n        if walk[0].low"
 SUM = "self.mass = self.left.mass + self.right.mass"
 LESS = "return 1 if self.copies == 1 else self.copies - 1"
+SUMS = "    below = added([max(a - x, 0.0) for a, x in zip(node.low, query)])\n    above = added([max(x - b, 0.0) for x, b in zip(query, node.high)])\n"
+ONE_SUM = SUMS + "    outside = narrowed(above + below)"
+IN_ONE_CHAIN = "    outside = added([max(a - x, 0.0) + max(x - b, 0.0) for a, x, b in zip(node.low, query, node.high)])"
+BELOW_ON_TOP = "    outside = added([max(a - x, 0.0) for a, x in zip(node.low, query)] + [max(x - b, 0.0) for x, b in zip(query, node.high)])"
 INSERT = "        self.insert(index, reading, *self.winner(walk, reading, words))\n        return index, len(walk)"
 
 # the rule, what is misread, then each text of rules.py and the text in its place
 MISREADINGS = [
     ("1", "a share of minus zero is refused", "0.0 <= x <= 1.0", "0.0 <= x <= 1.0 and not is_minus_zero(x)"),
-    ("1", "8 channels are refused", "1 <= channels <= 8", "1 <= channels < 8"),
+    ("1", "9 channels are refused", "1 <= channels <= 32", "1 <= channels <= 8"),
+    ("1", "32 channels are refused", "1 <= channels <= 32", "1 <= channels < 32"),
+    ("1", "33 channels are taken", "1 <= channels <= 32", "1 <= channels <= 33"),
     ("1", "capacity 256 is refused", "2 <= capacity <= 256", "2 <= capacity < 256"),
     ("2", "minus zero is a coordinate", "abs(x) <= EDGE and not is_minus_zero(x)", "abs(x) <= EDGE"),
     ("2", "1,048,576 is no coordinate", "abs(x) <= EDGE", "abs(x) < EDGE"),
@@ -104,7 +110,13 @@ MISREADINGS = [
     ("15", "depths grow from the leaf up", "len(walk) - 1 - height", "height"),
     ("15", "12 before 6 and 7", *swapped(QUERY, EMPTY)),
     ("15", "a leaf is never equal to the query", "return 0.0 if node.low == query else 1.0", "return 1.0"),
-    ("15", "only what lies above counts", "max(a - x, 0.0) + max(x - b, 0.0)", "max(x - b, 0.0)"),
+    ("15", "only what lies above counts", "narrowed(above + below)", "above"),
+    ("15", "distances are added up in f64", "total = narrowed(total + distance)", "total += distance", "narrowed(above + below)", "above + below"),
+    ("15", "the sum of distances is rounded once", "total = narrowed(total + distance)", "total += distance"),
+    ("15", "the two sums are added in f64", "narrowed(above + below)", "above + below"),
+    ("15", "below and above in one chain", ONE_SUM, IN_ONE_CHAIN),
+    ("15", "from the last channel on", "for distance in distances:", "for distance in distances[::-1]:"),
+    ("15", "below first, then above on top of it", ONE_SUM, BELOW_ON_TOP),
     ("15", "S / W", "outside / (sides + outside)", "outside / sides"),
     ("15", "1 - W / (W + S)", "outside / (sides + outside)", "1.0 - sides / (sides + outside)"),
 ]

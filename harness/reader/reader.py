@@ -7,8 +7,8 @@ import sys
 
 from run import carry_out
 
-RUNS = 802
-CALLS = 87723
+RUNS = 1038
+CALLS = 111660
 LENT = 16384
 SHOWN = 20
 

@@ -124,7 +124,7 @@ class Tree:
     """[1, 4] The readings, the tree, and its nodes by their numbers and indices."""
 
     def __init__(self, channels, capacity, cached):
-        refuse(1, not 1 <= channels <= 8)
+        refuse(1, not 1 <= channels <= 32)
         refuse(2, not 2 <= capacity <= 256)
         refuse(3, not is_share(cached))
         self.channels, self.capacity = channels, capacity
@@ -257,10 +257,20 @@ class Tree:
         ]
 
 
+def added(distances):
+    """[15] added up in f32, from 0 in channel order"""
+    total = 0.0
+    for distance in distances:
+        total = narrowed(total + distance)
+    return total
+
+
 def probability(node, query):
     if isinstance(node, Leaf):
         return 0.0 if node.low == query else 1.0
-    outside = sum(max(a - x, 0.0) + max(x - b, 0.0) for a, x, b in zip(node.low, query, node.high))
+    below = added([max(a - x, 0.0) for a, x in zip(node.low, query)])
+    above = added([max(x - b, 0.0) for x, b in zip(query, node.high)])
+    outside = narrowed(above + below)
     sides = sum(b - a for a, b in zip(node.low, node.high))
     return 0.0 if outside == 0 else outside / (sides + outside)
 

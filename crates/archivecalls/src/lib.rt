@@ -64,13 +64,13 @@ fn tell_refused(number: usize, reply: &mut Reply)
 }
 
 // The report of the first n coordinates.
-fn report_first(
+fn report_first<'a>(
     tree: RCFTree,
     nodes: &Nodes,
     cuts: &Cuts,
     copies: &Copies,
-    points: &Points,
-    boxes: &Boxes,
+    points: &'a Points,
+    boxes: &'a Boxes,
     coordinates: &Coordinates,
     n: usize,
     rows: &mut Rows,
@@ -84,13 +84,13 @@ fn report_first(
 }
 
 // The report of a row whose coordinates start at a place: those that a report looks at.
-fn report_row(
+fn report_row<'a>(
     tree: RCFTree,
     nodes: &Nodes,
     cuts: &Cuts,
     copies: &Copies,
-    points: &Points,
-    boxes: &Boxes,
+    points: &'a Points,
+    boxes: &'a Boxes,
     line: &[u8],
     start: usize,
     rows: &mut Rows,

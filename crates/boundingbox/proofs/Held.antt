@@ -18,9 +18,9 @@ use Rattle.boundingbox.specs.Contained.{stays, contains, inside, strictl
 use Rattle.boundingbox.specs.Wholes.{Box}
 use Rattle.boundingbox.proofs.Joined.{joined-length, joined-channel}
 use Rattle.boundingbox.proofs.Every.{every-at, every-from}
-use Rattle.boundingbox.proofs.Order.{Places, lt-asym, least-new, greatest-new, greatest-stays, least-stays}
+use Rattle.boundingbox.proofs.Order.{Places, least-new, greatest-new, greatest-stays, least-stays}
 use Rattle.boundingbox.proofs.Sums.{total-same}
-use Rattle.boundingbox.proofs.Growth.{grown, same-sum}
+use Rattle.boundingbox.proofs.Growth.{same-sum}
 
 stays-is : (lo hi a b : Float) → lt a lo ≡ false → lt hi b ≡ false → T (stays lo hi a b)
 unfolding stays
@@ -38,10 +38,6 @@ module _ (lo hi p : List Float) (n : ℕ) (t : T (strictlyContains lo hi p n)) w
       let u = lt (channel p i) (channel hi i) in
       let w = every-at _ n t i h in
       (is-true l (and-l l u w), is-true u (and-r l u w))
-
-  -- strictly inside is inside
-  pub strictly-contains : T (contains lo hi p p n)
-  strictly-contains = every-from _ n (λ i h. let w = strictly-between i h in stays-is (channel lo i) (channel hi i) (channel p i) (channel p i) (lt-asym _ _ (w .0)) (lt-asym _ _ (w .1)))
 
 module _ (lo hi a b : List Float) (n : ℕ) (L : n ≤ length lo) (H : n ≤ length hi) where
   pub low-is : (i : ℕ) → i < n → channel (joined least lo a) i ≡ least (channel lo i) (channel a i)
@@ -61,16 +57,6 @@ module _ (lo hi a b : List Float) (n : ℕ) (L : n ≤ length lo) (H : n ≤ len
   unchanged-contains e f = subst (λ (x : List Float). T (contains x hi a b n)) e (subst (λ (y : List Float). T (contains (joined least lo a) y a b n)) f holds-new)
 
   module _ (B : Box (channel lo) (channel hi) n) (A : (i : ℕ) → i < n → T (isCoordinate (channel a i))) (C : (i : ℕ) → i < n → T (isCoordinate (channel b i))) where
-    pub grown-box : Box (channel (joined least lo a)) (channel (joined greatest hi b)) n
-    grown-box =
-        let G = grown (channel lo) (channel hi) (channel a) (channel b) n B A C in
-        record {
-          few = G .few;
-          lower = λ i h. rw (low-is i h) (G .lower i h);
-          upper = λ i h. rw (high-is i h) (G .upper i h);
-          ordered = λ i h. rw (low-is i h, high-is i h) (G .ordered i h);
-        }
-
     -- the Rust's answer, `old_sum == self.range_sum`
     pub same-range : contains lo hi a b n ≡ eq (rangeSum lo hi n) (rangeSum (joined least lo a) (joined greatest hi b) n)
     same-range =

@@ -3,6 +3,7 @@ pub mod Every
 pub mod Order
 pub mod Coordinates
 pub mod Sums
+pub mod Counts
 pub mod Growth
 pub mod Held
 pub mod Around

@@ -66,15 +66,7 @@ module _ (x y : Float) where
   pub greatest-one : (greatest x y ≡ x) ⊎ (greatest x y ≡ y)
   greatest-one = greatest-keeps (λ z. (z ≡ x) ⊎ (z ≡ y)) x y (inl refl) (inr refl)
 
-  -- neither is below the lesser, nor is the greater below either
-  pub least-old : lt x (least x y) ≡ false
-  unfolding least
-  least-old = go (lt x y) refl
-    where
-      go : (b : Bool) → lt x y ≡ b → lt x (cond b x y) ≡ false
-      go true h = lt-self x
-      go false h = h
-
+  -- y is not below the lesser, nor is the greater below y
   pub least-new : lt y (least x y) ≡ false
   unfolding least
   least-new = go (lt x y) refl
@@ -82,14 +74,6 @@ module _ (x y : Float) where
       go : (b : Bool) → lt x y ≡ b → lt y (cond b x y) ≡ false
       go true h = lt-asym x y h
       go false h = lt-self y
-
-  pub greatest-old : lt (greatest x y) x ≡ false
-  unfolding greatest
-  greatest-old = go (lt x y) refl
-    where
-      go : (b : Bool) → lt x y ≡ b → lt (cond b y x) x ≡ false
-      go true h = lt-asym x y h
-      go false h = lt-self x
 
   pub greatest-new : lt (greatest x y) y ≡ false
   unfolding greatest

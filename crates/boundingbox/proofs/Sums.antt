@@ -3,7 +3,7 @@ use mathlib.Core.Path.{_≡_, refl, sym, ap, _∙_, subst}
 use mathlib.Core.Logic.{⊎-elim}
 use mathlib.Core.Bool.{Bool, true, false, cond, true≢false, and-true}
 use Prim.Native.Nat.{ℕ, zero, suc, _+_, _-_, _*_, _^_, _≤_, _<_, zero-le}
-use native.Mathlib.Nat.{le-trans, le-suc, le-refl, le-of-lt, le-of-suc-le-suc, not-suc-le-zero, eq-or-lt-of-le, mul-pos, mul-one, eq-of-mul-eq-mul-right}
+use native.Mathlib.Nat.{le-trans, le-suc, le-refl, le-antisymm, add-zero, le-of-lt, le-of-suc-le-suc, not-suc-le-zero, eq-or-lt-of-le, mul-pos, mul-one, eq-of-mul-eq-mul-right}
 use native.Mathlib.Numerals.{add-one}
 use native.Mathlib.Omega.{arith}
 use lib.IntN.{pos}
@@ -25,6 +25,21 @@ pub sumTo-next : (g : ℕ → ℕ) (i : ℕ) → sumTo g (i + 1) ≡ sumTo g i +
 unfolding sumTo
 sumTo-next g i = rw add-one
 
+-- a turn of a sum that starts at a channel: by so much the sum of all before has grown
+pub sum-turn : (g : ℕ → ℕ) (at i sum x : ℕ) → sumTo g at + sum ≡ sumTo g (at + i) → x ≡ g (at + i) → sumTo g at + (sum + x) ≡ sumTo g (at + (i + 1))
+sum-turn g at i sum x e f = omega (arith, sumTo-next g (at + i), ap (sumTo g) next)
+  where
+    next : at + (i + 1) ≡ at + i + 1
+    next = omega arith
+
+-- sums of four, added up
+module _ (g : ℕ → ℕ) where
+  pub sum-eight : (a b : ℕ) → sumTo g 0 + a ≡ sumTo g 4 → sumTo g 4 + b ≡ sumTo g 8 → a + b ≡ sumTo g 8
+  sum-eight a b e f = let z : sumTo g 0 ≡ 0 = unfold sumTo in refl in omega arith
+
+  pub sum-on : (at x a b : ℕ) → x ≡ sumTo g at → sumTo g at + a ≡ sumTo g (at + 4) → sumTo g (at + 4) + b ≡ sumTo g (at + 8) → x + a + b ≡ sumTo g (at + 8)
+  sum-on at x a b d e f = omega arith
+
 -- a side above zero makes the sum so
 pub sum-pos : (g : ℕ → ℕ) (n i : ℕ) → i < n → 0 < g i → 0 < sumTo g n
 unfolding sumTo
@@ -38,6 +53,15 @@ sum-pos g (suc n) i h p =
 
     left : (a b : ℕ) → 0 < a → 0 < a + b
     left a b h = omega arith
+
+-- channels of zero add nothing
+pub sum-padded : (g : ℕ → ℕ) (d n : ℕ) → d ≤ n → ((i : ℕ) → d ≤ i → i < n → g i ≡ 0) → sumTo g n ≡ sumTo g d
+unfolding sumTo
+sum-padded g d zero h z = ap (sumTo g) (le-antisymm zero-le h)
+sum-padded g d (suc n) h z =
+    ⊎-elim (λ (e : d ≡ suc n). ap (sumTo g) (sym e))
+    (λ (l : d < suc n). rw (sum-padded g d n (le-of-suc-le-suc l) (λ i a b. z i a (le-trans b (le-suc n))), z n (le-of-suc-le-suc l) (le-refl (suc n)), add-zero))
+    (eq-or-lt-of-le h)
 
 -- what is added up channel by channel tells the float sum
 pub total-same : (g k : ℕ → Float) (n : ℕ) → ((i : ℕ) → i < n → g i ≡ k i) → total g n ≡ total k n

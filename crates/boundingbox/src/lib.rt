@@ -2,12 +2,15 @@
 use limits::CHANNELS;
 use limits::Row;
 ghost use mathlib.Core.Path.{_≡_};
-ghost use mathlib.Core.Bool.{_&&_, _||_};
-ghost use Prim.Native.Nat.{min};
+ghost use mathlib.Core.Bool.{_&&_, _||_, cond};
+ghost use Prim.Native.Nat.{_+_, _-_, _≤_, min};
+ghost use lib.Dec.{T};
+ghost use Rattle.readings.specs.Coordinate.{isCoordinate, rank};
 ghost use Rattle.limits.specs.Limits.{width};
 ghost use Rattle.boundingbox.specs.Ends.{least, greatest, joined};
 ghost use Rattle.boundingbox.specs.Sides.{gapOf, rangeSum};
-ghost use Rattle.boundingbox.specs.Contained.{stays, contains, inside, strictlyContains};
+ghost use Rattle.boundingbox.specs.Contained.{stays, contains, inside, strictlyContains, insideTo};
+ghost use Rattle.boundingbox.specs.Padding.{Padded};
 
 // A box: its lower and its upper end in each channel. Channels from the tree's number on hold +0.0.
 pub struct BoundingBox {
@@ -206,4 +209,62 @@ fn and_inside(held: bool, padding: bool, lo: f32, hi: f32, p: f32) -> bool
     ensures { λ r. ⌜ r ≡ (held && (padding || inside lo hi p)) ⌝ }
 {
     held & (padding | ((lo < p) & (p < hi)))
+}
+
+// The same as `strictly_contains`, of lent rows, told by a count: a sum of integers over many channels is compiled to few instructions, a test of each is not.
+// Rules out a point on a face taken for inside, and the channels of all rows counted for those of the tree.
+pub fn strictly_holds(low: &Row, high: &Row, point: &Row, dimensions: usize) -> bool
+    requires padded { ⌜ (dimensions ≤ width) × (Padded (now low) dimensions width) × (Padded (now point) dimensions width) ⌝ }
+    ensures { λ r. ⌜ r ≡ strictlyContains (now (low .entry)) (now (high .entry)) (now (point .entry)) (min dimensions width) ⌝ }
+{
+    inside_count(low, high, point, dimensions) as usize == dimensions
+}
+
+// In how many channels the point lies strictly inside. A tree of few channels is told by the first, as in padding no point does.
+fn inside_count(low: &Row, high: &Row, point: &Row, dimensions: usize) -> u32
+    requires padded { ⌜ (dimensions ≤ width) × (Padded (now low) dimensions width) × (Padded (now point) dimensions width) ⌝ }
+    ensures { λ r. ⌜ r ≡ insideTo (now (low .entry)) (now (high .entry)) (now (point .entry)) dimensions ⌝ }
+{
+    let eight = inside_four(low, high, point, 0) + inside_four(low, high, point, 4);
+    if dimensions <= 8 {
+        return eight;
+    }
+    let sixteen = eight + inside_four(low, high, point, 8) + inside_four(low, high, point, 12);
+    if dimensions <= 16 {
+        return sixteen;
+    }
+    let most = sixteen + inside_four(low, high, point, 16) + inside_four(low, high, point, 20);
+    most + inside_four(low, high, point, 24) + inside_four(low, high, point, 28)
+}
+
+// By how many the count grows in four channels.
+fn inside_four(low: &Row, high: &Row, point: &Row, at: usize) -> u32
+    requires { ⌜ at + 4 ≤ width ⌝ }
+    ensures few { λ r. ⌜ r ≤ 4 ⌝ }
+    ensures grows { λ r. ⌜ insideTo (now (low .entry)) (now (high .entry)) (now (point .entry)) at + r ≡ insideTo (now (low .entry)) (now (high .entry)) (now (point .entry)) (at + 4) ⌝ }
+{
+    let mut sum: u32 = 0;
+    let mut i: usize = 0;
+    while i < 4 {
+        sum = sum + inside_one(low[at + i], high[at + i], point[at + i]);
+        i += 1;
+    }
+    sum
+}
+
+// 1 where p lies above lo and below hi, else 0.
+fn inside_one(lo: f32, hi: f32, p: f32) -> u32
+    ensures few { λ r. ⌜ r ≤ 1 ⌝ }
+    ensures told { λ r. ⌜ r ≡ cond (inside lo hi p) 1 0 ⌝ }
+{
+    if (lo < p) & (p < hi) { 1 } else { 0 }
+}
+
+// The side between two coordinates as an integer. The cast to i32 is one instruction for four floats, that to u32 is not.
+// Rules out the difference the other way round, and one taken of the ends' bits.
+pub fn whole_side(a: f32, b: f32) -> u32
+    requires { ⌜ (T (isCoordinate a)) × (T (isCoordinate b)) × (rank a ≤ rank b) ⌝ }
+    ensures { λ r. ⌜ r ≡ rank b - rank a ⌝ }
+{
+    ((b - a) as i32) as u32
 }

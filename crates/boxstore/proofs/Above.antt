@@ -1,15 +1,19 @@
 -- The nodes of a walk: the cached box of one is its own, and the box of the next one up is that of the node below it grown by the sibling's. Assumes nothing.
 use mathlib.Core.Path.{_≡_, sym, ap, _∙_, subst}
+use mathlib.Core.Bool.{Bool}
 use mathlib.Core.List.{List, []}
 use Prim.Native.Nat.{ℕ, suc, _+_, _-_, _≤_, _<_}
 use native.Mathlib.Numerals.{add-one}
 use native.Mathlib.Omega.{arith}
 use lib.ListN.{getD, take}
 use lib.Ieee.{Float}
+use Rattle.limits.specs.Limits.{width}
 use Rattle.boundingbox.specs.declared.BoundingBox.{BoundingBox}
-use Rattle.cuttree.specs.Tree.{Tree, leaf, branch, id, height}
+use Rattle.cuttree.specs.Tree.{Tree, leaf, branch, id, height, end}
 use Rattle.cuttree.specs.Walk.{sub, sibling}
-use Rattle.cuttree.proofs.Heights.{height-sub}
+use Rattle.cuttree.proofs.Orders.{End, end-same, end-assoc}
+use Rattle.cuttree.proofs.Heights.{height-sub, end-up}
+use Rattle.readings.specs.Number.{Number}
 use Rattle.wholetree.specs.Reading.{Reading}
 use Rattle.wholetree.specs.Whole.{whole}
 use Rattle.layout.specs.Stands.{InRange, trail}
@@ -19,6 +23,7 @@ use Rattle.boxstore.specs.Boxed.{Boxed, SomeBoxed}
 use Rattle.boxstore.specs.Written.{lowIn, highIn}
 use Rattle.boxstore.specs.Grown.{GrownBy}
 use Rattle.boxstore.specs.Above.{At, Rising}
+use Rattle.boxstore.proofs.Ends.{tab-same, least-end, most-end}
 use Rattle.boxstore.proofs.Parts.{at-cached}
 use Rattle.boxstore.proofs.Standing.{boxed-in}
 use Rattle.boxstore.proofs.Siblings.{sibling-is, some-sibling, grow-up}
@@ -61,5 +66,15 @@ module _ {c k : ℕ} {nodes : List (List ℕ)} {points : List (List Float)} {box
     pub node-low : node + 1 < c
     node-low = above-leaf p (R .boxed) (suc m) within node is-node (omega arith)
 
-    pub own-box : node < k → (r : BoundingBox) → r .«min_values» ≡ lowIn boxes node → r .«max_values» ≡ highIn boxes node → At d c p t (m + 1) r
-    own-box f r x y = rw (add-one m) (cached-box p (R .boxed) (suc m) within node is-node (omega (arith, node-low)) f r x y)
+    -- the box below, grown by the node's own, is that: it holds the box below
+    pub own-grows : (r : BoundingBox) → GrownBy c k node nodes points boxes b r → At d c p t (m + 1) r
+    own-grows r g =
+        let x = g d (sub (whole d) t (suc m) p) _ _ (sym is-node) (boxed-in d c (in-sub d c (suc m) p t within) (R .boxed)) (R .box-is .low) (R .box-is .high) in
+        rw (add-one m) (record { low = x .0 ∙ tab-same width _ _ (λ i _. ap (λ n. n .value) (held (least-end d) i)); high = x .1 ∙ tab-same width _ _ (λ i _. ap (λ n. n .value) (held (most-end d) i)) })
+      where
+        held : {f : Number → Number → Number} {to : Number → Number → Bool} (E : End (whole d) f to) (i : ℕ) → f (end (whole d) f (sub (whole d) t m p) i) (end (whole d) f (sub (whole d) t (suc m) p) i) ≡ end (whole d) f (sub (whole d) t (suc m) p) i
+        held {f} E i =
+            let a = end (whole d) f (sub (whole d) t m p) i in
+            let s = end (whole d) f (sibling (whole d) t m p) i in
+            let u = end-up (whole d) E i m p t within in
+            ap (f a) u ∙ sym (end-assoc (whole d) E a a s) ∙ ap (λ x. f x s) (end-same (whole d) E a) ∙ sym u

@@ -3,7 +3,7 @@ use mathlib.Core.Path.{_≡_, refl, sym, ap, _∙_, subst}
 use mathlib.Core.Bool.{Bool, true, cond}
 use mathlib.Core.Option.{some}
 use mathlib.Core.List.{List, []}
-use Prim.Native.Nat.{ℕ, zero, suc, _+_, _-_, _≤_, _<_}
+use Prim.Native.Nat.{ℕ, suc, _-_, _≤_, _<_}
 use native.Mathlib.Omega.{arith}
 use lib.Dec.{eqb, ltb}
 use lib.ListN.{length, getD}
@@ -13,12 +13,12 @@ use Rattle.limits.specs.Limits.{width, branchLimit}
 use Rattle.boundingbox.specs.Ends.{channel, joined, least as leastFloat, greatest as greatestFloat}
 use Rattle.cuttree.specs.Setting.{below}
 use Rattle.cuttree.specs.Tree.{Tree, branch, height, end, lo, hi, least, most}
-use Rattle.cuttree.specs.Walk.{sub, sibling, replace}
+use Rattle.cuttree.specs.Walk.{sub, replace}
 use Rattle.cuttree.proofs.Tests.{by-test, cond-true}
 use Rattle.cuttree.proofs.Steps.{toward, rejoin, along}
-use Rattle.cuttree.proofs.Orders.{End, end-swap}
+use Rattle.cuttree.proofs.Orders.{End}
 use Rattle.cuttree.proofs.Boxes.{end-rejoin}
-use Rattle.cuttree.proofs.Heights.{sub-top, replace-top, sub-down, replace-down, by-height, end-up}
+use Rattle.cuttree.proofs.Heights.{sub-top, replace-top, sub-down, replace-down, by-height}
 use Rattle.readings.specs.Number.{Number}
 use Rattle.wholetree.specs.Reading.{Reading, coordinate}
 use Rattle.wholetree.specs.Whole.{whole, tab, ends}
@@ -106,13 +106,13 @@ module _ (d c : ℕ) (p : Reading) where
           i : ℕ
           i = at d c t p (suc n)
 
-      -- the end: the boxes above are the same in both trees
+      -- the end: the cached boxes above are the same in both trees
       pub partly-stop : (boxes : List (List (List Float))) (n : ℕ) → h ≤ n → n ≤ height (whole d) t p → Partly d c k t after p boxes n
-          → ((m : ℕ) → n < m → m ≤ height (whole d) t p → boxEnds d c (sub (whole d) t m p) ≡ boxEnds d c (with-it m)) → boxes ≡ tab branchLimit (boxIn d c k (some after))
+          → ((m : ℕ) → n < m → m ≤ height (whole d) t p → ltb (at d c t p m) k ≡ true → boxEnds d c (sub (whole d) t m p) ≡ boxEnds d c (with-it m)) → boxes ≡ tab branchLimit (boxIn d c k (some after))
       partly-stop boxes n a l P same =
           partly-all d c k t after p o boxes (height (whole d) t p) (omega arith)
           (partly-rest d c k t after p o boxes (height (whole d) t p - n) n (omega arith) P
-          (λ m b e. old-at m (omega arith) e ∙ ap (λ x. cond (ltb (at d c t p m) k) x noBoxEnds) (same m b e) ∙ sym (new-at m (omega arith) e)))
+          (λ m b e. old-at m (omega arith) e ∙ by-test (ltb (at d c t p m) k) (λ x. rw x (same m b e x)) (λ x. rw x) ∙ sym (new-at m (omega arith) e)))
 
   -- ---- the ends, lower or upper
   module _ {m : Number → Number → Number} {to : Number → Number → Bool} (E : End (whole d) m to) where
@@ -132,12 +132,6 @@ module _ (d c : ℕ) (p : Reading) where
     -- ---- a box that holds the point
     abbrev pub Still : Tree (whole d) → Type 0
     Still t = (i : ℕ) → i < width → m (end (whole d) m t i) (coordinate p i) ≡ end (whole d) m t i
-
-    pub still-up : (t : Tree (whole d)) (e n : ℕ) → e + n ≤ height (whole d) t p → Still (sub (whole d) t n p) → Still (sub (whole d) t (e + n) p)
-    still-up t zero n h S = let z : 0 + n ≡ n = omega arith in rw z S
-    still-up t (suc e) n h S = let z : suc e + n ≡ suc (e + n) = omega arith in rw z (λ i l.
-        let w = end-up (whole d) E i (e + n) p t (omega arith) in
-        rw w (end-swap (whole d) E _ _ _ ∙ ap (λ x. m x (end (whole d) m (sibling (whole d) t (e + n) p) i)) (still-up t e n (omega arith) S i l)))
 
     module _ (j : Float → Float → Float) (J : (f g : ℕ → Number) → joined j (ends f) (ends g) ≡ ends (λ (i : ℕ). m (f i) (g i))) where
       joined-row : (t : Tree (whole d)) → joined j (endsOf t) (p .row) ≡ ends (λ (i : ℕ). m (end (whole d) m t i) (coordinate p i))

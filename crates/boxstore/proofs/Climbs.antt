@@ -1,14 +1,12 @@
 -- Growing the boxes above a new branch row by row, as a loop over the path does it. Assumes nothing.
-use mathlib.Core.Path.{_≡_, sym, ap, _∙_, subst}
-use mathlib.Core.Bool.{Bool, true, _&&_}
+use mathlib.Core.Path.{_≡_, sym, ap, subst}
+use mathlib.Core.Bool.{true}
 use mathlib.Core.List.{List, []}
 use Prim.Native.Nat.{ℕ, suc, _-_, _≤_, _<_}
 use native.Mathlib.Omega.{arith}
-use lib.Dec.{T, ltb}
+use lib.Dec.{T}
 use lib.ListN.{getD}
 use lib.Ieee.{Float}
-use lib.Ieee.Fits.{and-l, and-r}
-use lib.Ieee.Bits.{is-true}
 use Rattle.limits.specs.Limits.{width, branchLimit}
 use Rattle.readings.proofs.Tests.{yes}
 use Rattle.readings.proofs.Keys.{key, lt-key, le-key}
@@ -18,20 +16,20 @@ use Rattle.boundingbox.proofs.Order.{Places}
 use Rattle.boundingbox.proofs.Held.{contains-unchanged}
 use Rattle.cuttree.specs.Setting.{Cut}
 use Rattle.cuttree.specs.Tree.{Tree, height, lo}
-use Rattle.cuttree.specs.Walk.{sub, graft}
+use Rattle.cuttree.specs.Walk.{graft}
 use Rattle.readings.specs.Number.{isNumber, Number}
 use Rattle.wholetree.specs.Reading.{Reading, coordinate}
 use Rattle.wholetree.specs.Whole.{whole}
 use Rattle.readings.proofs.Ordered.{number-num, same-key}
 use Rattle.wholetree.proofs.Readings.{tab-length, tab-at, coordinate-is}
-use Rattle.layout.specs.Slots.{lowOf, highOf, boxEnds}
+use Rattle.layout.specs.Slots.{lowOf, highOf}
 use Rattle.layout.proofs.Trails.{path-node}
 use Rattle.boxstore.specs.Written.{lowIn, highIn, boxWith, written}
-use Rattle.boxstore.specs.Edited.{Walked, Grafted, GrownAbove}
+use Rattle.boxstore.specs.Edited.{Walked, Grafted}
 use Rattle.boxstore.proofs.Ends.{least-end, most-end, least-ends, most-ends}
-use Rattle.boxstore.proofs.Partly.{at, Partly, partly-all}
-use Rattle.boxstore.proofs.Changes.{old-box, Still, still-is}
-use Rattle.boxstore.proofs.Grafts.{graft-start, graft-turn, graft-stop}
+use Rattle.boxstore.proofs.Partly.{at, Partly}
+use Rattle.boxstore.proofs.Changes.{Still, still-is}
+use Rattle.boxstore.proofs.Grafts.{graft-start, graft-turn}
 
 -- ---- a box that holds a point is not changed by it
 by-number : Places (λ x. T (isNumber x)) key
@@ -41,7 +39,7 @@ one-number : (x y : Float) → T (isNumber x) → T (isNumber y) → key x ≡ k
 one-number x y p q e = ap (λ (a : Number). a .value) (same-key (record { value = x; is-number = p }) (record { value = y; is-number = q }) e)
 
 module _ (d c : ℕ) (p : Reading) (u : Tree (whole d)) where
-  held-still : contains (lowOf d c u) (highOf d c u) (p .row) (p .row) width ≡ true → Still d c p (least-end d) u × Still d c p (most-end d) u
+  pub held-still : contains (lowOf d c u) (highOf d c u) (p .row) (p .row) width ≡ true → Still d c p (least-end d) u × Still d c p (most-end d) u
   held-still e =
       let w = contains-unchanged (λ x. T (isNumber x)) key by-number one-number (lowOf d c u) (highOf d c u) (p .row) (p .row) width (tab-length width _) (tab-length width _)
       (λ i h. subst (λ x. T (isNumber x)) (sym (tab-at width _ i _ h)) (lo (whole d) u i .is-number))
@@ -71,19 +69,3 @@ module _ (k n : ℕ) (path : List (List ℕ)) (point : List Float) (boxes : List
         let z : height (whole d) t p - (r - 1) ≡ suc (height (whole d) t p - r) = omega (arith, G .above-it) in
         rw (grown, is, index-is path point (r - 1) d c t p W (omega (arith, G .above-it)), z, W .row)
         (graft-turn d c t p (W .once) b i h cut (omega (arith, G .above-it)) (G .fresh) k few B (height (whole d) t p - r) (omega (arith, G .above-it)) (omega (arith, G .above-it)) (C d c t p b i h cut W G))
-
-    pub climb-stop : (answer : Bool) → answer ≡ (ltb index k && contains (lowIn B index) (highIn B index) point point width) → answer ≡ true → GrownAbove k n path point boxes B′
-    climb-stop answer says stopped d c t p b i h cut W G =
-        let g = height (whole d) t p - (r - 1) in
-        let l : g ≤ height (whole d) t p = omega arith in
-        let j : index ≡ at d c t p g = is ∙ index-is path point (r - 1) d c t p W (omega (arith, G .above-it)) in
-        let test = ltb index k in
-        let in-box = contains (lowIn B index) (highIn B index) point point width in
-        let held : (test && in-box) ≡ true = sym says ∙ stopped in
-        let cached : ltb (at d c t p g) k ≡ true = subst (λ x. ltb x k ≡ true) j (is-true test (and-l test in-box (yes held))) in
-        let box : getD B index [] ≡ boxEnds d c (sub (whole d) t g p) = ap (λ y. getD B y []) j ∙ old-box d c p k t (W .once) few B (height (whole d) t p - r) (C d c t p b i h cut W G) g (omega (arith, G .above-it)) l cached in
-        graft-stop d c t p (W .once) b i h cut (omega (arith, G .above-it)) (G .fresh) k few B′ g (omega (arith, G .above-it)) l (climb-turn d c t p b i h cut W G)
-        (held-still d c p (sub (whole d) t g p) (rw (box, W .row) at (is-true in-box (and-r test in-box (yes held)))))
-
-  pub climb-end : (B : List (List (List Float))) (r : ℕ) → r ≡ 0 → Climbed B r → GrownAbove k n path point boxes B
-  climb-end B r z C d c t p b i h cut W G = partly-all d c k t (graft (whole d) b i p (h, cut) t) p (W .once) B (height (whole d) t p - r) (omega arith) (C d c t p b i h cut W G)

@@ -54,7 +54,7 @@ module _ (d c k : ℕ) (t : Tree (whole d)) (p : Reading) (o : Once d c t) where
     copied-boxes : boxesOf d c k (replace (whole d) t 0 p copied) ≡ boxesOf d c k t
     copied-boxes =
         sym (partly-stop d c p k t o 0 copied copied-once (boxesOf d c k t) 0 (omega arith) (omega arith) start
-        (λ g a l. box-by d c (sub (whole d) t g p) (replace (whole d) (sub (whole d) t g p) 0 p copied) (same (least-end d) g l) (same (most-end d) g l)))
+        (λ g a l _. box-by d c (sub (whole d) t g p) (replace (whole d) (sub (whole d) t g p) 0 p copied) (same (least-end d) g l) (same (most-end d) g l)))
 
   pub copy-boxes : boxesOf d c k (addCopy (whole d) p t) ≡ boxesOf d c k t
   copy-boxes = rw (copy-replace (whole d) p t) (copied-boxes _)

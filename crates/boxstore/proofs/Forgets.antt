@@ -96,4 +96,4 @@ module _ (d c : ℕ) (t : Tree (whole d)) (p : Reading) (o : Once d c t) (e : 1 
   pub forget-stop : (k : ℕ) (boxes : List (List (List Float))) (n : ℕ) → 1 ≤ n → suc n ≤ height (whole d) t p → Partly d c k t after p boxes n → Same (least-end d) (suc n) × Same (most-end d) (suc n) → boxes ≡ tab branchLimit (boxIn d c k (some after))
   forget-stop k boxes n a l P S =
       partly-stop d c p k t o 1 rest forget-once boxes n a (omega arith) P
-      (λ g b q. box-by d c (sub (whole d) t g p) (without g) (λ i r. sym (same-up (least-end d) (suc n) g (omega arith) b q (S .0) i r)) (λ i r. sym (same-up (most-end d) (suc n) g (omega arith) b q (S .1) i r)))
+      (λ g b q _. box-by d c (sub (whole d) t g p) (without g) (λ i r. sym (same-up (least-end d) (suc n) g (omega arith) b q (S .0) i r)) (λ i r. sym (same-up (most-end d) (suc n) g (omega arith) b q (S .1) i r)))

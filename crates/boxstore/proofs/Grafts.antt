@@ -1,15 +1,15 @@
 -- The cached boxes through an add: the new branch's box, and each box above it grown by the point, are those of the tree after. Assumes nothing.
 use mathlib.Core.Path.{_≡_, refl, sym, ap, _∙_, subst}
-use mathlib.Core.Bool.{Bool}
+use mathlib.Core.Bool.{Bool, true}
 use mathlib.Core.Option.{some}
 use mathlib.Core.List.{List, []}
-use Prim.Native.Nat.{ℕ, suc, _+_, _-_, _≤_, _<_}
+use Prim.Native.Nat.{ℕ, suc, _+_, _≤_, _<_}
 use native.Mathlib.Omega.{arith}
-use lib.Dec.{eqb}
+use lib.Dec.{eqb, ltb}
 use lib.ListN.{getD}
 use lib.Ieee.{Float}
 use borrow.Author.Tests.{eqb-true, ne-eqb}
-use Rattle.limits.specs.Limits.{width, branchLimit}
+use Rattle.limits.specs.Limits.{branchLimit}
 use Rattle.cuttree.specs.Setting.{Cut, below}
 use Rattle.cuttree.specs.Tree.{Tree, id, is, height, end, above}
 use Rattle.cuttree.specs.Walk.{sub, replace}
@@ -23,7 +23,7 @@ use Rattle.cuttree.proofs.Nodes.{In, here, left, right}
 use Rattle.readings.specs.Number.{Number}
 use Rattle.wholetree.specs.Reading.{Reading, coordinate}
 use Rattle.wholetree.specs.Whole.{whole, tab}
-use Rattle.layout.specs.Slots.{uses, slot, lowOf, highOf, boxEnds}
+use Rattle.layout.specs.Slots.{uses, slot, boxEnds}
 use Rattle.layout.specs.Layout.{boxIn, noBoxEnds}
 use Rattle.layout.specs.Stands.{Once}
 use Rattle.layout.proofs.Slots.{slot-node}
@@ -31,12 +31,9 @@ use Rattle.layout.proofs.Replaced.{upper-uses, upper-at, none-above, in-sub, in
 use Rattle.boxstore.specs.Written.{lowIn, highIn, boxWith, written}
 use Rattle.boxstore.proofs.Ends.{box-by, least-end, most-end}
 use Rattle.boxstore.proofs.Partly.{at, Partly}
-use Rattle.boxstore.proofs.Changes.{replace-same, old-box, partly-start, partly-turn, partly-stop, end-replaced, Still, still-up, grown-box}
+use Rattle.boxstore.proofs.Changes.{replace-same, old-box, partly-start, partly-turn, partly-stop, end-replaced, Still, grown-box}
 
 -- ---- the new branch's box: that of the node below it, with the point in it
-pub box-above : (d c b i : ℕ) (cut : Cut (whole d)) (p : Reading) (u : Tree (whole d)) → boxWith (lowOf d c u) (highOf d c u) (p .row) ≡ boxEnds d c (above (whole d) b cut i p u)
-box-above d c b i cut p u = grown-box d c p u (above (whole d) b cut i p u) (end-above (whole d) (least-end d) b cut i p u) (end-above (whole d) (most-end d) b cut i p u)
-
 -- ---- the tree before, p's walk in it, and the new branch above the walk's node of height h
 module _ (d c : ℕ) (t : Tree (whole d)) (p : Reading) (o : Once d c t) (b i h : ℕ) (cut : Cut (whole d)) (e : h ≤ height (whole d) t p) (fresh : uses d c t b ≡ 0) where
   abbrev new : Tree (whole d)
@@ -98,16 +95,9 @@ module _ (d c : ℕ) (t : Tree (whole d)) (p : Reading) (o : Once d c t) (b i h 
         (λ x. ap (λ y. boxWith (getD y 0 []) (getD y 1 []) (p .row)) (old-box d c p k t o few boxes n P (suc n) (omega arith) l x)
         ∙ grown-box d c p (sub (whole d) t (suc n) p) (with-it (suc n)) (with-point (least-end d) (suc n) (omega arith) l) (with-point (most-end d) (suc n) (omega arith) l))
 
-    -- the end: where a box held the point, so do those above it
-    pub graft-stop : (boxes : List (List (List Float))) (n : ℕ) → h < n → n ≤ height (whole d) t p → Partly d c k t after p boxes n
-        → Still d c p (least-end d) (sub (whole d) t n p) × Still d c p (most-end d) (sub (whole d) t n p) → boxes ≡ tab branchLimit (boxIn d c k (some after))
-    graft-stop boxes n a l P S =
-        partly-stop d c p k t o h new graft-once boxes n (omega arith) l P
-        (λ g b q. box-by d c (sub (whole d) t g p) (with-it g) (λ ch r. still (least-end d) (S .0) g b q ch r) (λ ch r. still (most-end d) (S .1) g b q ch r))
-      where
-        still : {m : Number → Number → Number} {to : Number → Number → Bool} (E : End (whole d) m to) → Still d c p E (sub (whole d) t n p) → (g : ℕ) → n < g → g ≤ height (whole d) t p
-            → (ch : ℕ) → ch < width → end (whole d) m (sub (whole d) t g p) ch ≡ end (whole d) m (with-it g) ch
-        still E S g b q ch r =
-            let z : (g - n) + n ≡ g = omega arith in
-            let up : Still d c p E (sub (whole d) t g p) = subst (λ x. Still d c p E (sub (whole d) t x p)) z (still-up d c p E t (g - n) n (omega arith) S) in
-            sym (up ch r) ∙ sym (with-point E g (omega arith) q ch)
+    -- the end: the cached boxes above held the point
+    pub graft-held : (boxes : List (List (List Float))) (n : ℕ) → h ≤ n → n ≤ height (whole d) t p → Partly d c k t after p boxes n
+        → ((g : ℕ) → n < g → g ≤ height (whole d) t p → ltb (at d c t p g) k ≡ true → Still d c p (least-end d) (sub (whole d) t g p) × Still d c p (most-end d) (sub (whole d) t g p)) → boxes ≡ tab branchLimit (boxIn d c k (some after))
+    graft-held boxes n a l P S =
+        partly-stop d c p k t o h new graft-once boxes n a l P
+        (λ g b q x. let s = S g b q x in box-by d c (sub (whole d) t g p) (with-it g) (λ ch r. sym (s .0 ch r) ∙ sym (with-point (least-end d) g (omega arith) q ch)) (λ ch r. sym (s .1 ch r) ∙ sym (with-point (most-end d) g (omega arith) q ch)))

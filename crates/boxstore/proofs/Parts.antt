@@ -20,7 +20,7 @@ use Rattle.wholetree.specs.Whole.{whole}
 use Rattle.layout.specs.Slots.{lowOf, highOf, boxEnds}
 use Rattle.layout.specs.Stands.{Once}
 use Rattle.boxstore.specs.Boxed.{sideIn, Boxed, SomeBoxed}
-use Rattle.boxstore.specs.Grown.{lowWith, highWith, EndsGrownBy, GrownBy, SidesBox, BoxOf}
+use Rattle.boxstore.specs.Grown.{lowWith, highWith, EndsGrownBy, SidesBox, BoxOf}
 use Rattle.boxstore.proofs.Ends.{tab-same, both, least-end, most-end, least-ends, most-ends, row-ends}
 use Rattle.boxstore.proofs.Depths.{deep, depth, depth-few, deep-is}
 
@@ -129,9 +129,6 @@ module _ (c k node : ℕ) (nodes : List (List ℕ)) (points : List (List Float))
       let one = F d u f g (rw (← e) (sym (B .links .0))) bl p s in
       let two = G d v _ _ (rw (← e) (sym (B .links .1))) br (one .0) (one .1) in
       (two .0 ∙ low-sides d f u v a x, two .1 ∙ high-sides d g u v a x)
-
-  pub sides-given : (m r : BoundingBox) → BoxOf c k left nodes points boxes m → GrownBy c k right nodes points boxes m r → SidesBox c k node nodes points boxes r
-  sides-given m r F G d l u p q bl bu = let one = F d l p bl in G d u (lo (whole d) l) (hi (whole d) l) q bu (one .0) (one .1)
 
   pub sides-box : node < c → (r : BoundingBox) → SidesBox c k node nodes points boxes r → BoxOf c k node nodes points boxes r
   sides-box h r F d (leaf i q n) e B = absurd (omega arith)

@@ -176,13 +176,13 @@ pub fn delete(
 
 // The query of a kind and an id. It writes nothing but the reply.
 // Rules out the copies of a leaf answered where a branch is asked for, and numbers left in the reply from the call before.
-pub fn query(
+pub fn query<'a>(
     tree: RCFTree,
     nodes: &Nodes,
     cuts: &Cuts,
     copies: &Copies,
-    points: &Points,
-    boxes: &Boxes,
+    points: &'a Points,
+    boxes: &'a Boxes,
     kind: usize,
     id: usize,
     reply: &mut Reply,

@@ -1,79 +1,61 @@
--- The side that is cut, told by the running sums: before it stand as many channels as there are sums that don't reach the number. Assumes nothing.
+-- The side that is cut, told by sums of whole sides: before it stand as many channels as there are sums that lie below the bound, counted by fours and then in one. Assumes nothing.
 use mathlib.Core.Path.{_≡_, refl, sym, ap, _∙_, subst}
 use mathlib.Core.Logic.{_⊎_, inl, inr}
 use mathlib.Core.List.{List}
-use Prim.Native.Nat.{ℕ, _+_, _-_, _*_, _^_, _≤_, _<_, min}
-use native.Mathlib.Nat.{le-trans, le-refl, le-of-lt, lt-of-mul-lt-mul-right, zero-mul, one-mul}
+use mathlib.Core.Bool.{false, not}
+use Prim.Native.Nat.{ℕ, _+_, _-_, _*_, _/_, _^_, _≤_, _<_, min}
+use native.Mathlib.Nat.{zero-add, le-trans, le-refl, le-of-lt, le-of-eq, lt-irrefl, mul-le-mul-right}
 use native.Mathlib.Omega.{arith}
-use mathlib.Core.Bool.{Bool, false}
 use lib.IntN.{pos}
-use lib.Dec.{T, ltb, leb→le, ltb→lt, lt→ltb, nltb→le}
+use lib.Dec.{T, leb, ltb, eqb, leb→le, nleb→lt, eqb→eq}
 use lib.ListN.{getD}
-use lib.Pow.{pow-pos, pow-mono}
-use lib.Ieee.{Float, nan, binary64, round, sub, mul, lt, ofInt}
-use lib.Ieee.Positive.{num}
+use lib.Pow.{pow-mono}
+use lib.Ieee.{Float, binary64, round, sub, mul, ofInt}
+use lib.Ieee.Bits.{is-true}
+use lib.Ieee.Fits.{eq→eqb}
+use lib.Ieee.Exact.{HasValue}
+use lib.Ieee.Positive.{num, den}
 use borrow.Table.Steps.{cases as by-test}
+use Rattle.limits.specs.Limits.{width}
 use Rattle.readings.specs.Word.{factorOf}
-use Rattle.readings.proofs.Tests.{same-test, yes, no}
-use Rattle.readings.proofs.Values.{sum-minus, lt-value}
-use Rattle.boundingbox.specs.Contained.{contains}
-use Rattle.boundingbox.specs.Sides.{total}
+use Rattle.readings.proofs.Tests.{same-test, ltb-iff, eqb-iff, split}
+use Rattle.readings.proofs.Values.{sum-minus}
+use Rattle.boundingbox.specs.Ends.{channel}
+use Rattle.boundingbox.specs.Contained.{contains, countOf}
 use Rattle.boundingbox.specs.Wholes.{Box, side, sumTo}
-use Rattle.boundingbox.proofs.Sums.{sum-fits}
-use Rattle.cut.specs.declared.Separation.{Separation}
-use Rattle.cut.specs.declared.Side.the-variants.{At}
+use Rattle.boundingbox.proofs.Sums.{side-le, sum-fits}
+use Rattle.cut.specs.declared.Side.{Side}
+use Rattle.cut.specs.declared.Side.the-variants.{At, Nowhere}
 use Rattle.cut.specs.Paper.{restAt}
-use Rattle.cut.specs.Draw.{lowEnd, highEnd, sideOf, drawnAt, separation}
+use Rattle.cut.specs.Draw.{lowEnd, highEnd, sideOf, rangeOf, drawnAt, separation}
 use Rattle.cut.specs.Document.{numberDrawn, channelOf, restOf}
-use Rattle.cut.specs.Laws.{Readings}
-use Rattle.cut.specs.Sums.{one, atLeastOne, countBelow}
+use Rattle.cut.specs.Laws.{Readings, Padded}
+use Rattle.cut.specs.Sums.{sideCut, grown, sideIn, Sides, SmallSides, PaddedSides, Fours, fours, Bound, UnderIn}
 use Rattle.cut.proofs.First.{short-under, Found, before-found, short-before}
-use Rattle.cut.proofs.Range.{Range, whole-over, off-is}
+use Rattle.cut.proofs.Range.{off-is}
 use Rattle.cut.proofs.Going.{expo, den-is}
-use Rattle.cut.proofs.Number.{own}
-use Rattle.cut.proofs.Stretched.{stretched, sides-exact}
-use Rattle.cut.proofs.AsDocument.{some-side, product-is, separation-is}
-use Rattle.cut.proofs.Within.{channel-found, channel-below}
-use Rattle.cut.proofs.Sums.{count-is}
+use Rattle.cut.proofs.Number.{number-most, own}
+use Rattle.cut.proofs.Stretched.{stretched, out, sum-stretched}
+use Rattle.cut.proofs.AsDocument.{holds-is, outside-is, some-side, product-is, side-drawn}
+use Rattle.cut.proofs.Within.{channel-found, channel-below, channel-wide}
+use Rattle.cut.proofs.Padding.{padded-side}
+use Rattle.cut.proofs.Turns.{reached-below}
+use Rattle.cut.proofs.Sums.{fours-same, under-same, count-is, fours-few, fours-some, fours-all}
 
--- ---- one whole sum s, and the number q / 2 ^ k
-one-is : one ≡ ofInt binary64 (pos 1)
-unfolding ofInt
-one-is = refl
+-- ---- the side that is cut makes the cut
+module _ (lo hi p : List Float) (n w : ℕ) (R : Readings lo hi p n) (s : Side) (e : s ≡ sideCut lo hi p n w) where
+  pub cut-told : separation n lo hi p w ≡ drawnAt lo hi p s
+  unfolding separation sideCut drawnAt
+  cut-told = rw (e, outside-is lo hi p n R) (by-test (contains lo hi p p n) (λ t. rw t refl) (λ t. rw t refl))
 
-module _ (x : Float) (q k s : ℕ) (R : Range x q k) (L : s ≤ 2 ^ 53) where
-  one-tests : lt x one ≡ ltb q (1 * 2 ^ k)
-  one-tests = rw one-is (lt-value x (ofInt binary64 (pos 1)) q (1 * 2 ^ k) (2 ^ k) (pow-pos k) (R .value) (whole-over 1 k (pow-pos 53)))
-
-  -- the sum is 0 or lies below the number exactly where it lies below what `atLeastOne` makes of the number
-  below-is : (b : Bool) → ((s ≡ 0) ⊎ (s * 2 ^ k < q) → T b) → (T b → (s ≡ 0) ⊎ (s * 2 ^ k < q)) → lt (ofInt binary64 (pos s)) (atLeastOne x) ≡ b
-  unfolding atLeastOne
-  below-is b to from = rw one-tests (by-test (ltb q (1 * 2 ^ k)) (λ t. rw t (small (ltb→lt q (1 * 2 ^ k) (yes t)))) (λ t. rw t (large (nltb→le q (1 * 2 ^ k) (no t)))))
+  pub cut-below : (i : ℕ) (rest : Float) → s ≡ At i rest → i < n
+  unfolding sideCut
+  cut-below i rest f = by-test (contains lo hi p p n) (λ t. absurd (none (rw t at (sym e ∙ f)))) (λ t. subst (λ (m : ℕ). i < m) (zero-add n) (reached-below (sideOf lo hi p) n 0 (rangeOf lo hi p n w) i rest (rw t at (sym e ∙ f))))
     where
-      -- only 0 lies below 1
-      small : q < 1 * 2 ^ k → lt (ofInt binary64 (pos s)) one ≡ b
-      small h =
-          rw one-is
-          (lt-value (ofInt binary64 (pos s)) (ofInt binary64 (pos 1)) (s * 2 ^ k) (1 * 2 ^ k) (2 ^ k) (pow-pos k) (whole-over s k L) (whole-over 1 k (pow-pos 53))
-          ∙ same-test (ltb (s * 2 ^ k) (1 * 2 ^ k)) b (λ t. to (inl (none (lt-of-mul-lt-mul-right (2 ^ k) (ltb→lt (s * 2 ^ k) (1 * 2 ^ k) t))))) (λ t. lt→ltb (s * 2 ^ k) (1 * 2 ^ k) (below (from t))))
-        where
-          none : s < 1 → s ≡ 0
-          none h = omega arith
+      none : Nowhere ≡ At i rest → ⊥
+      none z = let y : _≡_ {A = ℕ} 0 1 = cc in omega arith
 
-          below : (s ≡ 0) ⊎ (s * 2 ^ k < q) → s * 2 ^ k < 1 * 2 ^ k
-          below (inl z) = rw (z, zero-mul (2 ^ k), one-mul (2 ^ k)) (pow-pos k)
-          below (inr l) = le-trans l (le-of-lt h)
-
-      large : 1 * 2 ^ k ≤ q → lt (ofInt binary64 (pos s)) x ≡ b
-      large h =
-          lt-value (ofInt binary64 (pos s)) x (s * 2 ^ k) q (2 ^ k) (pow-pos k) (whole-over s k L) (R .value)
-          ∙ same-test (ltb (s * 2 ^ k) q) b (λ t. to (inr (ltb→lt (s * 2 ^ k) q t))) (λ t. lt→ltb (s * 2 ^ k) q (below (from t)))
-        where
-          below : (s ≡ 0) ⊎ (s * 2 ^ k < q) → s * 2 ^ k < q
-          below (inl z) = rw (z, zero-mul (2 ^ k)) (le-trans (pow-pos k) (rw (one-mul (2 ^ k)) at h))
-          below (inr l) = l
-
--- ---- the sums of a box of coordinates
+-- ---- the sums of a box of coordinates, and a bound of the number drawn
 module _ (lo hi : ℕ → Float) (n : ℕ) (B : Box lo hi n) (w : ℕ) (W : w < 2 ^ 64) (P : 0 < sumTo (side lo hi) n) where
   abbrev g : ℕ → ℕ
   g = side lo hi
@@ -87,50 +69,149 @@ module _ (lo hi : ℕ → Float) (n : ℕ) (B : Box lo hi n) (w : ℕ) (W : w < 
   found-there : Found (side lo hi) (num (numberDrawn lo hi n w)) (2 ^ expo (numberDrawn lo hi n w)) n 0 (channelOf lo hi n w)
   found-there = subst (λ (c : ℕ). Found g (num N) c n 0 d) (den-is N) (channel-found lo hi n B w W P)
 
-  sum-le : (i : ℕ) → i ≤ n → sumTo (side lo hi) i ≤ 2 ^ 53
-  sum-le i h = le-trans (sum-fits lo hi n B i h) (pow-mono (leb→le 26 53 tt))
-
-  -- the sum with side i in it lies below the number exactly where i lies before the channel: as many do as stand before it
-  counted : (s : ℕ → Float) → ((i : ℕ) → i < n → s i ≡ ofInt binary64 (pos (sumTo (side lo hi) (i + 1)))) → countBelow s (atLeastOne (numberDrawn lo hi n w)) n ≡ channelOf lo hi n w
-  counted s e = count-is s (atLeastOne N) d n (λ i h. ap (λ (y : Float). lt y (atLeastOne N)) (e i h) ∙ test i (next i h)) ∙ least n d (channel-below lo hi n B w W P)
-    where
-      next : (i : ℕ) → i < n → i + 1 ≤ n
-      next i h = omega arith
-
-      least : (n d : ℕ) → d < n → min n d ≡ d
-      least n d h = omega arith
-
-      test : (i : ℕ) → i + 1 ≤ n → lt (ofInt binary64 (pos (sumTo g (i + 1)))) (atLeastOne N) ≡ ltb i d
-      test i h =
-          below-is N (num N) (expo N) (sumTo g (i + 1)) (own lo hi n B w W .0) (sum-le (i + 1) h) (ltb i d)
-          (λ z. lt→ltb i d (short-before g (num N) (2 ^ expo N) n 0 d found-there i z)) (λ t. before-found g (num N) (2 ^ expo N) n 0 d found-there i (ltb→lt i d t))
-
-  -- and what the sum before the channel leaves of the number is the rest
-  rest-left : sub binary64 (numberDrawn lo hi n w) (ofInt binary64 (pos (sumTo (side lo hi) (channelOf lo hi n w)))) ≡ restOf lo hi n w
+  -- what the sum before the channel leaves of the number is the rest
+  pub rest-left : sub binary64 (numberDrawn lo hi n w) (ofInt binary64 (pos (sumTo (side lo hi) (channelOf lo hi n w)))) ≡ restOf lo hi n w
   unfolding restOf restAt channelOf
   rest-left =
-      off-is N (num N) (expo N) (sumTo g d) (own lo hi n B w W .0) (sum-le d (le-of-lt (channel-below lo hi n B w W P)))
+      off-is N (num N) (expo N) (sumTo g d) (own lo hi n B w W .0) (le-trans (sum-fits lo hi n B d (le-of-lt (channel-below lo hi n B w W P))) (pow-mono (leb→le 26 53 tt)))
       ∙ sum-minus binary64 (num N) (sumTo g d * 2 ^ expo N) (2 ^ expo N) (short-under g (num N) (2 ^ expo N) d (found-there .short-there))
       ∙ ap (λ (c : ℕ). round binary64 false (num N - sumTo g d * c) c) (sym (den-is N))
 
--- ---- the parts that the code works out: whether the box holds the point, the sums, the factor f, the bound b and the count d
-module _ (lo hi p : List Float) (n : ℕ) (R : Readings lo hi p n) (w : ℕ) (W : w < 2 ^ 64) (held : Bool) (H : held ≡ contains lo hi p p n) (t : held ≡ false)
-    (sums : List Float) (E : (i : ℕ) → i < n + 1 → getD sums i nan ≡ total (sideOf lo hi p) i)
-    (f b : Float) (d : ℕ) (F : f ≡ factorOf w) (O : b ≡ atLeastOne (mul binary64 (getD sums n nan) f)) (C : d ≡ countBelow (λ (i : ℕ). getD sums (i + 1) nan) b n) where
-  outside : contains lo hi p p n ≡ false
-  outside = sym H ∙ t
+  module _ (b : ℕ) (K : Bound (numberDrawn lo hi n w) b) where
+    -- the sum with side j in it lies below the bound exactly where j lies before the channel
+    below-is : (j : ℕ) → ltb (sumTo (side lo hi) (j + 1)) b ≡ ltb j (channelOf lo hi n w)
+    below-is j =
+        let F = channel-found lo hi n B w W P in
+        ltb-iff (sumTo g (j + 1)) b j d (λ h. short-before g (num N) (den N) n 0 d F j (K .short _ h)) (λ h. K .under _ (before-found g (num N) (den N) n 0 d F j h))
 
-  exact : (i : ℕ) → i ≤ n → getD sums i nan ≡ ofInt binary64 (pos (sumTo (side (lowEnd lo p) (highEnd hi p)) i))
-  exact i h = E i (omega arith) ∙ sides-exact lo hi p n R i h
+    -- so the sums by fours tell the four of the channel
+    pub four-is : (sums : List ℕ) (f : ℕ) → Fours (side lo hi) sums → f ≤ 7 → channelOf lo hi n w < 4 * (f + 1) → countOf (λ (j : ℕ). ltb (getD sums (j + 1) 0) b) f ≡ channelOf lo hi n w / 4
+    four-is sums f E F D = count-is (λ (j : ℕ). ltb (getD sums (j + 1) 0) b) (d / 4) f (λ j h. ap (λ (s : ℕ). ltb s b) (E (j + 1) (omega arith) ∙ ap (sumTo g) (last j)) ∙ below-is (4 * j + 3) ∙ tests j d) ∙ least f d D
+      where
+        last : (j : ℕ) → 4 * (j + 1) ≡ 4 * j + 3 + 1
+        last j = omega arith
 
-  number-told : mul binary64 (getD sums n nan) f ≡ numberDrawn (lowEnd lo p) (highEnd hi p) n w
-  number-told = rw (exact n (le-refl n), F) (product-is lo hi p n R w W)
+        tests : (j d : ℕ) → ltb (4 * j + 3) d ≡ ltb j (d / 4)
+        tests j d = ltb-iff (4 * j + 3) d j (d / 4) (λ h. omega arith) (λ h. omega arith)
 
-  channel-told : d ≡ channelOf (lowEnd lo p) (highEnd hi p) n w
-  channel-told = C ∙ rw (O, number-told) (counted (lowEnd lo p) (highEnd hi p) n (stretched lo hi p n R) w W (some-side lo hi p n R outside) (λ (i : ℕ). getD sums (i + 1) nan) (λ i h. exact (i + 1) (omega arith)))
+        least : (f d : ℕ) → d < 4 * (f + 1) → min f (d / 4) ≡ d / 4
+        least f d h = omega arith
 
-  pub count-below : d < n
-  count-below = rw channel-told (channel-below (lowEnd lo p) (highEnd hi p) n (stretched lo hi p n R) w W (some-side lo hi p n R outside))
+    -- and the sums in that four the channel
+    pub under-is : (at : ℕ) → at ≤ channelOf lo hi n w → channelOf lo hi n w < at + 4 → countOf (λ (i : ℕ). ltb (sumTo (side lo hi) (at + (i + 1))) b) 4 ≡ channelOf lo hi n w - at
+    under-is at h k = count-is (λ (i : ℕ). ltb (sumTo g (at + (i + 1))) b) (d - at) 4 (λ i l. ap (λ (m : ℕ). ltb (sumTo g m) b) (move i) ∙ below-is (at + i) ∙ tests i d) ∙ least d k
+      where
+        move : (i : ℕ) → at + (i + 1) ≡ at + i + 1
+        move i = omega arith
 
-  pub sums-draw : (r : Separation) → r ≡ drawnAt lo hi p (At d (sub binary64 (mul binary64 (getD sums n nan) f) (getD sums d nan))) → r ≡ separation n lo hi p w
-  sums-draw r e = e ∙ rw (number-told, exact d (le-of-lt count-below), channel-told, rest-left (lowEnd lo p) (highEnd hi p) n (stretched lo hi p n R) w W (some-side lo hi p n R outside)) (sym (separation-is lo hi p n R w W outside))
+        tests : (i d : ℕ) → ltb (at + i) d ≡ ltb i (d - at)
+        tests i d = ltb-iff (at + i) d i (d - at) (λ h. omega arith) (λ h. omega arith)
+
+        least : (d : ℕ) → d < at + 4 → min 4 (d - at) ≡ d - at
+        least d h = omega arith
+
+-- as many fours as are counted tell a channel of the tree
+enough : (d i : ℕ) → i < d → d ≤ 32 → (fours d ≤ 7) × (i < 4 * (fours d + 1))
+enough d i h k = go (split (leb d 8)) (split (leb d 16))
+  where
+    go : T (leb d 8) ⊎ T (not (leb d 8)) → T (leb d 16) ⊎ T (not (leb d 16)) → (fours d ≤ 7) × (i < 4 * (fours d + 1))
+    go (inl t) u = let l = leb→le d 8 t in let e = fours-few d l in (omega arith, omega arith)
+    go (inr t) (inl u) = let l = nleb→lt d 8 t in let m = leb→le d 16 u in let e = fours-some d l m in (omega arith, omega arith)
+    go (inr t) (inr u) = let e = fours-all d (nleb→lt d 16 u) in (omega arith, omega arith)
+
+-- ---- the sides that the code works out are those of coordinates, and of padding
+module _ (lo hi p : List Float) (sides : List ℕ) (S : Sides (grown lo hi p) sides) where
+  pub sides-small : Readings lo hi p width → SmallSides sides
+  sides-small R i h = le-trans (le-of-eq (S i h)) (side-le (lowEnd lo p) (highEnd hi p) width (stretched lo hi p width R) i h)
+
+  pub sides-padded : (d : ℕ) → Padded lo hi p d width → PaddedSides d sides
+  sides-padded d Z i a b = S i b ∙ padded-side d width lo hi p Z i a b
+
+-- ---- the parts that the code works out: the sides, their sums by fours, the box's own sum, the factor f, the bound b, the four and what lies under the bound in it
+module _ (lo hi p : List Float) (R : Readings lo hi p width) (w : ℕ) (W : w < 2 ^ 64) (sides : List ℕ) (S : Sides (grown lo hi p) sides) (sums : List ℕ) (E : Fours (sideIn sides) sums) where
+  all-is : getD sums 8 0 ≡ sumTo (grown lo hi p) width
+  all-is = fours-same (grown lo hi p) sides S sums E 8 (leb→le 9 9 tt)
+
+  pub all-fits : getD sums 8 0 ≤ 67108864
+  all-fits = le-trans (le-of-eq all-is) (sum-fits (lowEnd lo p) (highEnd hi p) width (stretched lo hi p width R) width (le-refl width))
+
+  -- the sides grow exactly where the box does not hold the point
+  module _ (own-sum : ℕ) (O : own-sum ≡ sumTo (side (channel lo) (channel hi)) width) where
+    held-is : eqb (getD sums 8 0) own-sum ≡ contains lo hi p p width
+    held-is = rw (all-is, O) (go (sumTo (out lo hi p width R) width) _ _ (sum-stretched lo hi p width R) ∙ holds-is lo hi p width R)
+      where
+        go : (a b s : ℕ) → a + b ≡ s → eqb s b ≡ eqb a 0
+        go a b s e = eqb-iff s b a 0 (λ h. omega arith) (λ h. omega arith)
+
+    pub none-cut : getD sums 8 0 ≡ own-sum → Nowhere ≡ sideCut lo hi p width w
+    unfolding sideCut
+    none-cut e = rw (sym held-is ∙ is-true _ (eq→eqb e))
+
+    point-outside : (getD sums 8 0 ≡ own-sum → ⊥) → contains lo hi p p width ≡ false
+    point-outside n = sym held-is ∙ same-test (eqb (getD sums 8 0) own-sum) false (λ t. n (eqb→eq (getD sums 8 0) own-sum t)) (λ t. absurd t)
+
+  module _ (own-sum : ℕ) (O : own-sum ≡ sumTo (side (channel lo) (channel hi)) width) (N : getD sums 8 0 ≡ own-sum → ⊥) (f : Float) (F : f ≡ factorOf w) where
+    o : contains lo hi p p width ≡ false
+    o = point-outside own-sum O N
+
+    abbrev x : Float
+    x = mul binary64 (ofInt binary64 (pos (getD sums 8 0))) f
+
+    abbrev N′ : Float
+    N′ = numberDrawn (lowEnd lo p) (highEnd hi p) width w
+
+    number-told : mul binary64 (ofInt binary64 (pos (getD sums 8 0))) f ≡ numberDrawn (lowEnd lo p) (highEnd hi p) width w
+    number-told = rw (all-is, F) (product-is lo hi p width R w W)
+
+    pub bound-asked : HasValue x false (num x) (den x) × (num x ≤ 67108864 * den x)
+    bound-asked =
+        let B = stretched lo hi p width R in
+        rw number-told (
+          subst (HasValue N′ false (num N′)) (sym (den-is N′)) (own (lowEnd lo p) (highEnd hi p) width B w W .0 .value),
+          le-trans (number-most (lowEnd lo p) (highEnd hi p) width B w W) (mul-le-mul-right (den N′) (sum-fits (lowEnd lo p) (highEnd hi p) width B width (le-refl width))),
+        )
+
+    module _ (d : ℕ) (Z : Padded lo hi p d width) (b : ℕ) (K : Bound (mul binary64 (ofInt binary64 (pos (getD sums 8 0))) f) b) (four : ℕ) (C : four ≡ countOf (λ (j : ℕ). ltb (getD sums (j + 1) 0) b) (fours d)) where
+      abbrev k : ℕ
+      k = channelOf (lowEnd lo p) (highEnd hi p) width w
+
+      abbrev B : Box (lowEnd lo p) (highEnd hi p) width
+      B = stretched lo hi p width R
+
+      P : 0 < sumTo (side (lowEnd lo p) (highEnd hi p)) width
+      P = some-side lo hi p width R o
+
+      -- the channel is one of the tree's, as its side is not zero
+      in-tree : channelOf (lowEnd lo p) (highEnd hi p) width w < d
+      in-tree = go (split (leb d k))
+        where
+          go : T (leb d k) ⊎ T (not (leb d k)) → k < d
+          go (inl t) =
+              absurd (lt-irrefl 0 (subst (λ (z : ℕ). 0 < z) (padded-side d width lo hi p Z k (leb→le d k t) (channel-below (lowEnd lo p) (highEnd hi p) width B w W P)) (channel-wide (lowEnd lo p) (highEnd hi p) width B w W P)))
+          go (inr t) = nleb→lt d k t
+
+      bound-is : Bound (numberDrawn (lowEnd lo p) (highEnd hi p) width w) b
+      bound-is = subst (λ (y : Float). Bound y b) number-told K
+
+      four-told : four ≡ channelOf (lowEnd lo p) (highEnd hi p) width w / 4
+      four-told = let e = enough d k in-tree (Z .fewer) in C ∙ four-is (lowEnd lo p) (highEnd hi p) width B w W P b bound-is sums (fours d) (fours-same (grown lo hi p) sides S sums E) (e .0) (e .1)
+
+      pub four-below : four ≤ 7
+      four-below = omega (arith, four-told, channel-below (lowEnd lo p) (highEnd hi p) width B w W P)
+
+      pub four-starts : getD sums four 0 ≡ sumTo (sideIn sides) (4 * four)
+      four-starts = E four (omega (arith, four-below))
+
+      module _ (count sum : ℕ) (H : UnderIn (sideIn sides) (4 * four) b count sum) where
+        U : UnderIn (grown lo hi p) (4 * four) b count sum
+        U = under-same (grown lo hi p) sides S (4 * four) b count sum (omega (arith, four-below)) H
+
+        channel-told : 4 * four + count ≡ channelOf (lowEnd lo p) (highEnd hi p) width w
+        channel-told = omega (arith, four-told, U .counted, under-is (lowEnd lo p) (highEnd hi p) width B w W P b bound-is (4 * four) (omega (arith, four-told)) (omega (arith, four-told)))
+
+        pub count-fits : 4 * four + count < width
+        count-fits = rw channel-told (channel-below (lowEnd lo p) (highEnd hi p) width B w W P)
+
+        pub side-told : At (4 * four + count) (sub binary64 (mul binary64 (ofInt binary64 (pos (getD sums 8 0))) f) (ofInt binary64 (pos sum))) ≡ sideCut lo hi p width w
+        unfolding sideCut
+        side-told = rw (o, number-told, U .summed, channel-told, rest-left (lowEnd lo p) (highEnd hi p) width B w W P) (sym (side-drawn lo hi p width R w W o))

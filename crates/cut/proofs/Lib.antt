@@ -9,4 +9,5 @@ pub mod AsPaper
 pub mod Padding
 pub mod Turns
 pub mod Sums
+pub mod Bounds
 pub mod Counted

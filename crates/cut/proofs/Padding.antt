@@ -2,17 +2,19 @@
 use mathlib.Core.Path.{_≡_, refl, sym, ap, _∙_, subst}
 use mathlib.Core.List.{List}
 use Prim.Native.Nat.{ℕ, zero, suc, _+_, _-_, _*_, _/_, _^_, _≤_, _<_}
-use native.Mathlib.Nat.{le-trans}
+use native.Mathlib.Nat.{le-trans, le-refl, sub-self}
 use native.Mathlib.Omega.{arith}
-use mathlib.Core.Bool.{Bool, true, false, _&&_, cond, and-true}
+use mathlib.Core.Bool.{Bool, true, false, cond}
 use lib.Ieee.{Float, binary64, round, lt}
 use lib.Ieee.Positive.{num, den}
 use borrow.Table.Steps.{cases as by-test}
 use Rattle.readings.specs.Coordinate.{rank}
-use Rattle.boundingbox.specs.Ends.{channel, least, greatest}
+use Rattle.boundingbox.specs.Ends.{least, greatest}
 use Rattle.readings.specs.Number.{nought}
-use Rattle.boundingbox.specs.Contained.{every, stays, contains}
+use Rattle.boundingbox.specs.Contained.{contains}
 use Rattle.boundingbox.specs.Wholes.{side, sumTo}
+use Rattle.boundingbox.proofs.Sums.{sum-padded}
+use Rattle.boundingbox.proofs.Padding.{padded-contains}
 use Rattle.cut.specs.declared.Cut.{Cut}
 use Rattle.cut.specs.declared.Separation.the-variants.{Drawn}
 use Rattle.cut.specs.Paper.{falls, first, channelAt, restAt}
@@ -23,45 +25,6 @@ use Rattle.cut.proofs.First.{Found}
 use Rattle.cut.proofs.Stretched.{stretched}
 use Rattle.cut.proofs.AsDocument.{as-document, some-side}
 use Rattle.cut.proofs.Within.{channel-found}
-
--- ---- more channels, each of side zero
-pub sum-pad : (g : ℕ → ℕ) (d k : ℕ) → ((i : ℕ) → d ≤ i → i < d + k → g i ≡ 0) → sumTo g (d + k) ≡ sumTo g d
-sum-pad g d zero z = ap (sumTo g) (native.Mathlib.Nat.add-zero d)
-sum-pad g d (suc k) z = ap (sumTo g) (next d k) ∙ more (d + k) ∙ omega (arith, sum-pad g d k (λ i a b. z i a (further d k i b)), z (d + k) (here d k) (last d k))
-  where
-    next : (d k : ℕ) → d + suc k ≡ suc (d + k)
-    next d k = omega arith
-
-    further : (d k i : ℕ) → i < d + k → i < d + suc k
-    further d k i h = omega arith
-
-    here : (d k : ℕ) → d ≤ d + k
-    here d k = omega arith
-
-    last : (d k : ℕ) → d + k < d + suc k
-    last d k = omega arith
-
-    more : (m : ℕ) → sumTo g (suc m) ≡ sumTo g m + g m
-    more m = unfold sumTo in refl
-
-every-pad : (f : ℕ → Bool) (d k : ℕ) → ((i : ℕ) → d ≤ i → i < d + k → f i ≡ true) → every f (d + k) ≡ every f d
-every-pad f d zero z = ap (every f) (native.Mathlib.Nat.add-zero d)
-every-pad f d (suc k) z = ap (every f) (next d k) ∙ more (d + k) ∙ ap (λ (b : Bool). every f (d + k) && b) (z (d + k) (here d k) (last d k)) ∙ and-true (every f (d + k)) ∙ every-pad f d k (λ i a b. z i a (further d k i b))
-  where
-    next : (d k : ℕ) → d + suc k ≡ suc (d + k)
-    next d k = omega arith
-
-    further : (d k i : ℕ) → i < d + k → i < d + suc k
-    further d k i h = omega arith
-
-    here : (d k : ℕ) → d ≤ d + k
-    here d k = omega arith
-
-    last : (d k : ℕ) → d + k < d + suc k
-    last d k = omega arith
-
-    more : (m : ℕ) → every f (suc m) ≡ (every f m && f m)
-    more m = unfold every in refl
 
 -- a channel found among d is found among more
 first-pad : (g : ℕ → ℕ) (q c k d i : ℕ) → Found g q c d i (first g q c d i) → first g q c (d + k) i ≡ first g q c d i
@@ -82,10 +45,6 @@ first-pad g q c k (suc d) i f = ap (λ (m : ℕ). first g q c m i) (next d k) �
     later t f = let h = rw t at f in record { within = move i d (first g q c d (i + 1)) (h .within); short-there = h .short-there; falls-there = h .falls-there }
 
 -- ---- the cut
-nought-stays : stays nought nought nought nought ≡ true
-unfolding stays lt
-nought-stays = refl
-
 nought-least : least nought nought ≡ nought
 unfolding least
 nought-least = cond-same (lt nought nought) nought
@@ -102,6 +61,13 @@ nought-greatest = cond-same (lt nought nought) nought
     cond-same true x = refl
     cond-same false x = refl
 
+-- all channels of a row may be a tree's
+pub none-padded : (n : ℕ) (lo hi p : List Float) → Padded lo hi p n n
+none-padded n lo hi p = record { fewer = le-refl n; low = λ i a b. absurd (none i a b); high = λ i a b. absurd (none i a b); point = λ i a b. absurd (none i a b) }
+  where
+    none : (i : ℕ) → n ≤ i → i < n → ⊥
+    none i a b = omega arith
+
 pub fewer : (d n : ℕ) (lo hi p : List Float) → d ≤ n → Readings lo hi p n → Readings lo hi p d
 fewer d n lo hi p l R = record {
   box = record {
@@ -113,21 +79,22 @@ fewer d n lo hi p l R = record {
   point = λ i h. R .point i (le-trans h l);
 }
 
+-- a side of padding is zero
+pub padded-side : (d n : ℕ) (lo hi p : List Float) → Padded lo hi p d n → (i : ℕ) → d ≤ i → i < n → side (lowEnd lo p) (highEnd hi p) i ≡ 0
+padded-side d n lo hi p Z i a b = rw (Z .low i a b, Z .high i a b, Z .point i a b, nought-least, nought-greatest) (sub-self (rank nought))
+
 module _ (d k : ℕ) (lo hi p : List Float) (Z : Padded lo hi p d (d + k)) (R : Readings lo hi p (d + k)) where
   less : Readings lo hi p d
   less = fewer d (d + k) lo hi p (Z .fewer) R
 
   held : contains lo hi p p (d + k) ≡ contains lo hi p p d
-  held = every-pad (λ (i : ℕ). stays (channel lo i) (channel hi i) (channel p i) (channel p i)) d k (λ i a b. rw (Z .low i a b, Z .high i a b, Z .point i a b) nought-stays)
+  held = padded-contains lo hi p p d (d + k) (Z .fewer) (Z .low) (Z .high) (Z .point) (Z .point)
 
   abbrev g : ℕ → ℕ
   g = side (lowEnd lo p) (highEnd hi p)
 
   sums : sumTo (side (lowEnd lo p) (highEnd hi p)) (d + k) ≡ sumTo (side (lowEnd lo p) (highEnd hi p)) d
-  sums = sum-pad (side (lowEnd lo p) (highEnd hi p)) d k (λ i a b. rw (Z .low i a b, Z .high i a b, Z .point i a b, nought-least, nought-greatest) (none (rank nought)))
-    where
-      none : (r : ℕ) → r - r ≡ 0
-      none r = omega arith
+  sums = sum-padded (side (lowEnd lo p) (highEnd hi p)) d (d + k) (Z .fewer) (padded-side d (d + k) lo hi p Z)
 
   module _ (w : ℕ) (W : w < 2 ^ 64) (o : contains lo hi p p d ≡ false) where
     abbrev q : Float

@@ -80,11 +80,11 @@ module _ (lo hi : ℕ → Float) (n : ℕ) (B : Box lo hi n) (w : ℕ) (W : w < 
   pub channel-below : channelOf lo hi n w < n
   channel-below = subst (λ (x : ℕ). channelOf lo hi n w < x) (zero-add n) (channel-found .within)
 
-  wide : 0 < side lo hi d
-  wide = falls-says (side lo hi) (num (numberDrawn lo hi n w)) (den (numberDrawn lo hi n w)) d (channel-found .falls-there) .0
+  pub channel-wide : 0 < side lo hi (channelOf lo hi n w)
+  channel-wide = falls-says (side lo hi) (num (numberDrawn lo hi n w)) (den (numberDrawn lo hi n w)) d (channel-found .falls-there) .0
 
   ordered : rank (lo d) < rank (hi d)
-  ordered = go (rank (lo d)) (rank (hi d)) wide
+  ordered = go (rank (lo d)) (rank (hi d)) channel-wide
     where
       go : (a b : ℕ) → 0 < b - a → a < b
       go a b h = omega arith
@@ -97,7 +97,7 @@ module _ (lo hi : ℕ → Float) (n : ℕ) (B : Box lo hi n) (w : ℕ) (W : w < 
   unfolding cutOf
   within-side = record {
     channel-below = channel-below;
-    side-wide = wide;
+    side-wide = channel-wide;
     at-or-above = placed-above (lo d) (hi d) (restOf lo hi n w) (B .lower d channel-below) (B .upper d channel-below) ordered;
     below = placed-below (lo d) (hi d) (restOf lo hi n w) (B .lower d channel-below) (B .upper d channel-below) ordered;
   }

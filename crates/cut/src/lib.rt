@@ -1,18 +1,16 @@
 // The cut of a box by a random word (cut.rs): the channel that is cut and where, and whether the cut parts a point from the box.
+mod whole;
+
 use boundingbox::BoundingBox;
 use limits::CHANNELS;
 use limits::Row;
 ghost use mathlib.Core.Path.{_≡_};
 ghost use Rattle.limits.specs.Limits.{width};
 ghost use Rattle.boundingbox.specs.Ends.{least, greatest};
-ghost use Rattle.boundingbox.specs.Sides.{gapOf, total};
-ghost use Prim.Native.Nat.{ℕ, _+_, _<_};
-ghost use mathlib.Core.Bool.{cond};
-ghost use lib.ListN.{getD};
-ghost use lib.Ieee.{nan, lt};
-ghost use Rattle.cut.specs.Laws.{Readings};
+ghost use Rattle.boundingbox.specs.Sides.{gapOf};
+ghost use Prim.Native.Nat.{_<_};
+ghost use Rattle.cut.specs.Laws.{Readings, Padded};
 ghost use Rattle.cut.specs.Draw.{outsideOf, outsideSum, sideOf, reaches, leftOf, sideFrom, placed, between, parts, drawnAt, separation};
-ghost use Rattle.cut.specs.Sums.{atLeastOne, countBelow};
 
 // A cut: a channel and an f32 value, handed about as one record (document 01, 'Which form goes where').
 pub struct Cut {
@@ -25,9 +23,6 @@ pub enum Separation {
     NoCut,
     Drawn(Cut, bool),
 }
-
-// The sums of the first sides of a box, from none to all.
-type Sums = [f64; CHANNELS + 1];
 
 // The side that is cut, and the amount before it; or no side, where none leaves nothing above zero.
 pub enum Side {
@@ -160,76 +155,43 @@ impl Cut {
         let side = side_cut(bounding_box, point, range);
         match side {
             Side::Nowhere => Separation::NoCut,
-            Side::At(dimension, rest) => drawn(bounding_box, point, dimension, rest),
+            Side::At(dimension, rest) => {
+                let low = bounding_box.min_values;
+                let high = bounding_box.max_values;
+                drawn(&low, &high, point, dimension, rest)
+            }
         }
     }
 
-    // The same cut, of a box and a point of coordinates. Their sides are whole numbers, and the sums of these are exact; so each sum by
-    // itself tells whether it reaches the range, where `side_cut` waits for one subtraction after another and leaves its loop at any turn.
+    // The same cut, of a box and a point of coordinates in lent rows, of which the channels from `dimensions` on are padding. Their sides are whole numbers, and the
+    // sums of these are exact; so each sum by itself tells whether it reaches the range, where `side_cut` waits for one subtraction after another.
     // Rules out a side told by a sum that falls short of the range, and a rest from the sum with the side in it.
-    pub fn whole_cut_and_separation(bounding_box: BoundingBox, word: u64, point: &Row) -> Separation
-        requires { ⌜ Readings («bounding_box» .«min_values») («bounding_box» .«max_values») (now point) width ⌝ }
-        ensures { λ r. ⌜ r ≡ separation width («bounding_box» .«min_values») («bounding_box» .«max_values») (now (point .entry)) word ⌝ }
+    pub fn whole_cut_and_separation(
+        low: &Row,
+        high: &Row,
+        word: u64,
+        point: &Row,
+        dimensions: usize,
+    ) -> Separation
+        requires readings { ⌜ Readings (now low) (now high) (now point) width ⌝ }
+        requires padded { ⌜ Padded (now low) (now high) (now point) dimensions width ⌝ }
+        ensures { λ r. ⌜ r ≡ separation width (now (low .entry)) (now (high .entry)) (now (point .entry)) word ⌝ }
     {
-        if bounding_box.contains(point) {
-            return Separation::NoCut;
+        let side = whole::side_cut(low, high, word, point, dimensions);
+        match side {
+            Side::Nowhere => Separation::NoCut,
+            Side::At(dimension, rest) => drawn(low, high, point, dimension, rest),
         }
-        let sums = running_sums(bounding_box, point);
-        let range = sums[CHANNELS] * readings::factor(word);
-        let dimension = sums_below(sums, at_least_one(range));
-        drawn(bounding_box, point, dimension, range - sums[dimension])
     }
-}
-
-// The sums of no side, of the first, and so on to all sides of the box with the point in it.
-fn running_sums(bounding_box: BoundingBox, point: &Row) -> Sums
-    ensures { λ r. ⌜ ((i : ℕ) → i < width + 1 → getD r i nan ≡ total (sideOf («bounding_box» .«min_values») («bounding_box» .«max_values») (now (point .entry))) i) ⌝ }
-{
-    let low = bounding_box.min_values;
-    let high = bounding_box.max_values;
-    let mut sums = [0.0f64; CHANNELS + 1];
-    let mut i: usize = 0;
-    while i < CHANNELS {
-        sums[i + 1] = sums[i] + side_with(low[i], high[i], point[i]);
-        i += 1;
-    }
-    sums
-}
-
-// 1 where x lies below the bound, else 0. A number and no branch, so that none has to be guessed.
-fn below(x: f64, bound: f64) -> usize
-    ensures { λ r. ⌜ r ≡ cond (lt x bound) 1 0 ⌝ }
-{
-    if x < bound { 1 } else { 0 }
-}
-
-// How many of the sums of one side or more lie below the bound.
-fn sums_below(sums: Sums, bound: f64) -> usize
-    ensures { λ r. ⌜ r ≡ countBelow (λ (i : ℕ). getD sums (i + 1) nan) bound width ⌝ }
-{
-    let mut count: usize = 0;
-    let mut i: usize = 0;
-    while i < CHANNELS {
-        count = count + below(sums[i + 1], bound);
-        i += 1;
-    }
-    count
-}
-
-// A whole sum lies below x, or is 0, exactly where it lies below this.
-fn at_least_one(x: f64) -> f64
-    ensures { λ r. ⌜ r ≡ atLeastOne x ⌝ }
-{
-    if x < 1.0 { 1.0 } else { x }
 }
 
 // The cut on the side of a channel, and whether it parts the point from the box.
-fn drawn(bounding_box: BoundingBox, point: &Row, dimension: usize, rest: f64) -> Separation
+fn drawn(lows: &Row, highs: &Row, point: &Row, dimension: usize, rest: f64) -> Separation
     requires { ⌜ dimension < width ⌝ }
-    ensures { λ r. ⌜ r ≡ drawnAt («bounding_box» .«min_values») («bounding_box» .«max_values») (now (point .entry)) (Side.At dimension rest) ⌝ }
+    ensures { λ r. ⌜ r ≡ drawnAt (now (lows .entry)) (now (highs .entry)) (now (point .entry)) (Side.At dimension rest) ⌝ }
 {
-    let low = bounding_box.min_values[dimension];
-    let high = bounding_box.max_values[dimension];
+    let low = lows[dimension];
+    let high = highs[dimension];
     let x = point[dimension];
     let value = place(
         boundingbox::least_of(low, x),

@@ -1,8 +1,9 @@
 -- What an accepted making has been given. Assumes nothing.
 use mathlib.Core.Path.{_≡_, refl}
-use mathlib.Core.Bool.{cond}
+use mathlib.Core.Bool.{Bool, true, false, cond}
 use mathlib.Core.List.{List}
 use Prim.Native.Nat.{ℕ, _≤_}
+use lib.Dec.{leb}
 use lib.Ieee.{Float}
 use Rattle.limits.specs.Limits.{width, capacityLimit}
 use Rattle.cuttree.proofs.Tests.{by-cond, by-test, nonsense}
@@ -10,6 +11,7 @@ use Rattle.randomcuttree.specs.declared.RCFTree.{RCFTree}
 use Rattle.randomcuttree.specs.declared.Made.{Made}
 use Rattle.randomcuttree.specs.declared.Made.the-variants as Bare
 use Rattle.randomcuttree.specs.Making.{channelsTaken, capacityTaken, madeBy}
+use Rattle.treelist_text.specs.Output.{listedBy}
 use Rattle.randomcuttree.proofs.Makings.{in-bounds}
 use Rattle.samplerplustree.specs.declared.SamplerPlusTree.{SamplerPlusTree}
 use Rattle.samplerplustree.specs.declared.MadeSampled.{MadeSampled}
@@ -49,3 +51,11 @@ taken-by run h e =
     let c = capacity run in
     by-cond (λ (m : MadeSampled). m ≡ Tree h → Taken d c) (isSampled run) (sampledBy d c (share run) (initial run)) (asSampled (madeBy d c (share run)))
     (λ _. taken-sampled d c (share run) (initial run) h) (λ _. taken-bare d c (share run) (madeBy d c (share run)) h refl) e
+
+-- a making that treelist takes is the tree's own
+pub made-listed : (d c : ℕ) (s : Float) (tree : RCFTree) → listedBy d c s ≡ Bare.Tree tree → madeBy d c s ≡ Bare.Tree tree
+made-listed d c s tree = go (leb d 8)
+  where
+    go : (b : Bool) → cond b (madeBy d c s) (Bare.NotMade 1) ≡ Bare.Tree tree → madeBy d c s ≡ Bare.Tree tree
+    go true e = e
+    go false e = cc

@@ -20,18 +20,17 @@ use Rattle.wholetree.proofs.Laws.{whole-laws}
 use Rattle.randomcuttree.specs.declared.RCFTree.{RCFTree}
 use Rattle.randomcuttree.specs.declared.Made.{Made}
 use Rattle.randomcuttree.specs.declared.Made.the-variants.{Tree as TreeMade}
-use Rattle.randomcuttree.specs.Making.{madeBy}
 use Rattle.form.specs.Rows.{Op}
 use Rattle.form.specs.Making.{Making, sixteenthsOf}
 use Rattle.form.specs.Form.{read, parsed}
 use Rattle.lines.specs.Lines.{namesLine}
 use Rattle.printed.specs.Printed.{linesOf, printedTree}
 use Rattle.rowcalls.specs.Ops.{callOf}
-use Rattle.treelist_text.specs.Output.{toldRow, output, outputFrom, outputBy, outputOf}
+use Rattle.treelist_text.specs.Output.{toldRow, output, outputFrom, outputBy, outputOf, listedBy}
 use Rattle.demand3.specs.Answered.{Answered}
 use Rattle.demand3.proofs.Answered as Demand3
 use Rattle.demand3_outputs.specs.Text.{LinesFrom, leaf-line, branch-line, Listing, toldRows, TextsAnswer}
-use Rattle.demand3_outputs.proofs.Made.{taken}
+use Rattle.demand3_outputs.proofs.Made.{taken, made-listed}
 
 module _ (d c : ℕ) where
   -- the lines below the names
@@ -71,7 +70,7 @@ module _ (d c : ℕ) where
 -- A text's answers and printed lines, with what P says of the last counts and of these lines.
 pub texts-with : (P : (d c : ℕ) → Counts (whole d) → List ℕ → Type 0)
     → ((d c : ℕ) (W : World (whole d)) (K : Counts (whole d)) → Inv (whole d) c W K → P d c K (linesIn d c (W .tree)))
-    → (text : List ℕ) (m : Making) (os : List Op) (tree : RCFTree) → parsed text ≡ read m os → madeBy (m .channels) (m .capacity) (sixteenthsOf (m .sixteenths)) ≡ TreeMade tree
+    → (text : List ℕ) (m : Making) (os : List Op) (tree : RCFTree) → parsed text ≡ read m os → listedBy (m .channels) (m .capacity) (sixteenthsOf (m .sixteenths)) ≡ TreeMade tree
     → (as′ : List (Answer (whole (m .channels)))) × (lines : List ℕ) × (G : View (whole (m .channels)))
     × Answered (m .channels) (m .capacity) (Listing (m .channels) lines) G (nothing (whole (m .channels))) (map (callOf (m .channels)) os) as′
     × (output text ≡ toldRows (m .channels) 0 as′ ++ (namesLine ++ lines))
@@ -82,7 +81,7 @@ texts-with P p text m os tree F M =
     let es = map (callOf d) os in
     let start = fresh (whole d) c in
     let last = worldAfter (whole d) c start es in
-    let room = taken d c (sixteenthsOf (m .sixteenths)) tree M .1 in (
+    let room = taken d c (sixteenthsOf (m .sixteenths)) tree (made-listed d c (sixteenthsOf (m .sixteenths)) tree M) .1 in (
       answers (whole d) c start es,
       linesIn d c (last .tree),
       viewOf (whole d) c start (nothing (whole d)),

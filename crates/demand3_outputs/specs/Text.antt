@@ -10,13 +10,12 @@ use Rattle.cuttree.specs.Graph.{View, IsLeaf, IsBranch, IsNode, IsRoot}
 use Rattle.wholetree.specs.Whole.{whole}
 use Rattle.randomcuttree.specs.declared.RCFTree.{RCFTree}
 use Rattle.randomcuttree.specs.declared.Made.the-variants.{Tree}
-use Rattle.randomcuttree.specs.Making.{madeBy}
 use Rattle.form.specs.Rows.{Op}
 use Rattle.form.specs.Making.{Making, sixteenthsOf}
 use Rattle.form.specs.Form.{read, parsed}
 use Rattle.lines.specs.Lines.{branchLine, leafLine, namesLine}
 use Rattle.rowcalls.specs.Ops.{callOf}
-use Rattle.treelist_text.specs.Output.{toldRow, output}
+use Rattle.treelist_text.specs.Output.{toldRow, output, listedBy}
 use Rattle.demand3.specs.Answered.{Answered}
 
 -- a tree of d channels
@@ -39,7 +38,7 @@ module _ (d : ℕ) where
 -- For every text in form whose making is accepted there are answers to its op rows that are as demand 3 says; the refused ones are told,
 -- then the names, then the last tree in its lines. `output` is what the text's promise ensures.
 abbrev pub TextsAnswer : Type 0
-TextsAnswer = (text : List ℕ) (m : Making) (os : List Op) (tree : RCFTree) → parsed text ≡ read m os → madeBy (m .channels) (m .capacity) (sixteenthsOf (m .sixteenths)) ≡ Tree tree
+TextsAnswer = (text : List ℕ) (m : Making) (os : List Op) (tree : RCFTree) → parsed text ≡ read m os → listedBy (m .channels) (m .capacity) (sixteenthsOf (m .sixteenths)) ≡ Tree tree
     → (as′ : List (Answer (whole (m .channels)))) × (lines : List ℕ) × (G : View (whole (m .channels)))
     × Answered (m .channels) (m .capacity) (Listing (m .channels) lines) G (nothing (whole (m .channels))) (map (callOf (m .channels)) os) as′
     × (output text ≡ toldRows (m .channels) 0 as′ ++ (namesLine ++ lines))

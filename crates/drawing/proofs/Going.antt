@@ -1,90 +1,184 @@
--- The loop before the node of height m: what it keeps and the box it has, whichever tree stands in the arrays; and each way on or out of it. Assumes nothing.
-use mathlib.Core.Path.{_≡_, sym, _∙_}
-use mathlib.Core.Bool.{Bool, cond}
-use mathlib.Core.List.{List, []}
-use Prim.Native.Nat.{ℕ, suc, _+_, _-_, _^_, _≤_, _<_}
+-- The loop before the node of height m: the cut that it has chosen and the ends it has, whichever tree stands in the arrays; the node's own ends; and each way on or out. Assumes nothing.
+use mathlib.Core.Path.{_≡_, refl, sym, ap, _∙_, subst}
+use mathlib.Core.Bool.{Bool, true, false, not}
+use mathlib.Core.Logic.{_⊎_, ⊎-elim}
+use mathlib.Core.List.{List, [], _∷_}
+use Prim.Native.Nat.{ℕ, _+_, _-_, _^_, _≤_, _<_}
 use native.Mathlib.Numerals.{add-one}
 use native.Mathlib.Omega.{arith}
-use lib.ListN.{getD}
-use lib.Ieee.{Float}
-use Rattle.limits.specs.Limits.{width}
-use Rattle.boundingbox.specs.Ends.{least, greatest, joined}
-use Rattle.boundingbox.proofs.Joined.{joined-same}
-use Rattle.boundingbox.proofs.Order.{least-same, greatest-same}
-use Rattle.boundingbox.specs.declared.BoundingBox.{BoundingBox}
+use lib.Dec.{T, ltb}
+use borrow.Author.Tests.{ltb-true, ltb-false}
+use lib.ListN.{getD, take}
+use lib.Ieee.{Float, binary32, nanBits}
+use Rattle.limits.specs.Limits.{width, capacityLimit, branchLimit}
 use Rattle.cut.specs.declared.Cut.{Cut}
 use Rattle.cut.specs.declared.Separation.{Separation}
 use Rattle.cut.specs.declared.Separation.the-variants.{NoCut, Drawn}
 use Rattle.cut.specs.Draw.{separation}
-use Rattle.cut.specs.Laws.{Readings}
-use Rattle.cuttree.specs.Tree.{Tree}
+use Rattle.cut.specs.Laws.{Readings, Padded}
+use Rattle.cuttree.specs.Tree.{Tree, id, ending}
 use Rattle.cuttree.specs.Walk.{sub}
-use Rattle.readings.specs.Number.{zero as zeroNumber}
+use Rattle.cuttree.proofs.Heights.{sub-leaf}
+use Rattle.cuttree.proofs.Tests.{by-test}
 use Rattle.wholetree.specs.Reading.{Reading}
 use Rattle.wholetree.specs.Whole.{whole}
 use Rattle.wholetree.proofs.Boxes.{tree-box}
-use Rattle.wholetree.proofs.Draws.{are-readings}
+use Rattle.wholetree.proofs.Draws.{ends-leaf, are-readings}
+use Rattle.layout.specs.Slots.{lowOf, highOf}
+use Rattle.layout.specs.Stands.{trail}
+use Rattle.layout.proofs.Trails.{path-node}
 use Rattle.boxstore.specs.Above.{At, Rising, SomeRising, BoxAbove}
-use Rattle.drawing.specs.declared.Highest.{Highest}
-use Rattle.drawing.specs.Drawing.{Drawing, SomeDrawing, Kept}
-use Rattle.drawing.proofs.Keeping.{keeps-nothing, keeps-held, keeps-drawn}
+use Rattle.boxstore.proofs.Above.{cached-box, above-leaf}
+use Rattle.rowboxes.specs.Rows.{PaddedRow, PaddedEnds, PaddedTable, PaddedBoxes, boxOf}
+use Rattle.drawing.specs.declared.Chosen.{Chosen}
+use Rattle.drawing.specs.Choice.{endsFor, Numbered, noneChosen, chosenAt, chosenBy, highestOf}
+use Rattle.drawing.specs.Drawing.{Drawing, SomeDrawing, Kept, holdsAt}
+use Rattle.drawing.proofs.Holding.{drawn-outside, held-above}
+use Rattle.drawing.proofs.Choosing.{bits-back, bits-number, numbersOf, none-is, keptTo, numbered, chosen-on, kept-held}
 
-module _ (c k : ℕ) (nodes : List (List ℕ)) (points : List (List Float)) (boxes : List (List (List Float))) (path : List (List ℕ)) (len leaf : ℕ) (words : List ℕ) (point : List Float) where
+module _ (c k channels : ℕ) (nodes : List (List ℕ)) (points : List (List Float)) (boxes : List (List (List Float))) (path : List (List ℕ)) (len leaf : ℕ) (words : List ℕ) (point : List Float) where
   abbrev In : (d : ℕ) → Tree (whole d) → Reading → Type 0
   In d t p = Drawing d c t p k nodes points boxes path len leaf words point
 
-  pub record Going (m : ℕ) (b : BoundingBox) (r : Highest) : Type 0 where
-    pub within : m < len
-    pub keeps : (d : ℕ) (t : Tree (whole d)) (p : Reading) → In d t p → Kept d c t p words m r × At d c p t m b
+  abbrev Some : Type 0
+  Some = SomeDrawing c k nodes points boxes path len leaf words point
 
-  pub going-starts : SomeDrawing c k nodes points boxes path len leaf words point → (b : BoundingBox) → b .«min_values» ≡ joined least (getD points leaf []) (getD points leaf []) → b .«max_values» ≡ joined greatest (getD points leaf []) (getD points leaf [])
-      → (v : Float) → v ≡ zeroNumber .value → Going 0 b (record { height = 0; cut = record { dimension = 0; value = v }; «bounding_box» = b })
-  going-starts s b l h v e = record {
-    within = omega (arith, s .drawing .count);
-    keeps = λ d t p D.
-        let low = l ∙ joined-same least least-same (getD points leaf []) ∙ D .leaf-row in
-        let high = h ∙ joined-same greatest greatest-same (getD points leaf []) ∙ D .leaf-row in
-        let K = keeps-nothing d c t p words b low high v e in
-        (K, record { low = K .low; high = K .high });
+  -- E is the box of the node of height m
+  pub record BoxAt (m : ℕ) (E : List (List Float)) : Type 0 where
+    pub padded : PaddedEnds channels E
+    pub at-node : (d : ℕ) (t : Tree (whole d)) (p : Reading) → In d t p → At d c p t m (boxOf E)
+
+  pub leaf-box : Some → PaddedTable channels points → BoxAt 0 (getD points leaf [] ∷ getD points leaf [] ∷ [])
+  leaf-box S P = let row = P leaf (S .drawing .leaf-small) in record {
+    padded = record { two = refl; low = row; high = row };
+    at-node = λ d t p D. record {
+      low = D .leaf-row ∙ sym (ap (λ (x : Tree (whole d)). lowOf d c x) (sub-leaf (whole d) p t) ∙ ends-leaf (ending (whole d) t p .value));
+      high = D .leaf-row ∙ sym (ap (λ (x : Tree (whole d)). highOf d c x) (sub-leaf (whole d) p t) ∙ ends-leaf (ending (whole d) t p .value));
+    };
   }
 
-  -- at the node of height m
-  module _ (m : ℕ) (b : BoundingBox) (r : Highest) (G : Going m b r) where
-    -- the box and the point are coordinates, as the draw asks
-    pub going-readings : SomeDrawing c k nodes points boxes path len leaf words point → Readings (b .«min_values») (b .«max_values») point width
-    going-readings s =
-        let D = s .drawing in
-        let A = G .keeps (s .channels) (s .tree) (s .reading) D .1 in
-        rw (A .low, A .high, D .row) (are-readings (tree-box (s .channels) (sub (whole (s .channels)) (s .tree) m (s .reading))) (s .reading))
+  -- what its draw asks and tells
+  module _ (m : ℕ) (E : List (List Float)) (B : BoxAt m E) where
+    pub readings : Some → Readings (getD E 0 []) (getD E 1 []) point width
+    readings S =
+        let D = S .drawing in
+        let A = B .at-node (S .channels) (S .tree) (S .reading) D in
+        rw (A .low, A .high, D .row) (are-readings (tree-box (S .channels) (sub (whole (S .channels)) (S .tree) m (S .reading))) (S .reading))
 
-    rising : {d : ℕ} {t : Tree (whole d)} {p : Reading} → In d t p → Rising c k nodes points boxes path len m b d t p
-    rising {d} {t} {p} D = record { boxed = D .boxed; once = D .once; count = D .count; is-trail = D .is-trail; box-is = G .keeps d t p D .1 }
+    pub padded-rows : channels ≤ width → PaddedRow channels point → Padded (getD E 0 []) (getD E 1 []) point channels width
+    padded-rows h R = record { fewer = h; low = B .padded .low .rest; high = B .padded .high .rest; point = R .rest }
 
-    pub some-rising : SomeDrawing c k nodes points boxes path len leaf words point → SomeRising c k nodes points boxes path len m b
-    some-rising s = record { channels = s .channels; tree = s .tree; reading = s .reading; rising = rising (s .drawing) }
+    module _ (s : Separation) (X : s ≡ separation width (getD E 0 []) (getD E 1 []) point (getD words m 0)) where
+      pub drawn-in : (d : ℕ) (t : Tree (whole d)) (p : Reading) → In d t p → separation width (lowOf d c (sub (whole d) t m p)) (highOf d c (sub (whole d) t m p)) (p .row) (getD words m 0) ≡ s
+      drawn-in d t p D = rw (← B .at-node d t p D .low, ← B .at-node d t p D .high, ← D .row) (sym X)
 
-    -- its draw
-    module _ (W : getD words m 0 < 2 ^ 64) (s : Separation) (X : s ≡ separation width (b .«min_values») (b .«max_values») point (getD words m 0)) where
-      drawn-in : (d : ℕ) (t : Tree (whole d)) (p : Reading) → In d t p → separation width (b .«min_values») (b .«max_values») (p .row) (getD words m 0) ≡ s
-      drawn-in d t p D = rw (← D .row) (sym X)
+      pub is-numbered : Some → getD words m 0 < 2 ^ 64 → Numbered s
+      is-numbered S W = numbered (S .channels) c (S .tree) (S .reading) words m W s (drawn-in (S .channels) (S .tree) (S .reading) (S .drawing))
 
-      pub kept-held : s ≡ NoCut → (d : ℕ) (t : Tree (whole d)) (p : Reading) → In d t p → Kept d c t p words len r
-      kept-held e d t p D =
-          let g = G .keeps d t p D in
-          rw (D .count) (keeps-held d c t p words m r (g .0) b (g .1 .low) (g .1 .high) W (omega (arith, G .within, D .count)) (drawn-in d t p D ∙ e))
+  -- before the node of height m, which is no leaf: ends are kept where the branches are cached partly
+  pub record Turn (partly : Bool) (m : ℕ) (X : List (List Float)) (s : Chosen) (d : ℕ) (t : Tree (whole d)) (p : Reading) : Type 0 where
+    pub chosen-is : s ≡ numbersOf (keptTo d c t p words m)
+    pub outside : (j : ℕ) → 0 < j → j < m → holdsAt d c t p j ≡ false
+    pub below : partly ≡ true → At d c p t (m - 1) (boxOf X)
 
-      -- what is kept on: the cut where it parts
-      module _ (q : Cut) (a : Bool) (e : s ≡ Drawn q a) (y : Highest) (Y : y ≡ cond a (record { height = m; cut = q; «bounding_box» = b }) r) where
-        kept-on : (d : ℕ) (t : Tree (whole d)) (p : Reading) → In d t p → Kept d c t p words (suc m) y
-        kept-on d t p D =
-            let g = G .keeps d t p D in
-            rw Y (keeps-drawn d c t p words m r (g .0) b (g .1 .low) (g .1 .high) W q a (drawn-in d t p D ∙ e))
+  pub record Going (partly : Bool) (m : ℕ) (X : List (List Float)) (s : Chosen) : Type 0 where
+    pub some : 0 < m
+    pub within : m ≤ len
+    pub padded : PaddedEnds channels X
+    pub turn : (d : ℕ) (t : Tree (whole d)) (p : Reading) → In d t p → Turn partly m X s d t p
 
-        -- at the root
-        pub kept-last : len ≤ m + 1 → (d : ℕ) (t : Tree (whole d)) (p : Reading) → In d t p → Kept d c t p words len y
-        kept-last h d t p D =
-            let last : len ≡ suc m = omega (arith, G .within) in
-            rw last (kept-on d t p D)
+  pub going-starts : Some → PaddedTable channels points → getD words 0 0 < 2 ^ 64 → (partly : Bool) (s : Chosen) → s ≡ chosenBy noneChosen 0 (separation width (getD points leaf []) (getD points leaf []) point (getD words 0 0))
+      → Going partly 1 (getD points leaf [] ∷ getD points leaf [] ∷ []) s
+  going-starts S P W partly s e =
+      let B = leaf-box S P in
+      record {
+        some = omega arith;
+        within = omega (arith, S .drawing .count);
+        padded = B .padded;
+        turn = λ d t p D. record {
+          chosen-is = e ∙ ap (λ (x : Chosen). chosenBy x 0 (separation width (getD points leaf []) (getD points leaf []) point (getD words 0 0))) (none-is d) ∙ chosen-on d c t p words 0 W _ (drawn-in 0 _ B _ refl d t p D);
+          outside = λ j a b. absurd (omega arith);
+          below = λ _. B .at-node d t p D;
+        };
+      }
 
-        pub going-on : m + 1 < len → (b′ : BoundingBox) → BoxAbove c k nodes points boxes path len m b b′ → Going (m + 1) b′ y
-        going-on h b′ g = record { within = h; keeps = λ d t p D. (rw (add-one m) (kept-on d t p D), g d t p (rising D)) }
+  module _ (partly : Bool) (m : ℕ) (X : List (List Float)) (s : Chosen) (G : Going partly m X s) where
+    rising : partly ≡ true → {d : ℕ} {t : Tree (whole d)} {p : Reading} → In d t p → Rising c k nodes points boxes path len (m - 1) (boxOf X) d t p
+    rising f {d} {t} {p} D = record { boxed = D .boxed; once = D .once; count = D .count; is-trail = D .is-trail; box-is = G .turn d t p D .below f }
+
+    pub some-rising : partly ≡ true → Some → SomeRising c k nodes points boxes path len (m - 1) (boxOf X)
+    some-rising f S = record { channels = S .channels; tree = S .tree; reading = S .reading; rising = rising f (S .drawing) }
+
+    pub chosen-number : Some → T (not (nanBits binary32 (s .bits)))
+    chosen-number S = rw (G .turn (S .channels) (S .tree) (S .reading) (S .drawing) .chosen-is) (bits-number (keptTo (S .channels) c (S .tree) (S .reading) words m .1 .value))
+
+    -- past the root
+    pub kept-end : len ≤ m → (d : ℕ) (t : Tree (whole d)) (p : Reading) → In d t p → Kept d c t p words len (highestOf s len)
+    kept-end h d t p D =
+        let g = G .turn d t p D in
+        let z : m ≡ len = omega (arith, G .within) in
+        rw (g .chosen-is, z) (record {
+          height-is = refl;
+          channel-is = refl;
+          value-is = bits-back (keptTo d c t p words len .1 .value);
+          above-leaf = omega (arith, G .some);
+          top-most = omega arith;
+          hold = λ j a b. absurd (omega arith);
+          hold-not = λ j a b. g .outside j a (omega arith);
+        })
+
+    -- the node's own ends are its slot, or those below it moved out
+    module _ (l : m < len) (node : ℕ) (N : node ≡ getD (getD path (len - 1 - m) []) 0 0) where
+      module _ {d : ℕ} {t : Tree (whole d)} {p : Reading} (D : In d t p) where
+        is-node : node ≡ id (whole d) c (sub (whole d) t m p)
+        is-node = N ∙ path-node d c p path t (subst (λ (n : ℕ). take n path ≡ trail d c t p) (D .count) (D .is-trail)) (len - 1 - m) m (omega (arith, D .count))
+
+        node-low : node + 1 < c
+        node-low = above-leaf p (D .boxed) m (omega (arith, D .count)) node is-node (G .some)
+
+        own-box : node < k → At d c p t m (boxOf (getD boxes node []))
+        own-box f = cached-box p (D .boxed) m (omega (arith, D .count)) node is-node (omega (arith, node-low)) f (boxOf (getD boxes node [])) refl refl
+
+      pub in-slots : Some → c ≤ capacityLimit → node < branchLimit
+      in-slots S h = omega (arith, node-low (S .drawing))
+
+      -- X′ are the ends that are kept on
+      pub next-ends : Some → c ≤ capacityLimit → (partly ≡ false → c ≤ k + 1) → PaddedBoxes channels boxes → (X′ : List (List Float))
+          → ((partly ≡ true) × BoxAbove c k nodes points boxes path len (m - 1) (boxOf X) (boxOf X′) × PaddedEnds channels X′) ⊎ ((partly ≡ false) × (X′ ≡ X))
+          → BoxAt m (endsFor partly node X′ boxes) × PaddedEnds channels X′
+      next-ends S h f P X′ = ⊎-elim
+          (λ w. let z : (m - 1) + 1 ≡ m = omega (arith, G .some) in
+          rw (w .0) (record { padded = w .2; at-node = λ d t p D. rw z at (w .1 d t p (rising (w .0) D)) }, w .2))
+          (λ w. rw (w .0, w .1) (record { padded = P .slots node (in-slots S h); at-node = λ d t p D. own-box D (omega (arith, node-low D, f (w .0))) }, G .padded))
+
+      module _ (X′ : List (List Float)) (Q : PaddedEnds channels X′) (B : BoxAt m (endsFor partly node X′ boxes)) (W : getD words m 0 < 2 ^ 64)
+          (v : Separation) (Y : v ≡ separation width (getD (endsFor partly node X′ boxes) 0 []) (getD (endsFor partly node X′ boxes) 1 []) point (getD words m 0)) where
+        pub kept-there : v ≡ NoCut → (d : ℕ) (t : Tree (whole d)) (p : Reading) → In d t p → Kept d c t p words len (highestOf s m)
+        kept-there e d t p D =
+            let g = G .turn d t p D in
+            let is = drawn-in m _ B v Y d t p D in
+            let z : keptTo d c t p words len ≡ keptTo d c t p words m = rw (D .count) (kept-held d c t p words m W v is (omega (arith, D .count)) e) in
+            rw (g .chosen-is) (record {
+              height-is = ap (λ x. x .0) (sym z);
+              channel-is = ap (λ x. x .1 .channel) (sym z);
+              value-is = bits-back (keptTo d c t p words m .1 .value) ∙ ap (λ x. x .1 .value .value) (sym z);
+              above-leaf = G .some;
+              top-most = G .within;
+              hold = λ j a b. held-above d c t p m (getD words m 0) W j (is ∙ e) a (omega (arith, D .count));
+              hold-not = g .outside;
+            })
+
+        pub going-on : (q : Cut) (a : Bool) → v ≡ Drawn q a → (y : Chosen) → y ≡ chosenAt s m q a → Going partly (m + 1) X′ y
+        going-on q a e y Z = record {
+          some = omega arith;
+          within = omega arith;
+          padded = Q;
+          turn = λ d t p D.
+              let g = G .turn d t p D in
+              let is = drawn-in m _ B v Y d t p D ∙ e in
+              record {
+                chosen-is = Z ∙ ap (λ (x : Chosen). chosenAt x m q a) (g .chosen-is) ∙ rw (add-one m) (chosen-on d c t p words m W (Drawn q a) is);
+                outside = λ j f l. by-test (ltb j m) (λ h. g .outside j f (omega (arith, ltb-true))) (λ h. let z : j ≡ m = omega (arith, ltb-false) in rw z (drawn-outside d c t p m (getD words m 0) W q a is));
+                below = λ f. let z : (m + 1) - 1 ≡ m = omega arith in rw z (rw f at (B .at-node d t p D));
+              };
+        }

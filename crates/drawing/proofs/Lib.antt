@@ -1,2 +1,3 @@
-pub mod Keeping
+pub mod Holding
+pub mod Choosing
 pub mod Going

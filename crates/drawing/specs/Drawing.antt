@@ -1,10 +1,12 @@
 -- The loop from the leaf to the root: what it draws in, and what it keeps. Definitions.
 use mathlib.Core.Path.{_≡_}
+use mathlib.Core.Bool.{Bool, true, false}
 use mathlib.Core.List.{List, []}
 use Prim.Native.Nat.{ℕ, _≤_, _<_}
 use lib.ListN.{length, getD, take}
 use lib.Ieee.{Float}
-use Rattle.limits.specs.Limits.{capacityLimit, pointLimit}
+use Rattle.limits.specs.Limits.{width, capacityLimit, pointLimit}
+use Rattle.boundingbox.specs.Contained.{contains}
 use Rattle.cuttree.specs.Setting.{Cut}
 use Rattle.cuttree.specs.Tree.{Tree, walk, ending}
 use Rattle.cuttree.specs.Walk.{sub, kept}
@@ -37,13 +39,19 @@ module _ (d c : ℕ) (t : Tree (whole d)) (p : Reading) where
     pub leaf-small : leaf < pointLimit
     pub leaf-row : getD points leaf [] ≡ ending (whole d) t p .value .row
 
-  -- what is kept after m nodes, and the box of its node
-  pub record Kept (words : List ℕ) (m : ℕ) (r : Highest) : Type 0 where
-    pub height-is : r .height ≡ kept (whole d) t p (wordAt words) (noCut d) m .0
-    pub channel-is : r .cut .dimension ≡ kept (whole d) t p (wordAt words) (noCut d) m .1 .channel
-    pub value-is : r .cut .value ≡ kept (whole d) t p (wordAt words) (noCut d) m .1 .value .value
-    pub low : r .«bounding_box» .«min_values» ≡ lowOf d c (sub (whole d) t (r .height) p)
-    pub high : r .«bounding_box» .«max_values» ≡ highOf d c (sub (whole d) t (r .height) p)
+  -- whether the box of the walk's node of height j holds the point
+  abbrev pub holdsAt : ℕ → Bool
+  holdsAt j = contains (lowOf d c (sub (whole d) t j p)) (highOf d c (sub (whole d) t j p)) (p .row) (p .row) width
+
+  -- what is kept of a walk of len nodes, and the height above the leaf from which on its boxes hold the point
+  pub record Kept (words : List ℕ) (len : ℕ) (r : Highest) : Type 0 where
+    pub height-is : r .height ≡ kept (whole d) t p (wordAt words) (noCut d) len .0
+    pub channel-is : r .cut .dimension ≡ kept (whole d) t p (wordAt words) (noCut d) len .1 .channel
+    pub value-is : r .cut .value ≡ kept (whole d) t p (wordAt words) (noCut d) len .1 .value .value
+    pub above-leaf : 0 < r .top
+    pub top-most : r .top ≤ len
+    pub hold : (j : ℕ) → r .top ≤ j → j < len → holdsAt j ≡ true
+    pub hold-not : (j : ℕ) → 0 < j → j < r .top → holdsAt j ≡ false
 
 -- some tree is there to draw in
 pub record SomeDrawing (c k : ℕ) (nodes : List (List ℕ)) (points : List (List Float)) (boxes : List (List (List Float))) (path : List (List ℕ)) (len leaf : ℕ) (words : List ℕ) (point : List Float) : Type 0 where

@@ -1,9 +1,9 @@
 -- Document 01's limits, under the names that definitions and laws use. Nothing else says these numbers. Definitions.
 use Prim.Native.Nat.{ℕ, _-_}
 
--- '1 to 8 channels': how wide a row of coordinates is
+-- Request A.7: 'up to 32 channels': how wide a row of coordinates is
 abbrev pub width : ℕ
-width = 8
+width = 32
 
 -- 'Capacity c is 2 to 256': the leaves of a tree
 abbrev pub capacityLimit : ℕ

@@ -25,12 +25,12 @@ leaf-few id mass h m =
     let dashes : AtMost 8 (45 ∷ 32 ∷ 45 ∷ 32 ∷ 45 ∷ 32 ∷ 45 ∷ 32 ∷ []) = record { few = omega arith } in
     both (both (ended 3 id 32 h) dashes) (ended 4 mass 10 m) .few
 
-pub branch-few : (id dimension cut left right mass : ℕ) → id < 1000 → dimension < 10 → left < 10000 → right < 10000 → mass < 100000 → length (branchLine id dimension cut left right mass) ≤ 31
+pub branch-few : (id dimension cut left right mass : ℕ) → id < 1000 → dimension < 100 → left < 10000 → right < 10000 → mass < 100000 → length (branchLine id dimension cut left right mass) ≤ 32
 unfolding branchLine
 branch-few id dimension cut left right mass h d l r m =
     let bits : AtMost 8 (hex 8 cut) = record { few = omega (arith, hex-length 8 cut) } in
     let space : AtMost 1 (32 ∷ []) = record { few = omega arith } in
-    both (both (both (both (both (both (ended 2 id 32 h) (ended 0 dimension 32 d)) bits) space) (ended 3 left 32 l)) (ended 3 right 32 r)) (ended 4 mass 10 m) .few
+    both (both (both (both (both (both (ended 2 id 32 h) (ended 1 dimension 32 d)) bits) space) (ended 3 left 32 l)) (ended 3 right 32 r)) (ended 4 mass 10 m) .few
 
 -- a refusal's number has at most two digits
 pub refused-few : (k number row : ℕ) → number < 100 → row < 10 ^ suc k → length (refusedLine number row) ≤ k + 13

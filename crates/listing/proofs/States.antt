@@ -43,7 +43,7 @@ all-by : (d : ℕ) (P : ℕ → Reading → ℕ → Type 0) (t : Tree (whole d))
 all-by d P (leaf i q n) h = h i q n here
 all-by d P (branch b k l r) h = (all-by d P l (λ i q n j. h i q n (left j)), all-by d P r (λ i q n j. h i q n (right j)))
 
--- HOW LONG: at most 31 bytes for a branch and 19 for a leaf
+-- HOW LONG: at most 32 bytes for a branch and 19 for a leaf
 abbrev branches : (d : ℕ) → Tree (whole d) → ℕ
 branches d t = sum (whole d) (λ i q n. 0) (λ b. 1) t
 
@@ -52,7 +52,7 @@ id-below d c (leaf i q n) m h = omega arith
 id-below d c (branch b k l r) m h = omega (arith, h .0)
 
 -- the lines of a tree
-lines-few : (d c : ℕ) (t : Tree (whole d)) → c ≤ capacityLimit → InRange d c t → mass (whole d) t < 65536 → length (linesOf d c t) ≤ 31 * branches d t + 19 * leaves (whole d) t
+lines-few : (d c : ℕ) (t : Tree (whole d)) → c ≤ capacityLimit → InRange d c t → mass (whole d) t < 65536 → length (linesOf d c t) ≤ 32 * branches d t + 19 * leaves (whole d) t
 lines-few d c (leaf i q n) m h w = omega (arith, leaf-few (i + c) n (id-below d c (leaf i q n) m h) (omega arith))
 lines-few d c (branch b k l r) m h w =
     let one = lines-few d c l m (h .2) (omega arith) in

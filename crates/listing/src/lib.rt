@@ -17,7 +17,7 @@ ghost use Rattle.listing.specs.Listing.{rowLine, PrintsNode, SomeListed}
 ghost use Rattle.listing.specs.Printed.{PrintsTree, SomeRead};
 
 // A buffer of so many bytes has room for what any tree prints: `treeLimit`.
-pub const TREE: usize = 33 + BRANCHES * 31 + CAPACITY * 19;
+pub const TREE: usize = 33 + BRANCHES * 32 + CAPACITY * 19;
 
 // A number of a branch's row: 0 is its left side, 1 its right, 2 its mass and 3 its channel.
 fn number_of(nodes: &Nodes, node: usize, i: usize) -> usize

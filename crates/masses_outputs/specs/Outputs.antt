@@ -12,7 +12,6 @@ use Rattle.wholetree.specs.Reading.{Reading}
 use Rattle.wholetree.specs.Whole.{whole}
 use Rattle.randomcuttree.specs.declared.RCFTree.{RCFTree}
 use Rattle.randomcuttree.specs.declared.Made.the-variants.{Tree}
-use Rattle.randomcuttree.specs.Making.{madeBy}
 use Rattle.samplerplustree.specs.declared.SamplerPlusTree.{SamplerPlusTree}
 use Rattle.samplerplustree.specs.declared.MadeSampled.the-variants as Sampled
 use Rattle.runlayout.specs.Layout.{RunCall, channels, capacity, calls}
@@ -22,7 +21,7 @@ use Rattle.form.specs.Making.{Making, sixteenthsOf}
 use Rattle.form.specs.Form.{read, parsed}
 use Rattle.lines.specs.Lines.{namesLine}
 use Rattle.rowcalls.specs.Ops.{callOf}
-use Rattle.treelist_text.specs.Output.{output}
+use Rattle.treelist_text.specs.Output.{output, listedBy}
 use Rattle.demand3.specs.Answered.{Answered}
 use Rattle.demand3_outputs.specs.Run.{RunAnswers, allNumbers, RunAnswered}
 use Rattle.demand3_outputs.specs.Text.{Listing, toldRows}
@@ -45,7 +44,7 @@ LinesCount d K lines = (NothingHeld (whole d) K × (lines ≡ []))
 -- For every text in form whose making is accepted: the answers that are as demand 3 says, and lines of the last tree whose masses count, against the counts
 -- of these answers.
 abbrev pub TextsCount : Type 0
-TextsCount = (text : List ℕ) (m : Making) (os : List Op) (tree : RCFTree) → parsed text ≡ read m os → madeBy (m .channels) (m .capacity) (sixteenthsOf (m .sixteenths)) ≡ Tree tree
+TextsCount = (text : List ℕ) (m : Making) (os : List Op) (tree : RCFTree) → parsed text ≡ read m os → listedBy (m .channels) (m .capacity) (sixteenthsOf (m .sixteenths)) ≡ Tree tree
     → (as′ : List (Answer (whole (m .channels)))) × (lines : List ℕ) × (G : View (whole (m .channels)))
     × Answered (m .channels) (m .capacity) (Listing (m .channels) lines) G (nothing (whole (m .channels))) (map (callOf (m .channels)) os) as′
     × (output text ≡ toldRows (m .channels) 0 as′ ++ (namesLine ++ lines))

@@ -72,16 +72,21 @@ fn manage_ancestors_delete(nodes: &mut Nodes, path: &Path, n: usize)
     }
 }
 
+// The side that `old` is on, taken to be one of the branch a's two. A number and no branch, so that none has to be guessed.
+fn side_with(nodes: &Nodes, a: usize, old: u16) -> usize
+    requires { ⌜ a < branchLimit ⌝ }
+    ensures { λ r. ⌜ (r ≡ cond (eqb (field (now (nodes .entry)) a 0) old) 0 1) × (r < 2) ⌝ }
+{
+    if nodes[a][0] == old { 0 } else { 1 }
+}
+
 // The side `old` of the branch a is made `new`.
 fn replace_node(nodes: &mut Nodes, a: usize, old: u16, new: u16)
     requires { ⌜ a < branchLimit ⌝ }
     ensures { λ _. ⌜ now (nodes .exit) ≡ redirect (now (nodes .entry)) a old new ⌝ }
 {
-    if nodes[a][0] == old {
-        nodes[a][0] = new;
-    } else {
-        nodes[a][1] = new;
-    }
+    let side = side_with(nodes, a, old);
+    nodes[a][side] = new;
 }
 
 // The node `old` below the first k nodes of the path is made `new`.

@@ -36,7 +36,7 @@ use Rattle.nodeview.specs.Laws.{Probability, ChancesDivided}
 use Rattle.nodeview.proofs.Nodes.{branch-chance}
 
 -- a given point of d channels has +0.0 in the others
-narrow-point : (d : ℕ) (xs : List Float) → eqb (length xs) d ≡ true → allCoordinates xs ≡ true → Padded (reading xs .row) d width
+pub narrow-point : (d : ℕ) (xs : List Float) → eqb (length xs) d ≡ true → allCoordinates xs ≡ true → Padded (reading xs .row) d width
 narrow-point d xs e g i a b =
     let l : length xs ≡ d = eqb-true (length xs) d e in
     ap (λ (r : List Float). channel r i) (reading-row xs (yes g)) ∙ padded-beyond width xs i (omega arith) b

@@ -1,11 +1,11 @@
--- The loop when m rows are written: those rows, and the box of the node that it comes from unless that is cached, whichever tree stands in the arrays; where it starts, the way on, and its end. Assumes nothing.
-use mathlib.Core.Path.{_≡_, refl, sym, ap, _∙_, subst}
-use mathlib.Core.Bool.{cond}
+-- The loop when m rows are written: those rows, and the box of the node that it comes from unless that is at hand, whichever tree stands in the arrays; where it starts, the way on, and its end. Assumes nothing.
+use mathlib.Core.Path.{_≡_, refl, sym, ap, _∙_}
+use mathlib.Core.Bool.{false, cond, _||_, true≢false}
 use mathlib.Core.List.{List, [], _∷_, _++_}
 use Prim.Native.Nat.{ℕ, suc, _+_, _-_, _≤_, _<_}
 use native.Mathlib.Numerals.{add-one}
 use native.Mathlib.Omega.{arith}
-use lib.Dec.{ltb, ltb→lt, nltb→le}
+use lib.Dec.{leb, ltb, ltb→lt, nltb→le}
 use lib.ListN.{length, getD, set, drop, length-set}
 use lib.Seq.{drop-set-lt}
 use lib.Ieee.{Float, nan, binary64, toBits}
@@ -28,16 +28,23 @@ use Rattle.layout.proofs.Rows.{apart-once}
 use Rattle.walk.specs.Walks.{Walked}
 use Rattle.nodestore.specs.Rows.{massAt}
 use Rattle.boxstore.specs.Boxed.{SomeBoxed}
-use Rattle.boxstore.specs.Grown.{GrownBy}
+use Rattle.boxstore.specs.Grown.{BoxOf}
 use Rattle.boxstore.specs.Written.{lowIn, highIn}
-use Rattle.boxstore.specs.Above.{At}
-use Rattle.boxstore.proofs.Siblings.{sibling-is, some-sibling, grow-up}
+use Rattle.boxstore.proofs.Parts.{sides-box}
+use Rattle.boxstore.proofs.Siblings.{sibling-is, some-sibling}
+use Rattle.rowboxes.proofs.Rows.{hand-false}
+use Rattle.branchboxes.specs.Pairs.{PairBox}
 use Rattle.nodeview.specs.Report.{chance, rowAt}
 use Rattle.nodeview.specs.Told.{numbersOf}
 use Rattle.nodeview.specs.Walking.{Chanced}
-use Rattle.nodeview.specs.Writing.{endOr, Writing, Writes}
+use Rattle.nodeview.specs.Writing.{Writing, Writes}
 use Rattle.nodeview.proofs.Fronts.{map-tab, front, front-next}
 use Rattle.nodeview.proofs.Nodes as Nodes
+use Rattle.nodeview.proofs.Pairs.{pair-sides}
+
+-- a node that is not at hand is not cached
+not-kept : (c k x : ℕ) → (leb c x || ltb x k) ≡ false → k ≤ x
+not-kept c k x e = by-test (leb c x) (λ t. absurd (true≢false (rw t at e))) (λ t. nltb→le x k (no (rw t at e)))
 
 module _ (c k : ℕ) (nodes : List (List ℕ)) (copies : List ℕ) (points : List (List Float)) (boxes : List (List (List Float))) (path : List (List ℕ)) (len : ℕ) (point : List Float) where
   abbrev In : (d : ℕ) → Tree (whole d) → Reading → Type 0
@@ -47,59 +54,54 @@ module _ (c k : ℕ) (nodes : List (List ℕ)) (copies : List ℕ) (points : Lis
   abbrev numbers : (d : ℕ) → Tree (whole d) → Reading → ℕ → List ℕ
   numbers d t p m = numbersOf (rowAt d c t p m)
 
-  -- b is the box of the node of height m, whichever tree stands
-  abbrev pub Boxes : ℕ → BoundingBox → Type 0
-  Boxes m b = (d : ℕ) (t : Tree (whole d)) (p : Reading) → In d t p → At d c p t m b
-
   pub record Going (m : ℕ) (b : BoundingBox) (lent rows : List (List ℕ)) : Type 0 where
     pub some : 0 < m
     pub within : m ≤ len
     pub room : len ≤ length lent
     pub long : length rows ≡ length lent
-    pub box : k ≤ field path (len - m) 0 → Boxes (m - 1) b
+    pub box : k ≤ field path (len - m) 0 → field path (len - m) 0 < c → BoxOf c k (field path (len - m) 0) nodes points boxes b
     pub written : (d : ℕ) (t : Tree (whole d)) (p : Reading) → In d t p → rows ≡ front (numbers d t p) m lent
 
-  -- the box of the node o, of height m and in row i of the path: the one kept where it is cached, else the one given
-  abbrev pub boxOr : ℕ → BoundingBox → BoundingBox
-  boxOr o b = record { «min_values» = endOr k o (lowIn boxes o) (b .«min_values»); «max_values» = endOr k o (highIn boxes o) (b .«max_values») }
+  -- at the branch of height m, the node below it on the walk and that one's sibling; c′ is the capacity too
+  module _ {d : ℕ} {t : Tree (whole d)} {p : Reading} (w : In d t p) (m : ℕ) (z : 0 < m) (h : m < len) (c′ : ℕ) (e : c′ ≡ c) (below : ℕ) (f : below ≡ field path (len - m) 0) (side : ℕ) (g : side ≡ getD (getD path (len - 1 - (m - 1)) []) 1 0) where
+    side-is : side ≡ id (whole d) c (sibling (whole d) t (m - 1) p)
+    side-is = g ∙ sibling-is d c p t path len (m - 1) (w .walked .count) (w .walked .is-trail) (omega arith)
 
-  read-box : (i m : ℕ) → i + m + 1 ≡ len → (o : ℕ) → o ≡ field path i 0 → (b : BoundingBox) → (k ≤ o → Boxes m b) → Boxes m (boxOr o b)
-  read-box i m e o f b B d t p w =
-      by-test (ltb o k) (λ x. Nodes.cached-at w i m e o f (ltb→lt o k (yes x)) (boxOr o b) (cond-true _ _ _ x) (cond-true _ _ _ x)) (λ x. rw x (B (nltb→le o k (no x)) d t p w))
+    pub both-stand : SomeBoxed c′ k below nodes points boxes × SomeBoxed c′ k side nodes points boxes
+    both-stand = rw e (
+      Nodes.some-node w (len - m) (m - 1) (omega arith) below f,
+      some-sibling d c p k nodes points boxes (m - 1) t (omega (arith, w .walked .count)) (w .boxed) side side-is (apart-once d c t (w .stored .apart)),
+    )
 
-  -- the box of the node of height m, from that of the node below it on the walk and its sibling
-  module _ (m : ℕ) (z : 0 < m) (h : m < len) (node : ℕ) (f : node ≡ getD (getD path (len - 1 - (m - 1)) []) 1 0) where
-    side : {d : ℕ} {t : Tree (whole d)} {p : Reading} → In d t p → node ≡ id (whole d) c (sibling (whole d) t (m - 1) p)
-    side {d} {t} {p} w = f ∙ sibling-is d c p t path len (m - 1) (w .walked .count) (w .walked .is-trail) (omega arith)
+    -- the box of the node below, where it is not at hand
+    pub below-box : (b : BoundingBox) → (k ≤ field path (len - m) 0 → field path (len - m) 0 < c → BoxOf c k (field path (len - m) 0) nodes points boxes b)
+        → (leb c′ below || ltb below k) ≡ false → BoxOf c′ k below nodes points boxes b
+    below-box b B = rw (e, f) (λ x. B (not-kept c k (field path (len - m) 0) x) (hand-false c k (field path (len - m) 0) x))
 
-    pub some-side : {d : ℕ} {t : Tree (whole d)} {p : Reading} → In d t p → (c′ : ℕ) → c′ ≡ c → SomeBoxed c′ k node nodes points boxes
-    some-side {d} {t} {p} w c′ e = rw e (some-sibling d c p k nodes points boxes (m - 1) t (omega (arith, w .walked .count)) (w .boxed) node (side w) (apart-once d c t (w .stored .apart)))
-
-    grown-box : (b b′ : BoundingBox) → Boxes (m - 1) b → GrownBy c k node nodes points boxes b b′ → Boxes m b′
-    grown-box b b′ B g d t p w =
-        let e : suc (m - 1) ≡ m = omega arith in
-        subst (λ n. At d c p t n b′) e (grow-up d c p k nodes points boxes (m - 1) t (omega (arith, w .walked .count)) (w .boxed) node (side w) b b′ (B d t p w) g)
-
-    -- the same box, as `ends_above` gives it from that of the node below; c′ is the capacity too
-    pub box-above : (c′ : ℕ) → c′ ≡ c → (o : ℕ) → o ≡ field path (len - m) 0 → (b b′ : BoundingBox) → (k ≤ field path (len - m) 0 → Boxes (m - 1) b) → GrownBy c′ k node nodes points boxes (boxOr o b) b′ → Boxes m b′
-    box-above c′ e o g b b′ B q = grown-box (boxOr o b) b′ (read-box (len - m) (m - 1) (omega arith) o g b (λ l. B (omega (arith, g)))) (rw e at q)
+    -- the branch's own
+    pub branch-box : (o : ℕ) → o ≡ field path (len - 1 - m) 0 → (b : BoundingBox) → PairBox c′ k below side nodes points boxes b → BoxOf c k o nodes points boxes b
+    branch-box o n b F =
+        let up : suc (m - 1) ≡ m = omega arith in
+        let F′ = rw (e, Nodes.is-node w (len - m) (m - 1) (omega arith) below f, side-is) at F in
+        let own : o ≡ id (whole d) c (sub (whole d) t (suc (m - 1)) p) = Nodes.is-node w (len - 1 - m) m (omega arith) o n ∙ ap (λ y. id (whole d) c (sub (whole d) t y p)) (sym up) in
+        sides-box c k o nodes points boxes (Nodes.node-small w (len - 1 - m) m (omega arith) o n z) b (rw own (pair-sides d c k nodes points boxes b (m - 1) p t (w .boxed .links) (omega (arith, w .walked .count)) F′))
 
   -- box and query are coordinates
-  pub box-readings : (m : ℕ) (b : BoundingBox) → Boxes m b → {d : ℕ} {t : Tree (whole d)} {p : Reading} → In d t p → Readings (b .«min_values») (b .«max_values») point width
-  box-readings m b B {d} {t} {p} w = let a = B d t p w in rw (a .low, a .high, w .row) (are-readings (tree-box d (sub (whole d) t m p)) p)
+  pub box-readings : (i m : ℕ) → i + m + 1 ≡ len → (o : ℕ) → o ≡ field path i 0 → (b : BoundingBox) → BoxOf c k o nodes points boxes b → {d : ℕ} {t : Tree (whole d)} {p : Reading} → In d t p → Readings (b .«min_values») (b .«max_values») point width
+  box-readings i m e o f b B {d} {t} {p} w = let a = Nodes.node-box w i m e o f b B in rw (a .low, a .high, w .row) (are-readings (tree-box d (sub (whole d) t m p)) p)
 
   -- THE LOOP: its start, when the row of the leaf is written, whose point index is j and whose id is o
   module _ (lent : List (List ℕ)) (room : len ≤ length lent) (some : 0 < len) (x : List ℕ) where
     pub going-starts : (i : ℕ) → i + 0 + 1 ≡ len → (o : ℕ) → o ≡ field path i 0 → (j : ℕ) → ((d : ℕ) (t : Tree (whole d)) (p : Reading) → Walked d c path len t p → j ≡ ending (whole d) t p .index)
         → (y : ℕ) → y ≡ massAt c nodes copies o → x ≡ o ∷ i ∷ y ∷ toBits binary64 (cond (sameRow (getD points j []) point) nought one) ∷ []
-        → (b : BoundingBox) → Boxes 0 b → Going 1 b (set lent 0 x) (set lent 0 x)
+        → (b : BoundingBox) → {d : ℕ} {t : Tree (whole d)} {p : Reading} → In d t p → Going 1 b (set lent 0 x) (set lent 0 x)
     unfolding tab
-    going-starts i e o f j l y g r b B = record {
+    going-starts i e o f j l y g r b u = record {
       some = omega arith;
       within = some;
       room = omega (arith, length-set lent 0 x);
       long = refl;
-      box = λ _. B;
+      box = λ _ n. absurd (omega (arith, Nodes.leaf-large u (len - 1) 0 (omega arith) _ refl refl));
       written = λ d t p w.
           ap (set lent 0) (r ∙ Nodes.row-is w i 0 e o f y _ g (Nodes.leaf-chance w j (l d t p (w .walked)))) ∙ front-next [] (numbers d t p) 0 lent (omega arith)
           ∙ ap (λ y. numbers d t p 0 ∷ y) (sym (drop-set-lt 1 lent 0 x (omega arith)));
@@ -114,24 +116,23 @@ module _ (c k : ℕ) (nodes : List (List ℕ)) (copies : List ℕ) (points : Lis
         ∙ ap (λ y. y ++ drop len lent) (ap (λ n. tab n (numbers d t p)) e ∙ sym (map-tab numbersOf (walk (whole d) t p) (rowAt d c t p)))
 
   -- the way on by the row of the branch of height m, whose id is o, o′ too, and whose box is b′ unless it is cached
-  module _ (chances : List Float) (K : Chanced k boxes point path len chances) (m : ℕ) (b : BoundingBox) (lent rows : List (List ℕ)) (G : Going m b lent rows) (h : m < len) (i : ℕ) (e : i + m + 1 ≡ len) (o′ : ℕ) (f′ : o′ ≡ field path i 0) (b′ : BoundingBox) (B : k ≤ o′ → Boxes m b′) where
+  module _ (chances : List Float) (K : Chanced k boxes point path len chances) (m : ℕ) (b : BoundingBox) (lent rows : List (List ℕ)) (G : Going m b lent rows) (h : m < len) (i : ℕ) (e : i + m + 1 ≡ len) (o′ : ℕ) (f′ : o′ ≡ field path i 0) (b′ : BoundingBox) (B : k ≤ o′ → BoxOf c k o′ nodes points boxes b′) where
     chance-is : (v : Float) → v ≡ cond (ltb o′ k) (getD chances i nan) (probability (b′ .«min_values») (b′ .«max_values») point width) → {d : ℕ} {t : Tree (whole d)} {p : Reading} → In d t p → v ≡ chance d c (sub (whole d) t m p) p
     chance-is v r {d} {t} {p} w = r ∙ by-test (ltb o′ k)
         (λ x.
         let l = ltb→lt o′ k (yes x) in
         cond-true _ _ _ x ∙ rw (← f′) at (K i (omega (arith, G .some)) (omega (arith, f′))) ∙ Nodes.chance-at w i m e (G .some) (record { «min_values» = lowIn boxes o′; «max_values» = highIn boxes o′ }) (Nodes.cached-at w i m e o′ f′ l _ refl refl))
-        (λ x. cond-false _ _ _ x ∙ Nodes.chance-at w i m e (G .some) b′ (B (nltb→le o′ k (no x)) d t p w))
+        (λ x. cond-false _ _ _ x ∙ Nodes.chance-at w i m e (G .some) b′ (Nodes.node-box w i m e o′ f′ b′ (B (nltb→le o′ k (no x)))))
 
     pub going-on : (o : ℕ) → o ≡ field path i 0 → (y : ℕ) → y ≡ massAt c nodes copies o → (v : Float) → v ≡ cond (ltb o′ k) (getD chances i nan) (probability (b′ .«min_values») (b′ .«max_values») point width)
         → (x : List ℕ) → x ≡ o ∷ i ∷ y ∷ toBits binary64 v ∷ [] → Going (m + 1) b′ lent (set rows m x)
     going-on o f y g v q x r =
-        let back : m + 1 - 1 ≡ m = omega arith in
         let row : len - (m + 1) ≡ i = omega arith in
         record {
           some = omega arith;
           within = omega arith;
           room = G .room;
           long = length-set rows m x ∙ G .long;
-          box = rw (back, row, ← f′) B;
+          box = rw (row, ← f′) (λ l _. B l);
           written = λ d t p w. rw (add-one m, G .written d t p w, r ∙ Nodes.row-is w i m e o f y v g (chance-is v q w)) (front-next [] (numbers d t p) m lent (omega (arith, G .room)));
         }

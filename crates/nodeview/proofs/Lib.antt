@@ -1,6 +1,7 @@
 pub mod Fronts
 pub mod Walking
 pub mod Nodes
+pub mod Pairs
 pub mod Going
-pub mod Reports
 pub mod Chances
+pub mod Reports

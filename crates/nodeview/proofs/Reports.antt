@@ -16,16 +16,17 @@ use Rattle.cuttree.specs.Run.{World}
 use Rattle.cuttree.proofs.Tests.{by-test, cond-true, cond-false}
 use Rattle.wholetree.specs.Reading.{Reading, padded, reading}
 use Rattle.wholetree.specs.Whole.{whole, allCoordinates}
-use Rattle.wholetree.proofs.Readings.{tab-length, reading-row}
+use Rattle.wholetree.proofs.Readings.{tab-length, padded-length, reading-row}
 use Rattle.layout.specs.Stands.{trail}
 use Rattle.pointstore.specs.Puts.{pointRefusal}
 use Rattle.walk.specs.Walks.{Walks, Walked}
 use Rattle.boxstore.specs.Boxed.{Boxed}
+use Rattle.rowboxes.specs.Rows.{PaddedRow, PaddedBoxes}
 use Rattle.treestore.specs.Arrays.{Lent}
 use Rattle.randomcuttree.specs.declared.RCFTree.{RCFTree}
 use Rattle.randomcuttree.specs.State.{State}
 use Rattle.randomcuttree.proofs.Parts.{dimensions-are, capacity-is, cached-is, cached-few}
-use Rattle.randomcuttree.proofs.Given.{stored, walks-of, boxed}
+use Rattle.randomcuttree.proofs.Given.{stored, walks-of, boxed, table-padded, boxes-padded as slots-padded}
 use Rattle.randomcuttree.proofs.Calls.{no-tree}
 use Rattle.nodeview.specs.declared.ReportAnswer.{ReportAnswer}
 use Rattle.nodeview.specs.declared.ReportAnswer.the-variants.{Rows, NoReport}
@@ -33,6 +34,7 @@ use Rattle.nodeview.specs.Report.{ReportRefusal, fewRows, treeEmpty, coo
 use Rattle.nodeview.specs.Told.{numbersOf, reportSays, rowsAfter, ReportRead, Reported}
 use Rattle.nodeview.specs.Walking.{Chanced, Unchanced, treeWalked, Left, SomeWalking}
 use Rattle.nodeview.specs.Writing.{Writing, SomeWriting, Writes}
+use Rattle.nodeview.proofs.Chances.{narrow-point}
 
 -- what is wrong with a given point, or nothing
 by-point : {P : Type 0} (d : ℕ) (xs : List Float) → (eqb (length xs) d ≡ false → pointRefusal d xs ≡ 6 → P) → (eqb (length xs) d ≡ true → allCoordinates xs ≡ false → pointRefusal d xs ≡ 7 → P)
@@ -102,8 +104,26 @@ module _ {d c : ℕ} {s : Float} {W : World (whole d)} {tree : RCFTree} {a : Len
         boxes-stand : Boxed d (tree .capacity) (tree .cached) nodes points boxes t
         boxes-stand = rw (capacity-is H, cached-is H, ← E .nodes-are, ← E .boxes-are) (boxed H T)
 
-        pub some-walking : (tree .capacity ≤ capacityLimit) × SomeWalking (tree .capacity) (tree .cached) nodes cuts boxes point (tree .root)
-        some-walking = (rw (capacity-is H) (H .limits .3), record { channels = d; tree = t; reading = p; points = points; walks = walks; boxed = boxes-stand })
+        row-padded : PaddedRow d point
+        row-padded = record { whole-row = ap length row ∙ padded-length width xs; rest = rw point-is (narrow-point d xs (taken .0) (taken .1)) }
+
+        boxes-padded : PaddedBoxes d boxes
+        boxes-padded = rw (E .boxes-are) at (slots-padded H T)
+
+        pub some-walking : (tree .capacity ≤ capacityLimit) × SomeWalking (tree .dimensions) (tree .capacity) (tree .cached) nodes cuts boxes point (tree .root)
+        some-walking = (
+          rw (capacity-is H) (H .limits .3),
+          rw (dimensions-are H) (record {
+            tree = t;
+            reading = p;
+            points = points;
+            walks = walks;
+            boxed = boxes-stand;
+            narrow = H .limits .1;
+            point-padded = row-padded;
+            boxes-padded = boxes-padded;
+          }),
+        )
 
         -- ---- its walk
         module _ (path : List (List ℕ)) (n : ℕ) (w : (d : ℕ) (t : Tree (whole d)) (p : Reading) → Walks d (tree .capacity) nodes cuts point (tree .root) t p → Walked d (tree .capacity) path n t p) where
@@ -124,15 +144,24 @@ module _ {d c : ℕ} {s : Float} {W : World (whole d)} {tree : RCFTree} {a : Len
             writing : Writing d (tree .capacity) (tree .cached) nodes copies points boxes path n point t p
             writing = rw (capacity-is H, cached-is H) (record {
               cuts = cuts;
-              few = omega (arith, cached-few s c);
+              few = omega (arith, cached-few s c, H .limits .2);
               stored = rw (E .nodes-are, E .cuts-are, E .copies-are) at (stored H T);
               boxed = rw (capacity-is H, cached-is H) at boxes-stand;
               walked = walked;
               row = point-is;
             })
 
-            pub some-writing : SomeWriting (tree .capacity) (tree .cached) nodes copies points boxes path n point lent
-            some-writing = record { channels = d; tree = t; reading = p; writing = writing; room = room }
+            pub some-writing : SomeWriting (tree .dimensions) (tree .capacity) (tree .cached) nodes copies points boxes path n point lent
+            some-writing = rw (dimensions-are H) (record {
+              tree = t;
+              reading = p;
+              writing = writing;
+              narrow = H .limits .1;
+              point-padded = row-padded;
+              table-padded = table-padded H;
+              boxes-padded = boxes-padded;
+              room = room;
+            })
 
             pub told : (lent′ : List (List ℕ)) → Writes (tree .capacity) (tree .cached) nodes copies points boxes path n point lent lent′ → Done lent (Rows n) lent′
             told lent′ g =

@@ -11,7 +11,7 @@ use lib.Ieee.{Float, nan}
 use borrow.Author.Tests.{lt-ltb}
 use Rattle.limits.specs.Limits.{width, capacityLimit}
 use Rattle.readings.proofs.Tests.{yes, no}
-use Rattle.cut.specs.Laws.{Readings}
+use Rattle.cut.specs.Laws.{Readings, Padded}
 use Rattle.cuttree.specs.Tree.{Tree, id}
 use Rattle.cuttree.proofs.Nodes.{In}
 use Rattle.cuttree.proofs.Tests.{by-test, by-cond, cond-true}
@@ -28,6 +28,7 @@ use Rattle.boxstore.specs.Written.{lowIn, highIn}
 use Rattle.boxstore.proofs.Parts.{at-cached}
 use Rattle.boxstore.proofs.Standing.{boxed-in}
 use Rattle.nodeview.specs.Walking.{keptChance, Chanced, Unchanced, SomeWalking}
+use Rattle.nodeview.proofs.Nodes.{all-padded}
 
 -- the box kept for a node of a tree and the point are coordinates
 kept-readings : {d c k node : ℕ} {nodes : List (List ℕ)} {points : List (List Float)} {boxes : List (List (List Float))} {point : List Float} {u t : Tree (whole d)} (p : Reading) → node < c → node < k → node ≡ id (whole d) c u → In (whole d) u t → Boxed d c k nodes points boxes t → point ≡ p .row
@@ -37,18 +38,18 @@ kept-readings {d} {c} {k} {node} {nodes} {points} {boxes} {point} {u} p h l e i 
     rw (v .0, v .1, q) (are-readings (tree-box d u) p)
 
 -- path₀ and chances₀ are those that the loop starts with
-module _ (c k : ℕ) (nodes : List (List ℕ)) (cuts : List Float) (boxes : List (List (List Float))) (point : List Float) (root : ℕ) (path₀ : List (List ℕ)) (chances₀ : List Float) where
+module _ (channels c k : ℕ) (nodes : List (List ℕ)) (cuts : List Float) (boxes : List (List (List Float))) (point : List Float) (root : ℕ) (path₀ : List (List ℕ)) (chances₀ : List Float) where
   pub record Walking (path : List (List ℕ)) (n node : ℕ) (chances : List Float) : Type 0 where
     pub few : c ≤ capacityLimit
     pub some : 1 ≤ n
-    pub stands : SomeWalking c k nodes cuts boxes point root
+    pub stands : SomeWalking channels c k nodes cuts boxes point root
     pub reaching : (d : ℕ) (t : Tree (whole d)) (p : Reading) → Walks d c nodes cuts point root t p → Reaching c nodes cuts point d p t path n node
     pub top : field path (n - 1) 0 ≡ node
     pub rest : drop n path ≡ drop n path₀
     pub chanced : Chanced k boxes point path n chances
     pub unchanced : Unchanced k path n chances₀ chances
 
-  pub walking-starts : c ≤ capacityLimit → SomeWalking c k nodes cuts boxes point root → (path : List (List ℕ)) → length path ≡ capacityLimit → path₀ ≡ set path 0 (root ∷ noSibling ∷ []) → Walking path₀ 1 root chances₀
+  pub walking-starts : c ≤ capacityLimit → SomeWalking channels c k nodes cuts boxes point root → (path : List (List ℕ)) → length path ≡ capacityLimit → path₀ ≡ set path 0 (root ∷ noSibling ∷ []) → Walking path₀ 1 root chances₀
   walking-starts m s path l e = record {
     few = m;
     some = omega arith;
@@ -67,14 +68,17 @@ module _ (c k : ℕ) (nodes : List (List ℕ)) (cuts : List Float) (boxes : List
 
     -- at a branch
     module _ (h : node < c) where
-      abbrev here : Reaching c nodes cuts point (G .stands .channels) (G .stands .reading) (G .stands .tree) path n node
+      abbrev here : Reaching c nodes cuts point channels (G .stands .reading) (G .stands .tree) path n node
       here = G .reaching _ _ _ (G .stands .walks)
 
-      pub this : Turn c nodes cuts point (G .stands .channels) (G .stands .reading) (G .stands .tree) path n node
+      pub this : Turn c nodes cuts point channels (G .stands .reading) (G .stands .tree) path n node
       this = turn c nodes cuts point _ _ _ path n node (G .few) (G .stands .walks .point-is) here h
 
       pub node-readings : node < k → Readings (lowIn boxes node) (highIn boxes node) point width
       node-readings l = kept-readings (G .stands .reading) h l (here .node-is) (here .inside) (G .stands .boxed) (G .stands .walks .point-is)
+
+      pub node-padded : node < k → Padded (lowIn boxes node) (highIn boxes node) point channels width
+      node-padded l = all-padded channels _ point (G .stands .narrow) (G .stands .boxes-padded .slots node (omega (arith, this .small, G .few))) (G .stands .point-padded)
 
       -- the next row is written, and the chance of this branch is kept
       module _ (s : List ℕ) (e : s ≡ stepOf nodes cuts point node) (chances′ : List Float) (l : length chances ≡ capacityLimit) (f : chances′ ≡ cond (ltb node k) (set chances (n - 1) (keptChance boxes node point)) chances) where

@@ -3,7 +3,7 @@ use mathlib.Core.Path.{_≡_}
 use mathlib.Core.Bool.{cond}
 use mathlib.Core.Option.{Option, none, some}
 use mathlib.Core.List.{List, _++_}
-use Prim.Native.Nat.{ℕ, _+_, _<_}
+use Prim.Native.Nat.{ℕ, _+_, _≤_, _<_}
 use lib.ListN.{length, getD, drop}
 use lib.Ieee.{Float, nan}
 use Rattle.limits.specs.Limits.{width}
@@ -17,6 +17,7 @@ use Rattle.layout.specs.Stands.{trail}
 use Rattle.walk.specs.Walks.{Walks}
 use Rattle.boxstore.specs.Boxed.{Boxed}
 use Rattle.boxstore.specs.Written.{lowIn, highIn}
+use Rattle.rowboxes.specs.Rows.{PaddedRow, PaddedBoxes}
 use Rattle.treestore.specs.Arrays.{Lent}
 use Rattle.randomcuttree.specs.declared.RCFTree.{RCFTree}
 use Rattle.randomcuttree.specs.State.{State}
@@ -35,14 +36,16 @@ pub record Unchanced (k : ℕ) (path : List (List ℕ)) (n : ℕ) (chances chanc
   pub as-many : length chances′ ≡ length chances
   pub others : (i : ℕ) → (i + 1 < n → field path i 0 < k → ⊥) → getD chances′ i nan ≡ getD chances i nan
 
--- some tree's rows, cuts and cached boxes stand in the arrays, and the point walks it
-pub record SomeWalking (c k : ℕ) (nodes : List (List ℕ)) (cuts : List Float) (boxes : List (List (List Float))) (point : List Float) (root : ℕ) : Type 0 where
-  pub channels : ℕ
-  pub tree : Tree (whole channels)
+-- Some tree of d channels has its rows, cuts and cached boxes in the arrays, the point walks it, and beyond these channels boxes and point hold +0.0.
+pub record SomeWalking (d c k : ℕ) (nodes : List (List ℕ)) (cuts : List Float) (boxes : List (List (List Float))) (point : List Float) (root : ℕ) : Type 0 where
+  pub tree : Tree (whole d)
   pub reading : Reading
   pub points : List (List Float)
-  pub walks : Walks channels c nodes cuts point root tree reading
-  pub boxed : Boxed channels c k nodes points boxes tree
+  pub walks : Walks d c nodes cuts point root tree reading
+  pub boxed : Boxed d c k nodes points boxes tree
+  pub narrow : d ≤ width
+  pub point-padded : PaddedRow d point
+  pub boxes-padded : PaddedBoxes d boxes
 
 -- ---- the lent path and the chances after a report
 -- the tree that is walked: none where the coordinates are refused (6 or 7), or the tree is empty (12); where too few rows are lent (15), it is walked

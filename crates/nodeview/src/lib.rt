@@ -10,16 +10,18 @@ use limits::Path;
 use limits::Points;
 use limits::Row;
 use randomcuttree::RCFTree;
+use rowboxes::Ends;
+use rowboxes::Sizes;
 ghost use mathlib.Core.Path.{_≡_};
 ghost use Prim.Native.Nat.{ℕ, _≤_, _<_};
-ghost use mathlib.Core.Bool.{cond};
+ghost use mathlib.Core.Bool.{false, cond, _||_};
 ghost use mathlib.Core.List.{[], _∷_};
-ghost use lib.Dec.{ltb};
-ghost use lib.ListN.{length, drop, set};
+ghost use lib.Dec.{leb, ltb};
+ghost use lib.ListN.{length, getD, drop, set};
 ghost use lib.Ieee.{binary64, toBits};
 ghost use Rattle.limits.specs.Limits.{width, capacityLimit, branchLimit};
 ghost use Rattle.readings.specs.Number.{nought};
-ghost use Rattle.cut.specs.Laws.{Readings};
+ghost use Rattle.cut.specs.Laws.{Readings, Padded};
 ghost use Rattle.cut.specs.Sums.{one};
 ghost use Rattle.probability.specs.Probability.{probability};
 ghost use Rattle.cuttree.specs.Tree.{Tree};
@@ -27,11 +29,13 @@ ghost use Rattle.wholetree.specs.Reading.{Reading, sameRow};
 ghost use Rattle.wholetree.specs.Whole.{whole};
 ghost use Rattle.walk.specs.Walks.{Walks, Walked};
 ghost use Rattle.boxstore.specs.Boxed.{SomeBoxed};
-ghost use Rattle.boxstore.specs.Grown.{EndsGrownBy};
+ghost use Rattle.boxstore.specs.Grown.{BoxOf};
 ghost use Rattle.boxstore.specs.Written.{lowIn, highIn};
 ghost use Rattle.nodeview.specs.Told.{ReportTold, SomeReportRead};
 ghost use Rattle.nodeview.specs.Walking.{keptChance, Chanced, Unchanced, MemoryLeft, SomeWalking};
-ghost use Rattle.nodeview.specs.Writing.{endOr, SomeWriting, Writes};
+ghost use Rattle.rowboxes.specs.Rows.{capacityOf, cachedOf, channelsOf, PaddedRow, PaddedTable, PaddedBoxes, PaddedEnds, boxOf};
+ghost use Rattle.branchboxes.specs.Pairs.{PairBox};
+ghost use Rattle.nodeview.specs.Writing.{SomeWriting, Writes};
 
 // The chance of each cached branch of a walk, by its depth: working memory.
 pub type Chances = [f64; CAPACITY];
@@ -51,10 +55,19 @@ fn numbers_of(id: u16, depth: usize, mass: u16, probability: f64) -> [u64; 4]
 }
 
 // The leaf's row: of its reading and the query.
-fn leaf_row(id: u16, depth: usize, mass: u16, leaf: &Row, point: &Row) -> [u64; 4]
+fn leaf_row(
+    id: u16,
+    depth: usize,
+    mass: u16,
+    leaf: &Row,
+    point: &Row,
+    dimensions: usize,
+) -> [u64; 4]
+    requires narrow { ⌜ dimensions ≤ width ⌝ }
+    requires padded { ⌜ PaddedRow dimensions (now leaf) × PaddedRow dimensions (now point) ⌝ }
     ensures { λ r. ⌜ r ≡ id ∷ depth ∷ mass ∷ toBits binary64 (cond (sameRow (now (leaf .entry)) (now (point .entry))) nought one) ∷ [] ⌝ }
 {
-    if walk::same_point(leaf, point) {
+    if walk::same_point(leaf, point, dimensions) {
         return numbers_of(id, depth, mass, 0.0);
     }
     numbers_of(id, depth, mass, 1.0)
@@ -71,9 +84,11 @@ fn keep_chance(
     boxes: &Boxes,
     point: &Row,
     cached: usize,
+    dimensions: usize,
 )
     requires low { ⌜ (depth < capacityLimit) × (branch < branchLimit) ⌝ }
     requires readings { ⌜ (branch < cached → Readings (lowIn (now boxes) branch) (highIn (now boxes) branch) (now point) width) ⌝ }
+    requires padded { ⌜ (branch < cached → Padded (lowIn (now boxes) branch) (highIn (now boxes) branch) (now point) dimensions width) ⌝ }
     ensures whole { λ _. ⌜ length (now (chances .entry)) ≡ capacityLimit ⌝ }
     ensures kept { λ _. ⌜ now (chances .exit) ≡ cond (ltb branch cached) (set (now (chances .entry)) depth (keptChance (now (boxes .entry)) branch (now (point .entry)))) (now (chances .entry)) ⌝ }
 {
@@ -85,6 +100,7 @@ fn keep_chance(
         &boxes[branch][0],
         &boxes[branch][1],
         point,
+        dimensions,
     );
 }
 
@@ -98,11 +114,12 @@ fn walk_down(
     root: u16,
     capacity: u16,
     cached: usize,
+    dimensions: usize,
     path: &mut Path,
     chances: &mut Chances,
 ) -> usize
     requires few { ⌜ capacity ≤ capacityLimit ⌝ }
-    requires stands { ⌜ SomeWalking capacity cached (now nodes) (now cuts) (now boxes) (now point) root ⌝ }
+    requires stands { ⌜ SomeWalking dimensions capacity cached (now nodes) (now cuts) (now boxes) (now point) root ⌝ }
     ensures walked { λ r. ⌜ ((d : ℕ) (t : Tree (whole d)) (p : Reading) → Walks d capacity (now (nodes .entry)) (now (cuts .entry)) (now (point .entry)) root t p → Walked d capacity (now (path .exit)) r t p) ⌝ }
     ensures rest { λ r. ⌜ drop r (now (path .exit)) ≡ drop r (now (path .entry)) ⌝ }
     ensures chances { λ r. ⌜ Chanced cached (now (boxes .entry)) (now (point .entry)) (now (path .exit)) r (now (chances .exit)) ⌝ }
@@ -115,106 +132,106 @@ fn walk_down(
         let i = wide16(node);
         let s = walk::step_at(nodes, cuts, point, i);
         path[n] = s;
-        keep_chance(chances, n - 1, i, boxes, point, cached);
+        keep_chance(chances, n - 1, i, boxes, point, cached, dimensions);
         node = s[0];
         n += 1;
     }
     n
 }
 
-// The ends kept for a node that is cached; those given stay for any other.
-fn read_ends(low: &mut Row, high: &mut Row, node: usize, boxes: &Boxes, cached: usize)
-    requires { ⌜ (node < cached → node < branchLimit) ⌝ }
-    ensures { λ _. ⌜ (now (low .exit) ≡ endOr cached node (lowIn (now (boxes .entry)) node) (now (low .entry))) × (now (high .exit) ≡ endOr cached node (highIn (now (boxes .entry)) node) (now (high .entry))) ⌝ }
-{
-    if cached <= node {
-        return;
-    }
-    *low = boxes[node][0];
-    *high = boxes[node][1];
-}
-
-// The ends of a node's box become those of the branch above it, moved out to hold the box of the node's sibling. A cached branch needs no ends, its chance
-// being kept: they are left, and its own are read for the branch above it where that is not cached.
-fn ends_above(
-    low: &mut Row,
-    high: &mut Row,
+// The ends of a branch's box, from the node below it on the walk and that node's sibling. A cached branch needs none, its chance being kept, and they are left.
+fn branch_ends<'a>(
+    ends: &mut Ends,
     branch: usize,
     below: usize,
     sibling: usize,
     nodes: &Nodes,
-    points: &Points,
-    boxes: &Boxes,
-    capacity: usize,
-    cached: usize,
+    points: &'a Points,
+    boxes: &'a Boxes,
+    sizes: &Sizes,
 )
-    requires few { ⌜ (capacity ≤ capacityLimit) × (below < cached → below < branchLimit) ⌝ }
-    requires stands { ⌜ SomeBoxed capacity cached sibling (now nodes) (now points) (now boxes) ⌝ }
-    ensures left { λ _. ⌜ (branch < cached → (now (low .exit) ≡ now (low .entry)) × (now (high .exit) ≡ now (high .entry))) ⌝ }
-    ensures grown { λ _. ⌜ (cached ≤ branch → EndsGrownBy capacity cached sibling (now (nodes .entry)) (now (points .entry)) (now (boxes .entry)) (endOr cached below (lowIn (now (boxes .entry)) below) (now (low .entry))) (endOr cached below (highIn (now (boxes .entry)) below) (now (high .entry))) (now (low .exit)) (now (high .exit))) ⌝ }
+    requires few { ⌜ (capacityOf (now sizes) ≤ capacityLimit) × (cachedOf (now sizes) ≤ branchLimit) × (channelsOf (now sizes) ≤ width) ⌝ }
+    requires stands { ⌜ SomeBoxed (capacityOf (now sizes)) (cachedOf (now sizes)) below (now nodes) (now points) (now boxes) × SomeBoxed (capacityOf (now sizes)) (cachedOf (now sizes)) sibling (now nodes) (now points) (now boxes) ⌝ }
+    requires given { ⌜ ((leb (capacityOf (now sizes)) below || ltb below (cachedOf (now sizes))) ≡ false → BoxOf (capacityOf (now sizes)) (cachedOf (now sizes)) below (now nodes) (now points) (now boxes) (boxOf (now ends))) ⌝ }
+    requires padded { ⌜ PaddedTable (channelsOf (now sizes)) (now points) × PaddedBoxes (channelsOf (now sizes)) (now boxes) × PaddedEnds (channelsOf (now sizes)) (now ends) ⌝ }
+    ensures left { λ _. ⌜ (branch < cachedOf (now (sizes .entry)) → now (ends .exit) ≡ now (ends .entry)) ⌝ }
+    ensures pair { λ _. ⌜ (cachedOf (now (sizes .entry)) ≤ branch → PairBox (capacityOf (now (sizes .entry))) (cachedOf (now (sizes .entry))) below sibling (now (nodes .entry)) (now (points .entry)) (now (boxes .entry)) (boxOf (now (ends .exit)))) ⌝ }
+    ensures padded { λ _. ⌜ PaddedEnds (channelsOf (now (sizes .entry))) (now (ends .exit)) ⌝ }
 {
-    if branch < cached {
+    if branch < sizes[1] {
         return;
     }
-    read_ends(low, high, below, boxes, cached);
-    boxstore::grow_ends(low, high, sibling, nodes, points, boxes, capacity, cached);
+    branchboxes::ends_above(ends, below, sibling, nodes, points, boxes, sizes);
 }
 
 // A branch's chance: the one worked out on the way down if it is cached, else that of the ends of its box and the query.
-fn chance_of(branch: usize, cached: usize, kept: f64, low: &Row, high: &Row, point: &Row) -> f64
-    requires { ⌜ (cached ≤ branch → Readings (now low) (now high) (now point) width) ⌝ }
-    ensures { λ r. ⌜ r ≡ cond (ltb branch cached) kept (probability (now (low .entry)) (now (high .entry)) (now (point .entry)) width) ⌝ }
+fn chance_of(
+    branch: usize,
+    cached: usize,
+    kept: f64,
+    ends: &Ends,
+    point: &Row,
+    dimensions: usize,
+) -> f64
+    requires readings { ⌜ (cached ≤ branch → Readings (getD (now ends) 0 []) (getD (now ends) 1 []) (now point) width) ⌝ }
+    requires padded { ⌜ (cached ≤ branch → Padded (getD (now ends) 0 []) (getD (now ends) 1 []) (now point) dimensions width) ⌝ }
+    ensures { λ r. ⌜ r ≡ cond (ltb branch cached) kept (probability (getD (now (ends .entry)) 0 []) (getD (now (ends .entry)) 1 []) (now (point .entry)) width) ⌝ }
 {
     if branch < cached {
         return kept;
     }
-    probability::whole_probability_of_cut(low, high, point)
+    probability::whole_probability_of_cut(&ends[0], &ends[1], point, dimensions)
 }
 
 // The rows of a walk. The box of a branch that is not cached is the box of the node below it on the walk, grown by that node's sibling.
 // Rules out rows from the root to the leaf, and a box of the walk's node grown by the wrong side.
-fn write_rows(
+fn write_rows<'a>(
     nodes: &Nodes,
     copies: &Copies,
-    points: &Points,
-    boxes: &Boxes,
+    points: &'a Points,
+    boxes: &'a Boxes,
     path: &Path,
     chances: &Chances,
     len: usize,
     point: &Row,
     capacity: u16,
     cached: usize,
+    dimensions: usize,
     rows: &mut [[u64; 4]],
 )
-    requires walk { ⌜ SomeWriting capacity cached (now nodes) (now copies) (now points) (now boxes) (now path) len (now point) (now rows) ⌝ }
+    requires walk { ⌜ SomeWriting dimensions capacity cached (now nodes) (now copies) (now points) (now boxes) (now path) len (now point) (now rows) ⌝ }
     requires chances { ⌜ Chanced cached (now boxes) (now point) (now path) len (now chances) ⌝ }
     ensures { λ _. ⌜ Writes capacity cached (now (nodes .entry)) (now (copies .entry)) (now (points .entry)) (now (boxes .entry)) (now (path .entry)) len (now (point .entry)) (now (rows .entry)) (now (rows .exit)) ⌝ }
 {
-    let c = wide16(capacity);
+    let sizes = [wide16(capacity), cached, dimensions];
     let leaf = walk::leaf_at(path, len, capacity);
     let leaf_id = walk::node_at(path, len - 1);
     let leaf_mass = nodestore::mass_of(nodes, copies, leaf_id, capacity);
-    rows[0] = leaf_row(leaf_id, len - 1, leaf_mass, &points[leaf], point);
-    let mut low = points[leaf];
-    let mut high = points[leaf];
+    rows[0] = leaf_row(
+        leaf_id,
+        len - 1,
+        leaf_mass,
+        &points[leaf],
+        point,
+        dimensions,
+    );
+    let mut ends: Ends = [*point, *point];
     let mut m: usize = 1;
     while m < len {
         let depth = len - 1 - m;
         let node = walk::node_at(path, depth);
         let branch = wide16(node);
-        ends_above(
-            &mut low,
-            &mut high,
+        branch_ends(
+            &mut ends,
             branch,
             wide16(walk::node_at(path, len - m)),
             boxstore::sibling_at(path, len, m - 1),
             nodes,
             points,
             boxes,
-            c,
-            cached,
+            &sizes,
         );
-        let chance = chance_of(branch, cached, chances[depth], &low, &high, point);
+        let chance = chance_of(branch, cached, chances[depth], &ends, point, dimensions);
         let mass = nodestore::mass_of(nodes, copies, node, capacity);
         rows[m] = numbers_of(node, depth, mass, chance);
         m += 1;
@@ -224,13 +241,13 @@ fn write_rows(
 // The report of `traverse`, with a lent path and chances to work in: whatever they hold before, and after it the walk and the chances of its cached branches,
 // each in its place. A query that is refused for its coordinates or for want of a tree leaves them; too few rows are told after the walk.
 // Rules out a path written for a query that is refused for its coordinates, and a chance put beyond the walk's depth.
-pub fn traverse_in(
+pub fn traverse_in<'a>(
     tree: RCFTree,
     nodes: &Nodes,
     cuts: &Cuts,
     copies: &Copies,
-    points: &Points,
-    boxes: &Boxes,
+    points: &'a Points,
+    boxes: &'a Boxes,
     query: &[f32],
     rows: &mut [[u64; 4]],
     path: &mut Path,
@@ -256,6 +273,7 @@ pub fn traverse_in(
         tree.root,
         tree.capacity,
         tree.cached,
+        tree.dimensions,
         path,
         chances,
     );
@@ -273,6 +291,7 @@ pub fn traverse_in(
         &point,
         tree.capacity,
         tree.cached,
+        tree.dimensions,
         rows,
     );
     ReportAnswer::Rows(n)
@@ -281,13 +300,13 @@ pub fn traverse_in(
 // The report of a query: a row for each node of its walk, from the leaf to the root, written to the lent rows; or a refusal, in document 01's order, and
 // nothing written.
 // Rules out depths counted from the leaf, and a row written before too few are told.
-pub fn traverse(
+pub fn traverse<'a>(
     tree: RCFTree,
     nodes: &Nodes,
     cuts: &Cuts,
     copies: &Copies,
-    points: &Points,
-    boxes: &Boxes,
+    points: &'a Points,
+    boxes: &'a Boxes,
     query: &[f32],
     rows: &mut [[u64; 4]],
 ) -> ReportAnswer

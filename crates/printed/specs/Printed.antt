@@ -21,9 +21,9 @@ module _ (d c : ℕ) where
   printedTree none = namesLine
   printedTree (some t) = namesLine ++ linesOf t
 
--- what a tree prints at most, 12,802 bytes: a line of names of 33, lines of branches of 31 and of leaves of 19 (`printed-few` of crate `listing`)
+-- what a tree prints at most, 13,057 bytes: a line of names of 33, lines of branches of 32 and of leaves of 19 (`printed-few` of crate `listing`)
 abbrev pub nodesLimit : ℕ
-nodesLimit = branchLimit * 31 + capacityLimit * 19
+nodesLimit = branchLimit * 32 + capacityLimit * 19
 
 abbrev pub treeLimit : ℕ
 treeLimit = 33 + nodesLimit

@@ -5,6 +5,7 @@ use mathlib.Core.List.{List}
 use mathlib.Core.Bool.{Bool, false, _&&_}
 use Prim.Native.Nat.{ℕ, zero, suc, _*_, _%_, _^_, _≤_, _<_, _+_, zero-le}
 use native.Mathlib.Nat.{le-trans, le-of-eq, le-suc, le-refl, le-of-lt, lt-of-lt-of-le, not-le-of-lt, le-of-suc-le-suc, le-antisymm, eq-or-lt-of-le, zero-lt-suc, lt-irrefl, zero-mul, mul-one, mul-assoc, add-zero, mul-pos, mul-le-mul-left}
+use native.Mathlib.Omega.{arith}
 use lib.Dec.{T, ltb, leb, eqb, ltb→lt, leb→le, nleb→lt}
 use lib.IntN.{ℤ, pos, negsuc}
 use lib.Pow.{pow-add, pow-pos, shl-lt}
@@ -18,9 +19,11 @@ use Rattle.readings.proofs.Tests.{yes, no}
 use Rattle.readings.proofs.Values.{add-value, sum-plus, zero-value}
 use Rattle.boundingbox.specs.Padding.{Padded}
 use Rattle.boundingbox.proofs.Padding.{padded-range}
+use Rattle.boundingbox.proofs.Sums.{sum-padded}
+use Rattle.cut.specs.Laws.{Padded as PaddedRows}
 use Rattle.cut.proofs.Padding.{fewer}
 use Rattle.probability.specs.Probability.{pastBy, total32, pastSum, partOf, probability}
-use Rattle.probability.specs.Laws.{PaddingAddsNothing}
+use Rattle.probability.specs.Laws.{S, W, PaddingAddsNothing}
 use Rattle.probability.proofs.Near.{Coordinates, past-near}
 
 -- ---- +0.0 added to an f32 that is a whole number changes nothing
@@ -86,3 +89,11 @@ padding-adds-nothing d n lo hi p Z R =
     let above = same-from p hi d n few (R .point) (R .box .upper) (Z .point) (Z .high) n (Z .fewer) (le-refl n) in
     let below = same-from lo p d n few (R .box .lower) (R .point) (Z .low) (Z .point) n (Z .fewer) (le-refl n) in
     ap₂ partOf (ap₂ (add binary32) above below) (padded-range lo hi d n few (Z .fewer) (Z .low) (Z .high) (fewer d n lo hi p (Z .fewer) R .box))
+
+-- ---- whole-number sums, which go on by 0 alone
+module _ (d n : ℕ) (lo hi p : List Float) (Z : PaddedRows lo hi p d n) (m : ℕ) (h : d ≤ m) (k : m ≤ n) where
+  pub sides-pad : W lo hi m ≡ W lo hi n
+  sides-pad = sym (sum-padded _ m n k (λ i a b. rw (Z .low i (le-trans h a) b, Z .high i (le-trans h a) b) (omega arith)))
+
+  pub outside-pad : S lo hi p m ≡ S lo hi p n
+  outside-pad = sym (sum-padded _ m n k (λ i a b. rw (Z .low i (le-trans h a) b, Z .high i (le-trans h a) b, Z .point i (le-trans h a) b) (omega arith)))

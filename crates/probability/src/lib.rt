@@ -4,16 +4,18 @@ use limits::CHANNELS;
 use limits::Row;
 ghost use mathlib.Core.Path.{_≡_};
 ghost use mathlib.Core.Bool.{false};
-ghost use Prim.Native.Nat.{_-_, _≤_, max};
-ghost use lib.Dec.{T};
+ghost use Prim.Native.Nat.{_+_, _≤_, max};
 ghost use lib.Ieee.{binary64, round};
 ghost use Rattle.limits.specs.Limits.{width};
-ghost use Rattle.readings.specs.Coordinate.{isCoordinate, rank};
 ghost use Rattle.boundingbox.specs.Ends.{channel};
 ghost use Rattle.boundingbox.specs.Wholes.{Box, side, sumTo};
 ghost use Rattle.cut.specs.Draw.{lowEnd, highEnd};
-ghost use Rattle.cut.specs.Laws.{Readings};
+ghost use Rattle.cut.specs.Laws.{Readings, Padded};
 ghost use Rattle.probability.specs.Probability.{pastBy, outside, probability};
+ghost use Rattle.probability.specs.Laws.{S, W};
+
+// Up to this every whole number is an f32.
+const EXACT: u32 = 16777216;
 
 // The chance that a cut of the box with the point in it parts the two: what lies outside over the sides and it, 0 where nothing does.
 // Rules out what lies above measured from the lower ends, and a quotient by the sides alone, which passes 1.
@@ -57,55 +59,75 @@ fn past_by(x: f32, y: f32) -> f32
     if x - y > 0.0 { x - y } else { 0.0 }
 }
 
-// The same chance, of a box and a point of coordinates, from its ends where they lie. All sides are whole numbers: what lies outside is what the sides grow by as
-// the point is taken in, and integers are added up side by side, where the sums above wait for one addition after another. In so few channels the f32 sum is this integer.
+// The same chance, of a box and a point of coordinates, from its ends where they lie, and no further than a tree's channels in blocks of 8: beyond them all is +0.0.
+// All sides are whole numbers: what lies outside is what the sides grow by as the point is taken in, and integers are added up side by side, where the sums above
+// wait for one addition after another. Up to 8 channels the f32 sum is this integer, and no test is made.
 // Where the box holds the point nothing lies outside, and 0 over any whole number from 1 on is 0: no branch has to be guessed.
 // Rules out what lies outside over the sides without it, and a division by zero at a box that is the point.
-pub fn whole_probability_of_cut(low: &Row, high: &Row, point: &Row) -> f64
-    requires { ⌜ Readings (now low) (now high) (now point) width ⌝ }
+pub fn whole_probability_of_cut(low: &Row, high: &Row, point: &Row, dimensions: usize) -> f64
+    requires readings { ⌜ Readings (now low) (now high) (now point) width ⌝ }
+    requires padded { ⌜ Padded (now low) (now high) (now point) dimensions width ⌝ }
     ensures { λ r. ⌜ r ≡ probability (now (low .entry)) (now (high .entry)) (now (point .entry)) width ⌝ }
 {
-    let all = stretched_sum(low, high, point);
-    let sides = side_sum(low, high);
-    part_of(all - sides, all)
+    if dimensions <= 8 {
+        let all = stretched_to(low, high, point, 8);
+        let sides = sides_to(low, high, 8);
+        return part_of(all - sides, all);
+    }
+    if dimensions <= 16 {
+        let all = stretched_to(low, high, point, 16);
+        let sides = sides_to(low, high, 16);
+        return part_or_rounded(all - sides, all, low, high, point);
+    }
+    let all = stretched_to(low, high, point, CHANNELS);
+    let sides = sides_to(low, high, CHANNELS);
+    part_or_rounded(all - sides, all, low, high, point)
 }
 
-// The sum of the sides.
-fn side_sum(low: &Row, high: &Row) -> u32
-    requires { ⌜ Box (channel (now low)) (channel (now high)) width ⌝ }
-    ensures { λ r. ⌜ r ≡ sumTo (side (channel (now (low .entry))) (channel (now (high .entry)))) width ⌝ }
+// The integers divided where the part is an f32, else the chance of the sums as the Rust adds them up, which may be rounded.
+fn part_or_rounded(part: u32, all: u32, low: &Row, high: &Row, point: &Row) -> f64
+    requires readings { ⌜ Readings (now low) (now high) (now point) width ⌝ }
+    requires sums { ⌜ (part ≡ S (now low) (now high) (now point) width) × (all ≡ W (now low) (now high) width + S (now low) (now high) (now point) width) ⌝ }
+    ensures { λ r. ⌜ r ≡ probability (now (low .entry)) (now (high .entry)) (now (point .entry)) width ⌝ }
+{
+    if part <= EXACT {
+        return part_of(part, all);
+    }
+    let bounding_box = BoundingBox {
+        min_values: *low,
+        max_values: *high,
+    };
+    probability_of_cut(bounding_box, point)
+}
+
+// The sum of the first n sides.
+fn sides_to(low: &Row, high: &Row, n: usize) -> u32
+    requires { ⌜ (Box (channel (now low)) (channel (now high)) width) × (n ≤ width) ⌝ }
+    ensures { λ r. ⌜ r ≡ W (now (low .entry)) (now (high .entry)) n ⌝ }
 {
     let mut sum: u32 = 0;
     let mut i: usize = 0;
-    while i < CHANNELS {
-        sum = sum + whole_side(low[i], high[i]);
+    while i < n {
+        sum = sum + boundingbox::whole_side(low[i], high[i]);
         i += 1;
     }
     sum
 }
 
-// The sum of the sides of the box with the point in it.
-fn stretched_sum(low: &Row, high: &Row, point: &Row) -> u32
-    requires { ⌜ Readings (now low) (now high) (now point) width ⌝ }
-    ensures { λ r. ⌜ r ≡ sumTo (side (lowEnd (now (low .entry)) (now (point .entry))) (highEnd (now (high .entry)) (now (point .entry)))) width ⌝ }
+// The sum of the first n sides of the box with the point in it.
+fn stretched_to(low: &Row, high: &Row, point: &Row, n: usize) -> u32
+    requires { ⌜ (Readings (now low) (now high) (now point) width) × (n ≤ width) ⌝ }
+    ensures { λ r. ⌜ r ≡ sumTo (side (lowEnd (now (low .entry)) (now (point .entry))) (highEnd (now (high .entry)) (now (point .entry)))) n ⌝ }
 {
     let mut sum: u32 = 0;
     let mut i: usize = 0;
-    while i < CHANNELS {
+    while i < n {
         let lower = boundingbox::least_of(low[i], point[i]);
         let upper = boundingbox::greatest_of(high[i], point[i]);
-        sum = sum + whole_side(lower, upper);
+        sum = sum + boundingbox::whole_side(lower, upper);
         i += 1;
     }
     sum
-}
-
-// The side from a to b as an integer. The cast to i32 is one instruction for four floats, that to u32 is not.
-fn whole_side(a: f32, b: f32) -> u32
-    requires { ⌜ (T (isCoordinate a)) × (T (isCoordinate b)) × (rank a ≤ rank b) ⌝ }
-    ensures { λ r. ⌜ r ≡ rank b - rank a ⌝ }
-{
-    ((b - a) as i32) as u32
 }
 
 // A part over all, in one rounded division; over 1 where there is nothing.

@@ -106,7 +106,7 @@ module _ {d c : ℕ} {s : Float} {W : World (whole d)} {tree : RCFTree} {a : Len
         T : W .tree ≡ some t
         T = Calls.a-tree H some-held .1
 
-        module _ {before path : List (List ℕ)} {f : Found} (F : Finds (tree .capacity) (tree .root) (a .nodes) (a .cuts) points i before f path) where
+        module _ {before path : List (List ℕ)} {f : Found} (F : Finds (tree .dimensions) (tree .capacity) (tree .root) (a .nodes) (a .cuts) points i before f path) where
           found-in : FoundIn d c t p before f path
           found-in = Calls.found-in H T m P F
 
@@ -171,17 +171,18 @@ module _ {d c : ℕ} {s : Float} {W : World (whole d)} {tree : RCFTree} {a : Len
                       number-fresh = fresh .1;
                       index-fresh = at-none (whole d) (λ n. n) t i (index-absent (whole d) c (whole-laws d) (W .table) t (W .free) S i p P absent);
                       index-small = m;
+                      index-row = walking .row;
                       enough = enough;
                     }
 
-                pub some-entering : SomeEntering (tree .capacity) (tree .cached) (tree .root) (tree .manager) a points path (f .walk) (f .leaf) i ws (getD points i [])
-                some-entering = subst (λ (x : RCFTree). SomeEntering (x .capacity) (x .cached) (x .root) (x .manager) a points path (f .walk) (f .leaf) i ws (getD points i [])) (sym (H .header-is))
-                    (record { channels = d; tree = t; free = W .free; reading = p; entering = entering })
+                pub some-entering : SomeEntering (tree .dimensions) (tree .capacity) (tree .cached) (tree .root) (tree .manager) a points path (f .walk) (f .leaf) i ws (getD points i [])
+                some-entering = subst (λ (x : RCFTree). SomeEntering (x .dimensions) (x .capacity) (x .cached) (x .root) (x .manager) a points path (f .walk) (f .leaf) i ws (getD points i [])) (sym (H .header-is))
+                    (record { tree = t; free = W .free; reading = p; entering = entering })
 
-                pub inserted : (r : Entered) (b : Lent) → Enters (tree .capacity) (tree .cached) (tree .root) (tree .manager) a points path (f .walk) (f .leaf) i ws (getD points i []) r b
+                pub inserted : (r : Entered) (b : Lent) → Enters (tree .dimensions) (tree .capacity) (tree .cached) (tree .root) (tree .manager) a points path (f .walk) (f .leaf) i ws (getD points i []) r b
                     → (header : RCFTree) → header ≡ headed tree (r .root) (tree .total + 1) (r .manager) → Done ws (Added header i (r .words)) b
                 inserted r b h header g =
-                    let left = subst (λ (x : RCFTree). Enters (x .capacity) (x .cached) (x .root) (x .manager) a points path (f .walk) (f .leaf) i ws (getD points i []) r b) (H .header-is) h d t (W .free) p entering in
+                    let left = subst (λ (x : RCFTree). Enters (x .dimensions) (x .capacity) (x .cached) (x .root) (x .manager) a points path (f .walk) (f .leaf) i ws (getD points i []) r b) (H .header-is) h t (W .free) p entering in
                     done ws (added i (walk (whole d) t p)) _ _ (record { root = r .root; manager = r .manager }) (tree .total + 1) header b (Added header i (r .words))
                     (entered ws (some t) T ∙ cond-false _ _ _ absent ∙ cond-false _ _ _ (full-as e false empty some-left) ∙ cond-false _ _ _ (le-ltb (length ws) (walk (whole d) t p) (omega (arith, enough, found-in .walked .count))))
                     (ap (λ x. Added header i x) (left .1)) g (omega (arith, total-of, mass-insert (whole d) (next (W .free)) i p (λ m. getD ws m 0) t)) (left .0)

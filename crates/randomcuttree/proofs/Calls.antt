@@ -27,13 +27,13 @@ use Rattle.randomcuttree.specs.State.{cachedBy, State, Reachable, header
 use Rattle.randomcuttree.specs.Answers.{Called}
 use Rattle.randomcuttree.specs.Finds.{Seeks, Sees, SomeSeen}
 use Rattle.randomcuttree.proofs.Parts.{cached-few, total-is}
-use Rattle.randomcuttree.proofs.Given.{sound, once, narrow, point-at, leaves-stand, stored, walks, boxed}
+use Rattle.randomcuttree.proofs.Given.{sound, once, narrow, point-at, leaves-stand, table-padded, stored, walks, boxed}
 
 -- what was found, of the path as it is left
 pub seen-there : {tree : RCFTree} {nodes : List (List ℕ)} {cuts : List Float} {points : List (List Float)} {i : ℕ} {before path : List (List ℕ)} {f : Found} → Sees tree nodes cuts points i before f path → Sees tree nodes cuts points i path f path
 seen-there S = record {
   empty = λ z. (S .empty z .0, refl);
-  walked = λ n d t p Q. let F = S .walked n d t p Q in record { walked = F .walked; leaf-is = F .leaf-is; held-is = F .held-is; rest = refl };
+  walked = λ n t p Q. let F = S .walked n t p Q in record { walked = F .walked; leaf-is = F .leaf-is; held-is = F .held-is; rest = refl };
 }
 
 module _ {d c : ℕ} {s : Float} {W : World (whole d)} {tree : RCFTree} {a : Lent} {points : List (List Float)} {marks : List ℕ} (H : State d c s W tree a points marks) where
@@ -98,14 +98,14 @@ module _ {d c : ℕ} {s : Float} {W : World (whole d)} {tree : RCFTree} {a : Len
   -- ---- a walk of the reading p of index i in the tree t
   module _ {t : Tree (whole d)} (T : W .tree ≡ some t) {i : ℕ} (l : i < pointLimit) {p : Reading} (P : W .table i ≡ some p) where
     sought : Sought d c (headerOf d c s W .root) (a .nodes) (a .cuts) points i t p
-    sought = record { small = H .limits .3; index-small = l; walks = walks own T i p P; leaves = leaves-stand (H .reachable) T (H .table-is) }
+    sought = record { small = H .limits .3; channels-few = H .limits .1; index-small = l; walks = walks own T i p P; leaves = leaves-stand (H .reachable) T (H .table-is); padded = table-padded H }
 
-    pub some-sought : SomeSought (tree .capacity) (tree .root) (a .nodes) (a .cuts) points i
-    some-sought = subst (λ (x : RCFTree). SomeSought (x .capacity) (x .root) (a .nodes) (a .cuts) points i) (sym (H .header-is)) (record { channels = d; tree = t; reading = p; sought = sought })
+    pub some-sought : SomeSought (tree .dimensions) (tree .capacity) (tree .root) (a .nodes) (a .cuts) points i
+    some-sought = subst (λ (x : RCFTree). SomeSought (x .dimensions) (x .capacity) (x .root) (a .nodes) (a .cuts) points i) (sym (H .header-is)) (record { tree = t; reading = p; sought = sought })
 
-    module _ {before path : List (List ℕ)} {f : Found} (F : Finds (tree .capacity) (tree .root) (a .nodes) (a .cuts) points i before f path) where
+    module _ {before path : List (List ℕ)} {f : Found} (F : Finds (tree .dimensions) (tree .capacity) (tree .root) (a .nodes) (a .cuts) points i before f path) where
       pub found-in : FoundIn d c t p before f path
-      found-in = subst (λ (x : RCFTree). Finds (x .capacity) (x .root) (a .nodes) (a .cuts) points i before f path) (H .header-is) F d t p sought
+      found-in = subst (λ (x : RCFTree). Finds (x .dimensions) (x .capacity) (x .root) (a .nodes) (a .cuts) points i before f path) (H .header-is) F t p sought
 
       pub walking : Walking d c k t (W .free) p (headerOf d c s W .root) (headerOf d c s W .manager) a points path (f .walk) (f .leaf) (getD points i [])
       walking =
@@ -114,6 +114,7 @@ module _ {d c : ℕ} {s : Float} {W : World (whole d)} {tree : RCFTree} {a : Len
             small = H .limits .3;
             some-room = H .limits .2;
             cached-few = cached-few s c;
+            channels-few = H .limits .1;
             root-is = sought .walks .root-is;
             manager-is = refl;
             arrays-are = subst (λ o. a ≡ arraysOf d c k o (W .free)) T (H .arrays-are);
@@ -121,11 +122,13 @@ module _ {d c : ℕ} {s : Float} {W : World (whole d)} {tree : RCFTree} {a : Len
             boxed = boxed H T;
             once = once (H .reachable) T;
             narrow = narrow (H .reachable) T;
+            padded = table-padded H;
             proper = S .proper;
             free-once = λ j. omega (arith, S .numbers j, at-most-one (ltb j (c - 1)));
             walked = found-in .walked;
             index-is = found-in .leaf-is;
             row = point-at (H .reachable) T (H .table-is) i p P;
+            row-padded = table-padded H i l;
             freeable = λ b e. (freed-below (whole d) p t b (c - 1) _ e (S .numbers b), omega (arith, S .numbers b, freed-used (whole d) p t b e, at-most-one (ltb b (c - 1))));
           }
 

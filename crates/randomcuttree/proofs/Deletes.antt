@@ -67,7 +67,7 @@ module _ {d c : ℕ} {s : Float} {W : World (whole d)} {tree : RCFTree} {a : Len
       T : W .tree ≡ some t
       T = Calls.a-tree H some-held .1
 
-      module _ {before path : List (List ℕ)} {f : Found} (F : Finds (tree .capacity) (tree .root) (a .nodes) (a .cuts) points i before f path) where
+      module _ {before path : List (List ℕ)} {f : Found} (F : Finds (tree .dimensions) (tree .capacity) (tree .root) (a .nodes) (a .cuts) points i before f path) where
         found-in : FoundIn d c t p before f path
         found-in = Calls.found-in H T m P F
 

@@ -1,6 +1,6 @@
 -- A state whose tree is not empty: what the functions on rows and on boxes are told of it. Assumes nothing.
-use mathlib.Core.Path.{_≡_, ap, _∙_, subst}
-use mathlib.Core.Option.{Option, some}
+use mathlib.Core.Path.{_≡_, refl, sym, ap, _∙_, subst}
+use mathlib.Core.Option.{Option, none, some}
 use mathlib.Core.List.{List, []}
 use Prim.Native.Nat.{ℕ, _+_, _≤_}
 use native.Mathlib.Omega.{arith}
@@ -17,6 +17,7 @@ use Rattle.cuttree.proofs.Leaves.{leaves-branches, all-map}
 use Rattle.cuttree.proofs.Room.{uses-in, number-below, index-below}
 use Rattle.wholetree.specs.Reading.{Reading}
 use Rattle.wholetree.specs.Whole.{whole, tab}
+use Rattle.wholetree.proofs.Readings.{row-length}
 use Rattle.wholetree.proofs.Laws.{whole-laws}
 use Rattle.layout.specs.Slots.{slot, rowOf, cutOf}
 use Rattle.layout.specs.Layout.{noRow, rootOf, slotIn, countIn, boxIn, pointRow, tableOf, Table}
@@ -26,8 +27,11 @@ use Rattle.layout.proofs.Slots.{tab-laid, tab-boxes}
 use Rattle.walk.specs.Walks.{Walks}
 use Rattle.nodestore.specs.Stored.{Stored}
 use Rattle.boxstore.specs.Boxed.{Boxed}
+use Rattle.rowboxes.specs.Rows.{PaddedRow, PaddedTable, PaddedBoxes}
+use Rattle.rowboxes.proofs.Rows.{no-ends}
 use Rattle.treestore.specs.Arrays.{Lent}
 use Rattle.treestore.proofs.Links.{linked}
+use Rattle.treestore.proofs.Padding.{boxes-padded as kept-padded}
 use Rattle.randomcuttree.specs.declared.RCFTree.{RCFTree}
 use Rattle.randomcuttree.specs.State.{cachedBy, OnChannels, Reachable, State}
 use Rattle.randomcuttree.proofs.Lookups as Lookups
@@ -68,6 +72,14 @@ module _ {d c : ℕ} {W : World (whole d)} (R : Reachable d c W) {t : Tree (whol
 
     pub leaves-stand : All (whole d) (λ i q n. getD points i [] ≡ q .row) t
     leaves-stand = all-map (whole d) _ _ t (λ i q n e. point-at i q e) (sound .agree)
+
+-- every row of the table is a reading's of the tree's width, or of zeros
+pub table-padded : {d c : ℕ} {s : Float} {W : World (whole d)} {tree : RCFTree} {a : Lent} {points : List (List Float)} {marks : List ℕ} → State d c s W tree a points marks → PaddedTable d points
+table-padded {d} {W = W} {points = points} H i l = subst (PaddedRow d) (sym (entry-of pointLimit (λ (j : ℕ). pointRow (W .table j)) points (ap (λ (x : Table). x .points) (H .table-is)) [] i l)) (go (W .table i) refl)
+  where
+    go : (o : Option Reading) → W .table i ≡ o → PaddedRow d (pointRow o)
+    go none e = no-ends d .low
+    go (some p) e = record { whole-row = row-length p; rest = H .reachable .narrow i p e }
 
 module _ {d c : ℕ} {s : Float} {W : World (whole d)} {tree : RCFTree} {a : Lent} {points : List (List Float)} {marks : List ℕ} (H : State d c s W tree a points marks) {t : Tree (whole d)} (T : W .tree ≡ some t) where
   abbrev k : ℕ
@@ -117,6 +129,9 @@ module _ {d c : ℕ} {s : Float} {W : World (whole d)} {tree : RCFTree} {a : Len
 
   pub walks : (i : ℕ) (p : Reading) → W .table i ≡ some p → Walks d c (a .nodes) (a .cuts) (getD points i []) (tree .root) t p
   walks i p P = walks-of p (getD points i []) (point-at R T (H .table-is) i p P)
+
+  pub boxes-padded : PaddedBoxes d (a .boxes)
+  boxes-padded = subst (PaddedBoxes d) (sym boxes-of) (kept-padded d c (H .limits .1) k t (narrow R T))
 
   pub boxed : Boxed d c k (a .nodes) points (a .boxes) t
   boxed = record {

@@ -8,7 +8,7 @@ use lib.Dec.{eqb, leb, ltb}
 use lib.ListN.{getD}
 use lib.Ieee.{Float, nan}
 use borrow.Author.Tests.{ltb-true, ltb-false, lt-ltb, le-ltb, leb-true, leb-false, lt-leb, le-leb, eqb-true, eqb-false, eq-eqb, ne-eqb}
-use Rattle.limits.specs.Limits.{capacityLimit, branchLimit, pointLimit}
+use Rattle.limits.specs.Limits.{width, capacityLimit, branchLimit, pointLimit}
 use Rattle.readings.specs.Number.{nought}
 use Rattle.boundingbox.specs.declared.BoundingBox.{BoundingBox}
 use Rattle.cuttree.specs.Setting.{Cut}
@@ -23,9 +23,11 @@ use Rattle.layout.specs.Layout.{noRow, slotIn, countIn}
 use Rattle.layout.specs.Stands.{Once}
 use Rattle.layout.proofs.Tabs.{entry-of}
 use Rattle.layout.proofs.Slots.{Branch, branch-of, slot-in}
-use Rattle.boxstore.specs.Boxed.{Boxed, SomeBoxed}
-use Rattle.boxstore.specs.Grown.{BoxOf}
+use Rattle.boxstore.specs.Boxed.{Boxed}
+use Rattle.boxstore.specs.Grown.{SomeSides, SidesBox}
+use Rattle.boxstore.proofs.Parts.{left-boxed, right-boxed}
 use Rattle.boxstore.proofs.Standing.{once-in, boxed-in}
+use Rattle.rowboxes.specs.Rows.{PaddedTable, PaddedBoxes}
 use Rattle.treestore.specs.Arrays.{Lent}
 use Rattle.randomcuttree.specs.declared.RCFTree.{RCFTree}
 use Rattle.randomcuttree.specs.declared.BranchRow.{BranchRow}
@@ -35,8 +37,8 @@ use Rattle.randomcuttree.specs.declared.BoxAnswer.{BoxAnswer}
 use Rattle.randomcuttree.specs.State.{cachedBy, State}
 use Rattle.randomcuttree.specs.Queries.{copiesSay, branchSays, boxSays, noBox, copiesRead, rowRead, branchRead, CopiesTold, BranchTold, BoxTold, BoxRead, SomeBoxRead, CopiesAreTold, BranchesAreTold}
 use Rattle.randomcuttree.proofs.Lookups.{once, no-leaf, a-leaf, branch-below, branch-found, with-mass, without-mass, no-branch}
-use Rattle.randomcuttree.proofs.Parts.{capacity-is, cached-is, nodes-are, cuts-are, copies-are}
-use Rattle.randomcuttree.proofs.Given.{sound, boxed}
+use Rattle.randomcuttree.proofs.Parts.{cached-few, dimensions-are, capacity-is, cached-is, nodes-are, cuts-are, copies-are}
+use Rattle.randomcuttree.proofs.Given.{sound, table-padded, boxes-padded, boxed}
 
 -- ---- copies
 module _ (tree : RCFTree) (copies : List ℕ) (x : ℕ) where
@@ -178,6 +180,7 @@ module _ (tree : RCFTree) (nodes : List (List ℕ)) (points : List (List Float))
       pub found : lookIn (whole d) c o x ≡ some (branch x (node .0) (node .1) (node .2))
       pub singly : Once d c (branch x (node .0) (node .1) (node .2))
       pub boxed-there : Boxed d c k nodes points boxes (branch x (node .0) (node .1) (node .2))
+      pub padded-there : PaddedBoxes d boxes
 
     box-at : (d c : ℕ) (s : Float) (W : World (whole d)) (a : Lent) (marks : List ℕ) → State d c s W tree a points marks → BoxRead a nodes boxes → BoxAt d c (cachedBy s c) (W .tree)
     box-at d c s W a marks S e = go (W .tree) refl
@@ -196,18 +199,37 @@ module _ (tree : RCFTree) (nodes : List (List ℕ)) (points : List (List Float))
               found = branch-found d c (W .table) t (W .free) H x B;
               singly = once-in d c (B .inside) (once d c (W .table) t (W .free) H);
               boxed-there = boxed-in d c (B .inside) b;
+              padded-there = subst (PaddedBoxes d) (e .boxes-are) (boxes-padded S T);
             }
 
-    pub some-boxed : SomeBoxRead tree nodes points boxes → (tree .capacity ≤ capacityLimit) × SomeBoxed (tree .capacity) (tree .cached) x nodes points boxes
-    some-boxed w =
+    -- its sides stand there, and the arrays are padded
+    pub record SidesRead (c k e : ℕ) : Type 0 where
+      pub few : (c ≤ capacityLimit) × (k ≤ branchLimit) × (e ≤ width)
+      pub sides : SomeSides c k x nodes points boxes
+      pub table : PaddedTable e points
+      pub slots : PaddedBoxes e boxes
+
+    pub some-sides : SomeBoxRead tree nodes points boxes → SidesRead (tree .capacity) (tree .cached) (tree .dimensions)
+    some-sides w =
         let S = w .state .state in
         let B = box-at (w .state .channels) (w .state .capacity) (w .state .share) (w .state .world) (w .lent) (w .marks) S (w .read) in
-        rw (capacity-is S, cached-is S) (S .limits .3, record { channels = w .state .channels; tree = branch x (B .node .0) (B .node .1) (B .node .2); at-node = refl; once = B .singly; boxed = B .boxed-there })
+        let links = B .boxed-there .links in
+        rw (capacity-is S, cached-is S, dimensions-are S) (record {
+          few = (S .limits .3, omega (arith, cached-few (w .state .share) (w .state .capacity), S .limits .3), S .limits .1);
+          sides = record {
+            small = l;
+            left-some = record { channels = w .state .channels; tree = B .node .1; at-node = sym (links .0); once = λ j. omega (arith, B .singly j); boxed = left-boxed _ _ _ _ _ _ (B .boxed-there) };
+            right-some = record { channels = w .state .channels; tree = B .node .2; at-node = sym (links .1); once = λ j. omega (arith, B .singly j); boxed = right-boxed _ _ _ _ _ _ (B .boxed-there) };
+          };
+          table = table-padded S;
+          slots = B .padded-there;
+        })
 
-    pub box-told : (b : BoundingBox) → BoxOf (tree .capacity) (tree .cached) x nodes points boxes b → BoxTold tree nodes points boxes x (record { refusal = 0; «bounding_box» = b })
+    pub box-told : (b : BoundingBox) → SidesBox (tree .capacity) (tree .cached) x nodes points boxes b → BoxTold tree nodes points boxes x (record { refusal = 0; «bounding_box» = b })
     box-told b F d c s W a marks S e =
         let B = box-at d c s W a marks S e in
-        let w = (rw (capacity-is S, cached-is S) at F) d (branch x (B .node .0) (B .node .1) (B .node .2)) refl (B .boxed-there) in
+        let links = B .boxed-there .links in
+        let w = (rw (capacity-is S, cached-is S) at F) d (B .node .1) (B .node .2) (sym (links .0)) (sym (links .1)) (left-boxed _ _ _ _ _ _ (B .boxed-there)) (right-boxed _ _ _ _ _ _ (B .boxed-there)) in
         rw (B .found) (answered _ _ (w .0) (w .1))
       where
         answered : (p q : List Float) → b .«min_values» ≡ p → b .«max_values» ≡ q → _≡_ {A = BoxAnswer} (record { refusal = 0; «bounding_box» = b }) (record { refusal = 0; «bounding_box» = record { «min_values» = p; «max_values» = q } })

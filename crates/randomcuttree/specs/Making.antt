@@ -21,7 +21,7 @@ use Rattle.randomcuttree.specs.declared.Made.{Made}
 use Rattle.randomcuttree.specs.declared.Made.the-variants as Variants
 use Rattle.randomcuttree.specs.State.{cachedBy, State}
 
--- '1 to 8 channels'; 'Capacity c is 2 to 256'
+-- request A.7: 'refusal 1 moves to above 32'; document 01: 'Capacity c is 2 to 256'
 abbrev pub channelsTaken : ℕ → Bool
 channelsTaken d = leb 1 d && leb d width
 

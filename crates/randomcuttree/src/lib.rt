@@ -17,6 +17,8 @@ use limits::POINTS;
 use limits::Path;
 use limits::Points;
 use pointstore::PutAnswer;
+use rowboxes::Ends;
+use rowboxes::Sizes;
 use treestore::Found;
 ghost use mathlib.Core.Path.{_≡_};
 ghost use mathlib.Core.List.{[]};
@@ -242,9 +244,15 @@ impl RCFTree {
         })
     }
 
-    // The box of a branch by its number.
+    // The box of a branch by its number, worked out in local ends: a box handed up through the branches below would be copied at each.
     // Rules out the box of a leaf answered, and a cached row taken for a branch that is not cached.
-    pub fn box_of(self, nodes: &Nodes, points: &Points, boxes: &Boxes, id: usize) -> BoxAnswer
+    pub fn box_of<'a>(
+        self,
+        nodes: &Nodes,
+        points: &'a Points,
+        boxes: &'a Boxes,
+        id: usize,
+    ) -> BoxAnswer
         requires { ⌜ SomeBoxRead self (now nodes) (now points) (now boxes) ⌝ }
         ensures { λ r. ⌜ BoxTold self (now (nodes .entry)) (now (points .entry)) (now (boxes .entry)) id r ⌝ }
     {
@@ -254,17 +262,17 @@ impl RCFTree {
         if field_at(nodes, id, 2) == 0 {
             return no_box();
         }
-        let bounding_box = boxstore::bounding_box(
-            id,
-            nodes,
-            points,
-            boxes,
-            wide16(self.capacity),
-            self.cached,
-        );
+        let sizes: Sizes = [wide16(self.capacity), self.cached, self.dimensions];
+        let mut ends: Ends = [[0.0; CHANNELS]; 2];
+        branchboxes::set_branch(&mut ends, id, nodes, points, boxes, &sizes);
+        let min_values = ends[0];
+        let max_values = ends[1];
         BoxAnswer {
             refusal: 0,
-            bounding_box,
+            bounding_box: BoundingBox {
+                min_values,
+                max_values,
+            },
         }
     }
 
@@ -299,7 +307,16 @@ impl RCFTree {
         if self.total == 0 {
             return no_walk();
         }
-        treestore::find(self.root, self.capacity, nodes, cuts, points, index, path)
+        treestore::find(
+            self.root,
+            self.dimensions,
+            self.capacity,
+            nodes,
+            cuts,
+            points,
+            index,
+            path,
+        )
     }
 
     // The add of a reading that was looked for, in a tree below its total: the walk tells how many words it takes before any of them is needed.
@@ -344,6 +361,7 @@ impl RCFTree {
         let entered = treestore::insert_leaf(
             self.root,
             self.manager,
+            self.dimensions,
             self.capacity,
             self.cached,
             nodes,

@@ -1,8 +1,9 @@
 -- What an f64's pattern says of its narrowing: the f32's pattern, worked out from the field and the digits. Assumes nothing.
 use mathlib.Core.Path.{_≡_, refl, sym, ap, _∙_, subst}
 use mathlib.Core.Logic.{_⊎_, inl, inr}
-use Prim.Native.Nat.{ℕ, zero, suc, _+_, _-_, _*_, _/_, _%_, _^_, _≤_, _<_, compare}
-use native.Mathlib.Nat.{le-antisymm, le-trans, le-of-eq, lt-of-lt-of-le, lt-of-le-of-lt, mul-one, mul-comm, mul-assoc, mul-pos, mul-le-mul-right, zero-lt-suc, eq-or-lt-of-le, le-div-iff-mul-le, div-lt-iff-lt-mul, div-eq-of-lt, mod-eq-of-lt, mod-lt, pow-succ', suc-le-suc-iff}
+use Prim.Native.Nat.{ℕ, zero, suc, _+_, _-_, _*_, _/_, _%_, _^_, _≤_, _<_, compare, Ordering, Ordering·lt, Ordering·eq, Ordering·gt}
+use native.Mathlib.Nat.{le-antisymm, le-trans, le-of-eq, lt-of-lt-of-le, lt-of-le-of-lt, mul-one, mul-comm, mul-assoc, add-mul, suc-mul, add-zero, mul-pos, mul-le-mul-right, zero-lt-suc, eq-or-lt-of-le, le-div-iff-mul-le, div-lt-iff-lt-mul, div-eq-of-lt, div-eq-of-lt-le, div-add-mod', mod-eq-of-lt, mod-lt, pow-succ', suc-le-suc-iff}
+use native.Mathlib.Numerals.{add-one}
 use native.Mathlib.Omega.{arith}
 use mathlib.Core.Bool.{Bool, true, false, not, cond}
 use lib.Dec.{T, leb, ltb, eqb, leb→le, ltb→lt, nltb→le, eqb→eq, not-T}
@@ -14,7 +15,7 @@ use lib.Ieee.Bits.{cond-no, ofBits-toBits, ofBits-fits, nanBits-above, nanBits-i
 use lib.Ieee.Exact.{HasValue, odd-sign, units-val}
 use lib.Ieee.Nearest.{closest, closest-same, nearest-ge}
 use Rattle.readings.specs.Narrow.{narrowed}
-use Rattle.readings.proofs.Tests.{split, leb-yes, leb-no, compare-lt, pow-lt-back}
+use Rattle.readings.proofs.Tests.{split, leb-yes, leb-no, Cmp, holds, compare-lt, pow-lt-back}
 use Rattle.readings.proofs.Keys.{value-unique}
 use Rattle.readings.proofs.CoordinateBits.{ofBits-is, at-zero, under-ones}
 use Rattle.readings.proofs.Narrows.{narrowed-value, odd-neg}
@@ -171,6 +172,36 @@ closest-zero n u h =
     ap (λ (z : ℕ). nearest z (compare (n % u * 2) u)) (div-eq-of-lt l)
     ∙ ap (λ (z : ℕ). nearest 0 (compare (z * 2) u)) (mod-eq-of-lt l)
     ∙ ap (nearest 0) (compare-lt (n * 2) u h)
+
+-- ---- q / d to the nearest whole number by one division, for an even d: what is added carries where the rest is above half, or is half and the whole part is odd
+module _ (q d : ℕ) (D : 0 < d) (even : d % 2 ≡ 0) where
+  abbrev raised : ℕ
+  raised = q + (d / 2 - 1) + q / d % 2
+
+  carry : (i : ℕ) → q / d * d + i * d ≤ raised → raised < q / d * d + i * d + d → raised / d ≡ q / d + i
+  carry i lo hi =
+      let e : (q / d + i) * d ≡ q / d * d + i * d = add-mul (q / d) i d in
+      let f : suc (q / d + i) * d ≡ (q / d + i) * d + d = suc-mul (q / d + i) d in
+      div-eq-of-lt-le d (omega arith) (omega arith)
+
+  whole : q / d * d + q % d ≡ q
+  whole = div-add-mod' q d
+
+  rest : q % d < d
+  rest = mod-lt q D
+
+  tied : (i : ℕ) → q / d % 2 ≡ i → i < 2 → q % d * 2 ≡ d → raised / d ≡ q / d + i
+  tied zero o l h = carry 0 (omega (arith, whole)) (omega (arith, whole))
+  tied (suc zero) o l h = carry 1 (omega (arith, whole)) (omega (arith, whole))
+  tied (suc (suc i)) o l h = absurd (omega arith)
+
+  by-order : (o : Ordering) → Cmp o (q % d * 2) d → raised / d ≡ nearest (q / d) o
+  by-order Ordering·lt h = carry 0 (omega (arith, whole)) (omega (arith, whole)) ∙ add-zero (q / d)
+  by-order Ordering·eq h = tied (q / d % 2) refl (mod-lt (q / d) (zero-lt-suc 1)) h
+  by-order Ordering·gt h = carry 1 (omega (arith, whole)) (omega (arith, whole, rest)) ∙ add-one (q / d)
+
+  pub closest-raised : raised / d ≡ closest q d
+  closest-raised = by-order (compare (q % d * 2) d) (holds (q % d * 2) d)
 
 -- ---- what an f64's pattern says
 ofBits64-is : (b : ℕ) → ofBits binary64 b ≡ ofFields binary64 (leb (2 ^ 63) b) (b % 2 ^ 63 / 2 ^ 52) (b % 2 ^ 52)

@@ -75,7 +75,7 @@ share-under-zero (fin true m e) h = sym h ∙ from-zero m (up e) (down e) (up-po
 -- ---- the cached part
 
 -- a value that is not negative, as a whole number
-to-unsigned : (x : Float) (g d n : ℕ) → 0 < d → HasValue x false g d → g ≤ n * d → n < 2 ^ 64 → (toUnsigned 64 x ≡ g / d) × (g / d ≤ n)
+pub to-unsigned : (x : Float) (g d n : ℕ) → 0 < d → HasValue x false g d → g ≤ n * d → n < 2 ^ 64 → (toUnsigned 64 x ≡ g / d) × (g / d ≤ n)
 unfolding toUnsigned
 to-unsigned nan g d n D v h l = absurd v
 to-unsigned (inf s) g d n D v h l = absurd v

@@ -118,13 +118,13 @@ tz-more (suc d) (suc e) q l h k =
     go (suc r) z ih = refl
 
 -- ---- `compare` by what holds
-abbrev Cmp : Ordering → ℕ → ℕ → Type 0
+abbrev pub Cmp : Ordering → ℕ → ℕ → Type 0
 Cmp Ordering·lt a b = a < b
 Cmp Ordering·eq a b = a ≡ b
 Cmp Ordering·gt a b = b < a
 
 module _ (a b : ℕ) where
-  holds : Cmp (compare a b) a b
+  pub holds : Cmp (compare a b) a b
   holds = go (compare a b) (leb→le a b) (nleb→lt a b) (eqb→eq a b) (λ (e : a ≡ b). subst (λ (x : ℕ). T (eqb a x)) e (eqb-refl a))
     where
       go : (o : Ordering) → (T (isLe o) → a ≤ b) → (T (not (isLe o)) → b < a) → (T (isEq o) → a ≡ b) → (a ≡ b → T (isEq o)) → Cmp o a b

@@ -84,19 +84,12 @@ pub fn factor(w: u64) -> f64
 
 // q / 2^k to the nearest whole number, a tie to the even one.
 fn nearest_shift(q: u64, k: u64) -> u64
-    requires { ⌜ (q < 2 ^ 53) × (k ≤ 54) ⌝ }
+    requires { ⌜ (q < 2 ^ 53) × (1 ≤ k) × (k ≤ 54) ⌝ }
     ensures { λ r. ⌜ r ≡ closest q (2 ^ k) ⌝ }
 {
     let d: u64 = 1 << k;
-    let w = q / d;
-    let twice = q % d * 2;
-    if twice < d {
-        w
-    } else if d < twice {
-        w + 1
-    } else {
-        w + w % 2
-    }
+    // Half less 1, and 1 more where the whole part is odd, carries where the rest is above half, or is half and the whole part is odd.
+    (q + (d / 2 - 1) + q / d % 2) / d
 }
 
 // The f64 of a pattern narrowed, up to infinity's, 2047 * 2^52: the sign is clear, and it is no NaN.

@@ -108,7 +108,9 @@ fn put_both(out: &mut [u8], bounding_box: BoundingBox, word: u64, point: Row) ->
 {
     let any = Cut::random_cut_and_separation(bounding_box, word, &point);
     let p = put_cut(out, 0, any);
-    let whole = Cut::whole_cut_and_separation(bounding_box, word, &point);
+    let low = bounding_box.min_values;
+    let high = bounding_box.max_values;
+    let whole = Cut::whole_cut_and_separation(&low, &high, word, &point, CHANNELS);
     put_cut(out, p, whole)
 }
 

@@ -14,8 +14,10 @@ use Rattle.limits.specs.Limits.{width, branchLimit, pointLimit}
 use Rattle.readings.specs.Number.{nought}
 use Rattle.boundingbox.specs.Ends.{channel, joined, least, greatest}
 use Rattle.boundingbox.proofs.Joined.{joined-length, joined-channel}
-use Rattle.cuttree.proofs.Tests.{by-test}
+use Rattle.cuttree.proofs.Tests.{by-test, clash}
 use Rattle.boxstore.specs.Written.{lowIn, highIn}
+use Rattle.boxstore.specs.Grown.{EndsGrownBy}
+use Rattle.boxstore.proofs.Parts.{at-leaf, at-cached}
 use Rattle.rowboxes.specs.Rows.{lanes, PaddedRow, PaddedEnds, PaddedTable, PaddedBoxes, BlockTo, Block, PutTo, Put, InArrays}
 
 cond-same : (b : Bool) (x : Float) → cond b x x ≡ x
@@ -171,15 +173,26 @@ or-true : (a b : Bool) → (a || b) ≡ true → b ≡ false → a ≡ true
 or-true true b e f = refl
 or-true false b e f = sym f ∙ e
 
-or-false : (a b : Bool) → (a || b) ≡ false → a ≡ false
-or-false true b e = e
-or-false false b e = refl
+or-false : (a b : Bool) → (a || b) ≡ false → (a ≡ false) × (b ≡ false)
+or-false true b e = clash true refl e
+or-false false b e = (refl, e)
 
 pub hand-true : (c k node : ℕ) → (leb c node || ltb node k) ≡ true → node < c → node < k
 hand-true c k node e h = by-test (ltb node k) (λ t. ltb-true node k t) (λ t. absurd (omega (arith, leb-true c node (or-true (leb c node) (ltb node k) e t))))
 
 pub hand-false : (c k node : ℕ) → (leb c node || ltb node k) ≡ false → node < c
-hand-false c k node e = leb-false c node (or-false (leb c node) (ltb node k) e)
+hand-false c k node e = leb-false c node (or-false (leb c node) (ltb node k) e .0)
+
+pub hand-uncached : (c k node : ℕ) → (leb c node || ltb node k) ≡ false → k ≤ node
+hand-uncached c k node e = ltb-false node k (or-false (leb c node) (ltb node k) e .1)
+
+-- ends moved out to a box at hand are grown by the box of the tree below the node
+pub hand-grown : (c k node : ℕ) (nodes : List (List ℕ)) (points : List (List Float)) (boxes : List (List (List Float))) → (leb c node || ltb node k) ≡ true → (low high : List Float) (E : List (List Float))
+    → (c ≤ node → E ≡ joined least low (getD points (node - c) []) ∷ joined greatest high (getD points (node - c) []) ∷ []) → (node < c → E ≡ joined least low (lowIn boxes node) ∷ joined greatest high (highIn boxes node) ∷ [])
+    → EndsGrownBy c k node nodes points boxes low high (getD E 0 []) (getD E 1 [])
+hand-grown c k node nodes points boxes e low high E p q = by-test (ltb node c)
+    (λ t. let l = ltb-true node c t in at-cached c k node nodes points boxes l (hand-true c k node e l) .grown low high _ _ (ap (λ (X : List (List Float)). getD X 0 []) (q l)) (ap (λ (X : List (List Float)). getD X 1 []) (q l)))
+    (λ t. let l = ltb-false node c t in at-leaf c k node nodes points boxes l .grown low high _ _ (ap (λ (X : List (List Float)). getD X 0 []) (p l)) (ap (λ (X : List (List Float)). getD X 1 []) (p l)))
 
 pub by-hand : (c node : ℕ) (r x y : List Float) → (c ≤ node → r ≡ x) → (node < c → r ≡ y) → r ≡ cond (leb c node) x y
 by-hand c node r x y p q = by-test (leb c node) (λ t. p (leb-true c node t) ∙ sym (ap (λ (b : Bool). cond b x y) t)) (λ t. q (leb-false c node t) ∙ sym (ap (λ (b : Bool). cond b x y) t))

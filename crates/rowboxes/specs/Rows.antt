@@ -9,8 +9,7 @@ use lib.Ieee.{Float}
 use Rattle.limits.specs.Limits.{width, branchLimit, pointLimit}
 use Rattle.boundingbox.specs.Ends.{channel}
 use Rattle.boundingbox.specs.Padding.{Padded}
-use Rattle.cuttree.specs.Tree.{id, lo, hi}
-use Rattle.wholetree.specs.Whole.{whole}
+use Rattle.boundingbox.specs.declared.BoundingBox.{BoundingBox}
 use Rattle.boxstore.specs.Written.{lowIn, highIn}
 
 -- how many channels of a row are worked on at a time
@@ -37,6 +36,10 @@ pub record PaddedEnds (d : ℕ) (X : List (List Float)) : Type 0 where
   pub two : length X ≡ 2
   pub low : PaddedRow d (getD X 0 [])
   pub high : PaddedRow d (getD X 1 [])
+
+-- the box of such ends
+abbrev pub boxOf : List (List Float) → BoundingBox
+boxOf X = record { «min_values» = getD X 0 []; «max_values» = getD X 1 [] }
 
 -- all rows of a readings table are so
 abbrev pub PaddedTable : ℕ → List (List Float) → Type 0

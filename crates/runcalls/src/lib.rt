@@ -38,7 +38,8 @@ fn put_call(
 {
     let index = runlayout::number_at(run, p + 1);
     let n = casts::at_most(runlayout::number_at(run, p + 2), COORDINATES);
-    let coordinates = rungiven::coordinates_at(run, p + 3, n);
+    let mut coordinates = [0.0f32; COORDINATES];
+    rungiven::read_coordinates(run, p + 3, n, &mut coordinates);
     calls::put(tree, copies, points, written, index, &coordinates, n, reply);
 }
 

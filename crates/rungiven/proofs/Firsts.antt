@@ -4,7 +4,7 @@ use mathlib.Core.List.{List, _++_}
 use Prim.Native.Nat.{ℕ, zero, suc, _+_, _≤_, _<_, zero-le}
 use native.Mathlib.Omega.{arith}
 use lib.ListN.{length, set, take, drop, length-set}
-use lib.Seq.{sets, sets-eq, take-append-seam}
+use lib.Seq.{sets, sets-eq, length-sets, take-append-seam}
 use Rattle.wholetree.specs.Whole.{tab}
 use Rattle.wholetree.proofs.Readings.{tab-length}
 
@@ -33,6 +33,9 @@ module _ {A : Type 0} (f : ℕ → A) (n : ℕ) (l₀ : List A) where
 
   pub firsts-all : (i : ℕ) (l : List A) → Firsts f n l₀ i l → n ≤ i → l ≡ sets l₀ 0 (tab n f)
   firsts-all i l w h = let e : i ≡ n = omega (arith, w .within) in w .is ∙ ap (λ (j : ℕ). sets l₀ 0 (tab j f)) e
+
+  pub firsts-long : (l : List A) → l ≡ sets l₀ 0 (tab n f) → length l ≡ length l₀
+  firsts-long l e = ap length e ∙ length-sets l₀ 0 (tab n f)
 
   pub firsts-taken : (l : List A) → l ≡ sets l₀ 0 (tab n f) → n ≤ length l₀ → take n l ≡ tab n f
   firsts-taken l e h =

@@ -1,31 +1,26 @@
 // What a call of a byte run brings (docs/LAYOUT.md): its coordinates, and its words.
-use limits::COORDINATES;
 use limits::Coordinates;
 use limits::Words;
 ghost use mathlib.Core.Path.{_≡_};
 ghost use Prim.Native.Nat.{ℕ, _+_, _*_, _≤_};
-ghost use lib.ListN.{length, take, replicate};
+ghost use lib.ListN.{length, take};
 ghost use lib.Seq.{sets};
 ghost use lib.Ieee.{binary32, ofBits};
 ghost use Rattle.limits.specs.Limits.{width, capacityLimit};
-ghost use Rattle.readings.specs.Number.{nought};
 ghost use Rattle.wholetree.specs.Whole.{tab};
 ghost use Rattle.runlayout.specs.Layout.{size, number, double};
 
-// n coordinates from a place on, and +0.0 after them.
-// Rules out a coordinate read from the place before, and one turned into another float by its bits.
-pub fn coordinates_at(run: &[u8], from: usize, n: usize) -> Coordinates
+// Writes n coordinates from a place on, from the front; the others stay.
+// Rules out a coordinate read from the place before, and a lent place beyond those read written.
+pub fn read_coordinates(run: &[u8], from: usize, n: usize, coordinates: &mut Coordinates)
     requires { ⌜ (n ≤ (width + 1)) × (from + n ≤ size (now run)) ⌝ }
-    ensures all { λ r. ⌜ r ≡ sets (replicate (width + 1) nought) 0 (tab n (λ (i : ℕ). ofBits binary32 (number (now (run .entry)) (from + i)))) ⌝ }
-    ensures first { λ r. ⌜ take n r ≡ tab n (λ (i : ℕ). ofBits binary32 (number (now (run .entry)) (from + i))) ⌝ }
+    ensures { λ _. ⌜ now (coordinates .exit) ≡ sets (now (coordinates .entry)) 0 (tab n (λ (i : ℕ). ofBits binary32 (number (now (run .entry)) (from + i)))) ⌝ }
 {
-    let mut coordinates = [0.0f32; COORDINATES];
     let mut i: usize = 0;
     while i < n {
         coordinates[i] = little::float_of(runlayout::bits_at(run, from + i));
         i += 1;
     }
-    coordinates
 }
 
 // Writes n words from a place on, from the front; the others stay.

@@ -95,13 +95,13 @@ fn write_report(answer: ReportAnswer, rows: &Rows, n: usize, answers: &mut [u8],
 }
 
 // The report of the first k coordinates, with the first n rows lent to it.
-fn report_first(
+fn report_first<'a>(
     tree: RCFTree,
     nodes: &Nodes,
     cuts: &Cuts,
     copies: &Copies,
-    points: &Points,
-    boxes: &Boxes,
+    points: &'a Points,
+    boxes: &'a Boxes,
     coordinates: &[f32],
     k: usize,
     rows: &mut [[u64; 4]],
@@ -129,16 +129,16 @@ fn report_first(
 }
 
 // The report at a place of the run: its answer's numbers from the answer number `out` on, and its rows in the working ones. No walk has more rows than
-// those, and a query of nine coordinates is refused like any longer one. The path and the chances are working memory too: whatever they hold before, and after
-// it what the report's walk leaves.
+// those, and a query of one coordinate more than a row has is refused like any longer one. The path and the chances are working memory too: whatever they
+// hold before, and after it what the report's walk leaves.
 // Rules out a row left from the report before told beyond those written, and the halves of a probability in turn.
-pub fn report_at(
+pub fn report_at<'a>(
     tree: RCFTree,
     nodes: &Nodes,
     cuts: &Cuts,
     copies: &Copies,
-    points: &Points,
-    boxes: &Boxes,
+    points: &'a Points,
+    boxes: &'a Boxes,
     run: &[u8],
     p: usize,
     rows: &mut Rows,
@@ -155,7 +155,8 @@ pub fn report_at(
 {
     let n = runlayout::number_at(run, p + 1);
     let k = casts::at_most(runlayout::number_at(run, p + 2), COORDINATES);
-    let coordinates = rungiven::coordinates_at(run, p + 3, k);
+    let mut coordinates = [0.0f32; COORDINATES];
+    rungiven::read_coordinates(run, p + 3, k, &mut coordinates);
     let answer = report_first(
         tree,
         nodes,

@@ -14,7 +14,6 @@ use Rattle.text.specs.declared.Number.the-variants.{Is, NoNumber}
 use Rattle.text.specs.Numbers.{decimalOf}
 use Rattle.text.specs.Pieces.{pieces, piecesFrom, PieceEnds}
 use Rattle.text.proofs.Sizes.{number-small}
-use Rattle.randomcuttree.specs.Making.{madeBy}
 use Rattle.form.specs.Rows.{isSome}
 use Rattle.form.specs.Making.{Making, makingOf, makingBy, makingSays, sixteenthsOf}
 use Rattle.form.specs.declared.MakingRow.{MakingRow}
@@ -27,7 +26,7 @@ use Rattle.form.proofs.Blocks.{form-long, form-one, form-two, form-three}
 use Rattle.form.proofs.Tells.{form-tells}
 use Rattle.form.proofs.Read.{read-not-bad, read-blocks, read-lines}
 use Rattle.lines.specs.Lines.{refusedLine, Wrote}
-use Rattle.treelist_text.specs.Output.{outputBy, output}
+use Rattle.treelist_text.specs.Output.{outputBy, output, listedBy}
 use Rattle.treelist_text.specs.Running.{InForm}
 
 -- ---- by the form that is answered
@@ -64,7 +63,7 @@ module _ (ps : List (List ℕ)) (r : MakingRow) (e : makingOf ps ≡ makingSays 
     few = few-sixteenths ps (record { channels = x; capacity = y; sixteenths = z }) (e ∙ ap makingSays n)
 
     pub by-making : (t : List ℕ) (F : InForm t) → makingOf ps ≡ some (F .making) → (d c : ℕ) (s : Float) → d ≡ x → c ≡ y → s ≡ sixteenthsOf z → {l : List ℕ} {q : ℕ} {o : List ℕ}
-        → Wrote l 0 (outputBy d c (madeBy d c s) (F .ops)) q o → Wrote l 0 (output t) q o
+        → Wrote l 0 (outputBy d c (listedBy d c s) (F .ops)) q o → Wrote l 0 (output t) q o
     by-making t F h d c s D C S w =
         let f : some (record { channels = x; capacity = y; sixteenths = z }) ≡ some (F .making) = sym (e ∙ ap makingSays n) ∙ h in
         let g : record { channels = x; capacity = y; sixteenths = z } ≡ F .making = cc in

@@ -5,6 +5,7 @@ use mathlib.Core.Bool.{true}
 use Prim.Native.Nat.{ℕ, _+_, _*_, _≤_, _<_}
 use native.Mathlib.Omega.{arith}
 use lib.Ieee.{Float}
+use lib.Dec.{leb}
 use lib.ListN.{length, length-append}
 use Rattle.limits.specs.Limits.{width, capacityLimit}
 use Rattle.readings.specs.Share.{isShare}
@@ -25,7 +26,7 @@ use Rattle.lines.proofs.Lengths.{refused-few}
 use Rattle.printed.specs.Printed.{treeLimit}
 use Rattle.listing.proofs.States.{printed-few}
 use Rattle.rowcalls.specs.Ops.{callOf}
-use Rattle.treelist_text.specs.Output.{toldRow, outputFrom, outputBy, outputOf, output, printedLimit, OutputFits}
+use Rattle.treelist_text.specs.Output.{toldRow, outputFrom, outputBy, outputOf, output, printedLimit, OutputFits, listedBy}
 
 -- ---- a refused row
 number-few : (r : Refusal) → numberOf r < 100
@@ -77,10 +78,13 @@ module _ (d c : ℕ) (s : Float) (os : List Op) (few : length os ≤ 8180) where
       (λ f. by-cond Fits (capacityTaken c) _ _ (λ e. by-cond Fits (isShare s) _ _ (λ _. is-made f e) (λ _. not-made 3 (omega arith))) (λ _. not-made 2 (omega arith)))
       (λ _. not-made 1 (omega arith))
 
+  by-listed : Fits (listedBy d c s)
+  by-listed = by-cond Fits (leb d 8) _ _ (λ _. by-few) (λ _. not-made 1 (omega arith))
+
 -- ---- every text
 parsed-few : (p : Parsed) → FewRows p → length (outputOf p) ≤ printedLimit
 parsed-few (bad r) h = omega (arith, refused-few 4 17 r (omega arith) h)
-parsed-few (read m os) h = by-few (m .channels) (m .capacity) _ os h
+parsed-few (read m os) h = by-listed (m .channels) (m .capacity) _ os h
 
 pub output-fits : OutputFits
 output-fits t = parsed-few (parsed t) (few-rows t)

@@ -1,7 +1,10 @@
 -- What treelist prints for a text, for every list of bytes (document 01, 'Printed tree'), and how long it is at most. Definitions and a statement.
+use mathlib.Core.Bool.{cond}
 use mathlib.Core.List.{List, [], _∷_, _++_}
 use Prim.Native.Nat.{ℕ, _+_, _*_, _≤_}
+use lib.Dec.{leb}
 use lib.ListN.{length}
+use lib.Ieee.{Float}
 use Rattle.cuttree.specs.Run.{World, Answer, refused, written, added, deleted, copiesAre, branchIs, boxIs, numberOf, call, fresh}
 use Rattle.wholetree.specs.Whole.{whole}
 use Rattle.randomcuttree.specs.declared.Made.{Made}
@@ -35,15 +38,19 @@ module _ (d c : ℕ) where
   outputBy (NotMade r) os = refusedLine r 0
   outputBy (Tree t) os = outputFrom (fresh (whole d) c) 0 os
 
+-- Request A.7: 'the printed-tree program keeps to 8' channels. A making of more is refused with 1, whatever else is wrong with it: 1 is tested first.
+abbrev pub listedBy : ℕ → ℕ → Float → Made
+listedBy d c s = cond (leb d 8) (madeBy d c s) (NotMade 1)
+
 -- 'a bad text prints only `refused 17 R` for its first bad row'
 abbrev pub outputOf : Parsed → List ℕ
 outputOf (bad r) = refusedLine 17 r
-outputOf (read m os) = outputBy (m .channels) (m .capacity) (madeBy (m .channels) (m .capacity) (sixteenthsOf (m .sixteenths))) os
+outputOf (read m os) = outputBy (m .channels) (m .capacity) (listedBy (m .channels) (m .capacity) (sixteenthsOf (m .sixteenths))) os
 
 abbrev pub output : List ℕ → List ℕ
 output t = outputOf (parsed t)
 
--- 143,682 bytes: a text has at most 8,180 op rows (`FewRows`), and a refused one prints at most 16 bytes
+-- 143,937 bytes: a text has at most 8,180 op rows (`FewRows`), and a refused one prints at most 16 bytes
 abbrev pub printedLimit : ℕ
 printedLimit = 8180 * 16 + treeLimit
 

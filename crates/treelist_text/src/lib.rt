@@ -31,8 +31,11 @@ ghost use Rattle.randomcuttree.specs.Making.{madeBy};
 ghost use Rattle.form.specs.Rows.{Op};
 ghost use Rattle.form.specs.Form.{opRows, rowsFrom};
 ghost use Rattle.lines.specs.Lines.{refusedLine, Wrote};
-ghost use Rattle.treelist_text.specs.Output.{outputFrom, outputBy, output, printedLimit};
+ghost use Rattle.treelist_text.specs.Output.{outputFrom, outputBy, listedBy, output, printedLimit};
 ghost use Rattle.treelist_text.specs.Running.{InForm, HasRows, Standing, SomeStanding};
+
+// Request A.7, 'the printed-tree program keeps to 8': as many channels as it takes.
+const LISTED: usize = 8;
 
 // A buffer of so many bytes has room for what any text prints: `printedLimit`.
 pub const PRINTED: usize = 8180 * 16 + TREE;
@@ -145,6 +148,26 @@ fn print_by(
     }
 }
 
+// The same, but for more channels than the program takes, which are refused before all else.
+fn print_few(
+    channels: usize,
+    capacity: usize,
+    share: f64,
+    text: &[u8],
+    start: usize,
+    out: &mut [u8],
+) -> usize
+    requires within { ⌜ (start ≤ length (now text)) × (length (now text) ≤ 32768) ⌝ }
+    requires rows { ⌜ HasRows (now text) start ⌝ }
+    ensures { λ r. ⌜ ((os : List Op) → rowsFrom 0 (piecesFrom 10 (now (text .entry)) start) ≡ opRows os
+        → Wrote (now (out .entry)) 0 (outputBy channels capacity (listedBy channels capacity share) os) r (now (out .exit))) ⌝ }
+{
+    if channels <= LISTED {
+        return print_by(channels, capacity, share, text, start, out);
+    }
+    lines::put_refused(out, 0, 1, 0)
+}
+
 // A text in form: its making is the second line, and its op rows are the lines from the fourth on.
 fn print_made(text: &[u8], out: &mut [u8]) -> usize
     requires { ⌜ InForm (now text) ⌝ }
@@ -155,7 +178,7 @@ fn print_made(text: &[u8], out: &mut [u8]) -> usize
     let c = text::piece_end(text, b + 1, 10);
     match form::read_making(&text[a + 1..b]) {
         MakingRow::NoMaking => 0,
-        MakingRow::Make(channels, capacity, sixteenths) => print_by(
+        MakingRow::Make(channels, capacity, sixteenths) => print_few(
             casts::wide64(channels),
             casts::wide64(capacity),
             form::share_of(sixteenths),

@@ -5,7 +5,8 @@ use mathlib.Core.List.{List, []}
 use Prim.Native.Nat.{ℕ, _<_}
 use lib.ListN.{getD, drop}
 use lib.Ieee.{Float}
-use Rattle.limits.specs.Limits.{pointLimit}
+use Rattle.limits.specs.Limits.{width, pointLimit}
+use Rattle.boundingbox.specs.Padding.{Padded}
 use Rattle.cuttree.specs.Tree.{Tree, ending, found}
 use Rattle.cuttree.proofs.Leaves.{all-ending}
 use Rattle.wholetree.specs.Reading.{Reading, sameRow}
@@ -15,6 +16,9 @@ use Rattle.walk.specs.Walks.{Walks, SomeWalks, Walked, SomeWalked}
 use Rattle.treestore.specs.Finds.{Sought, FoundIn}
 
 module _ {d c root : ℕ} {nodes : List (List ℕ)} {cuts : List Float} {points : List (List Float)} {index : ℕ} {t : Tree (whole d)} {p : Reading} (S : Sought d c root nodes cuts points index t p) where
+  pub index-padded : Padded (getD points index []) d width
+  index-padded = S .padded index (S .index-small) .rest
+
   pub some-walks : SomeWalks c nodes cuts (getD points index []) root
   some-walks = record { channels = d; tree = t; reading = p; walks = S .walks }
 
@@ -29,6 +33,9 @@ module _ {d c root : ℕ} {nodes : List (List ℕ)} {cuts : List Float} {points 
 
       pub leaf-low : leaf < pointLimit
       leaf-low = rw leaf-is (range-ending d c p t (S .walks .in-range))
+
+      pub leaf-padded : Padded (getD points leaf []) d width
+      leaf-padded = S .padded leaf leaf-low .rest
 
       same-is : sameRow (getD points leaf []) (getD points index []) ≡ found (whole d) t p
       same-is =

@@ -1,7 +1,9 @@
 pub mod Links
 pub mod Channels
+pub mod Padding
 pub mod Parts
 pub mod Manager
 pub mod Findings
 pub mod Removes
+pub mod NewBranch
 pub mod Enterings

@@ -37,7 +37,9 @@ use Rattle.boxstore.proofs.Copies.{less-boxes}
 use Rattle.boxstore.proofs.Forgets.{forget-once}
 use Rattle.treestore.specs.Arrays.{Lent, lent, managerOf, EditDone}
 use Rattle.treestore.specs.Edits.{Walking}
+use Rattle.rowboxes.specs.Rows.{PaddedBoxes}
 use Rattle.treestore.proofs.Links.{linked}
+use Rattle.treestore.proofs.Padding.{boxes-padded}
 use Rattle.treestore.proofs.Parts.{edit-done, no-boxes}
 
 module _ {d c k : ℕ} {t : Tree (whole d)} {u : List (ℕ × ℕ)} {p : Reading} {root : ℕ} {manager : IntervalStoreManager} {a : Lent} {points : List (List Float)} {path : List (List ℕ)} {n index : ℕ} {point : List Float} (G : Walking d c k t u p root manager a points path n index point) where
@@ -58,6 +60,9 @@ module _ {d c k : ℕ} {t : Tree (whole d)} {u : List (ℕ × ℕ)} {p : Reading
 
   pub boxes-are : a .boxes ≡ boxesOf d c k t
   boxes-are = ap (λ (x : Lent). x .boxes) (G .arrays-are)
+
+  pub kept-padded : PaddedBoxes d (a .boxes)
+  kept-padded = subst (PaddedBoxes d) (sym boxes-are) (boxes-padded d c (G .channels-few) k t (G .narrow))
 
   -- the tree after, and its free numbers
   abbrev Gone : ℕ → IntervalStoreManager → Lent → Type 0

@@ -17,14 +17,16 @@ use Rattle.layout.specs.Stands.{Once}
 use Rattle.walk.specs.Walks.{Walked}
 use Rattle.nodestore.specs.Stored.{Stored}
 use Rattle.boxstore.specs.Boxed.{Boxed}
+use Rattle.rowboxes.specs.Rows.{PaddedRow, PaddedTable}
 use Rattle.treestore.specs.declared.Edited.{Edited}
 use Rattle.treestore.specs.Arrays.{Lent, managerOf, arraysOf, EditDone}
 
--- p's walk in the tree t, which ends in the leaf of that index. d channels, capacity c, k cached branches, and the free numbers u
+-- p's walk in the tree t, which ends in the leaf of that index. d channels, capacity c, k cached branches, and the free numbers u. Beyond its channels the table and the point have +0.0.
 pub record Walking (d c k : ℕ) (t : Tree (whole d)) (u : List (ℕ × ℕ)) (p : Reading) (root : ℕ) (manager : IntervalStoreManager) (a : Lent) (points : List (List Float)) (path : List (List ℕ)) (n leaf : ℕ) (point : List Float) : Type 0 where
   pub small : c ≤ capacityLimit
   pub some-room : 2 ≤ c
   pub cached-few : k ≤ c - 1
+  pub channels-few : d ≤ width
   pub root-is : root ≡ id (whole d) c t
   pub manager-is : manager ≡ managerOf (c - 1) u
   pub arrays-are : a ≡ arraysOf d c k (some t) u
@@ -32,11 +34,13 @@ pub record Walking (d c k : ℕ) (t : Tree (whole d)) (u : List (ℕ × ℕ)) (p
   pub boxed : Boxed d c k (a .nodes) points (a .boxes) t
   pub once : Once d c t
   pub narrow : All (whole d) (λ i q n. Padded (q .row) d width) t
+  pub padded : PaddedTable d points
   pub proper : Proper (c - 1) u
   pub free-once : FreeOnce u
   pub walked : Walked d c path n t p
   pub index-is : leaf ≡ ending (whole d) t p .index
   pub row : point ≡ p .row
+  pub row-padded : PaddedRow d point
   pub freeable : (b : ℕ) → freed (whole d) p t ≡ some b → (b < c - 1) × (holds u b ≡ 0)
 
 -- some tree is walked, and p is held

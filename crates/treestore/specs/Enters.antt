@@ -2,7 +2,7 @@
 use mathlib.Core.Path.{_≡_}
 use mathlib.Core.Bool.{false}
 use mathlib.Core.Option.{some}
-use mathlib.Core.List.{List}
+use mathlib.Core.List.{List, []}
 use Prim.Native.Nat.{ℕ, _-_, _≤_, _<_}
 use lib.ListN.{length, getD}
 use lib.Ieee.{Float}
@@ -17,7 +17,7 @@ use Rattle.treestore.specs.declared.Entered.{Entered}
 use Rattle.treestore.specs.Arrays.{Lent, EditDone}
 use Rattle.treestore.specs.Edits.{Walking}
 
--- p's walk ends in another value's leaf; there is a free number for the branch, a free index for the leaf and a word for each node
+-- p's walk ends in another value's leaf; there is a free number for the branch, a free index for the leaf, where the table has p, and a word for each node
 pub record Entering (d c k : ℕ) (t : Tree (whole d)) (u : List (ℕ × ℕ)) (p : Reading) (root : ℕ) (manager : IntervalStoreManager) (a : Lent) (points : List (List Float)) (path : List (List ℕ)) (n leaf index : ℕ) (words : List ℕ) (point : List Float) : Type 0 where
   pub walking : Walking d c k t u p root manager a points path n leaf point
   pub absent : found (whole d) t p ≡ false
@@ -27,17 +27,17 @@ pub record Entering (d c k : ℕ) (t : Tree (whole d)) (u : List (ℕ × ℕ)) (
   pub number-fresh : uses d c t (next u) ≡ 0
   pub index-fresh : countAt d c t index ≡ 0
   pub index-small : index < pointLimit
+  pub index-row : getD points index [] ≡ p .row
   pub enough : n ≤ length words
 
 -- some tree is entered
-pub record SomeEntering (c k root : ℕ) (manager : IntervalStoreManager) (a : Lent) (points : List (List Float)) (path : List (List ℕ)) (n leaf index : ℕ) (words : List ℕ) (point : List Float) : Type 0 where
-  pub channels : ℕ
-  pub tree : Tree (whole channels)
+pub record SomeEntering (d c k root : ℕ) (manager : IntervalStoreManager) (a : Lent) (points : List (List Float)) (path : List (List ℕ)) (n leaf index : ℕ) (words : List ℕ) (point : List Float) : Type 0 where
+  pub tree : Tree (whole d)
   pub free : List (ℕ × ℕ)
   pub reading : Reading
-  pub entering : Entering channels c k tree free reading root manager a points path n leaf index words point
+  pub entering : Entering d c k tree free reading root manager a points path n leaf index words point
 
 -- Entering: one leaf and one branch more, and a word for each node of the walk, whichever tree it is.
-abbrev pub Enters : (c k root : ℕ) → IntervalStoreManager → Lent → List (List Float) → List (List ℕ) → (n leaf index : ℕ) → List ℕ → List Float → Entered → Lent → Type 0
-Enters c k root manager a points path n leaf index words point r b = (d : ℕ) (t : Tree (whole d)) (u : List (ℕ × ℕ)) (p : Reading) → Entering d c k t u p root manager a points path n leaf index words point
+abbrev pub Enters : (d c k root : ℕ) → IntervalStoreManager → Lent → List (List Float) → List (List ℕ) → (n leaf index : ℕ) → List ℕ → List Float → Entered → Lent → Type 0
+Enters d c k root manager a points path n leaf index words point r b = (t : Tree (whole d)) (u : List (ℕ × ℕ)) (p : Reading) → Entering d c k t u p root manager a points path n leaf index words point
     → EditDone d c k (some (insert (whole d) (next u) index p (λ m. getD words m 0) t)) (afterGet u) (record { root = r .root; manager = r .manager }) b × (r .words ≡ walk (whole d) t p)

@@ -11,11 +11,15 @@ use limits::Nodes;
 use limits::Path;
 use limits::Points;
 use limits::Row;
+use rowboxes::Sizes;
 ghost use mathlib.Core.Path.{_≡_};
 ghost use mathlib.Core.List.{List};
 ghost use Prim.Native.Nat.{ℕ, _≤_, _<_};
 ghost use lib.ListN.{getD};
-ghost use Rattle.limits.specs.Limits.{branchLimit};
+ghost use Rattle.limits.specs.Limits.{width, capacityLimit, branchLimit};
+ghost use Rattle.boxstore.specs.Grown.{SomeSides};
+ghost use Rattle.rowboxes.specs.Rows.{capacityOf, cachedOf, channelsOf, PaddedTable, PaddedBoxes};
+ghost use Rattle.branchboxes.specs.Pairs.{SidesKept};
 ghost use Rattle.intervalstoremanager.specs.Rows as Rows;
 ghost use Rattle.intervalstoremanager.specs.Stack.{afterRelease, holds, Proper, Once};
 ghost use Rattle.treestore.specs.Arrays.{lent, managerOf};
@@ -47,6 +51,7 @@ pub struct Found {
 // Rules out a leaf of another value taken for the reading's own.
 pub fn find(
     root: u16,
+    dimensions: usize,
     capacity: u16,
     nodes: &Nodes,
     cuts: &Cuts,
@@ -54,12 +59,12 @@ pub fn find(
     index: usize,
     path: &mut Path,
 ) -> Found
-    requires { ⌜ SomeSought capacity root (now nodes) (now cuts) (now points) index ⌝ }
-    ensures { λ r. ⌜ Finds capacity root (now (nodes .entry)) (now (cuts .entry)) (now (points .entry)) index (now (path .entry)) r (now (path .exit)) ⌝ }
+    requires { ⌜ SomeSought dimensions capacity root (now nodes) (now cuts) (now points) index ⌝ }
+    ensures { λ r. ⌜ Finds dimensions capacity root (now (nodes .entry)) (now (cuts .entry)) (now (points .entry)) index (now (path .entry)) r (now (path .exit)) ⌝ }
 {
     let n = walk::set_path(nodes, cuts, &points[index], root, capacity, path);
     let leaf = walk::leaf_at(path, n, capacity);
-    let held = walk::same_point(&points[leaf], &points[index]);
+    let held = walk::same_point(&points[leaf], &points[index], dimensions);
     Found {
         walk: n,
         leaf,
@@ -105,18 +110,9 @@ fn remove_last(
     let sibling = nodestore::lifted_root(root, path, n);
     let b = nodestore::remove_leaf(nodes, cuts, copies, path, n, leaf);
     let left = put_back(manager, free, b);
-    boxstore::clear_box(boxes, casts::wide16(b), cached);
-    boxstore::repair_ancestors(
-        boxes,
-        nodes,
-        points,
-        path,
-        n - 2,
-        point,
-        dimensions,
-        casts::wide16(capacity),
-        cached,
-    );
+    let sizes: Sizes = [casts::wide16(capacity), cached, dimensions];
+    rowboxes::clear_box(boxes, casts::wide16(b), &sizes);
+    walkboxes::repair_ancestors(boxes, nodes, points, path, n - 2, point, &sizes);
     Edited {
         root: sibling,
         manager: left,
@@ -175,11 +171,26 @@ pub fn remove_copy(
     )
 }
 
-// A reading that no leaf has: the highest cut that parts, a free number for the new branch, its row and its box, and the boxes above it grown.
+// The box of a new branch, if the branch is cached: from its sides, whose rows stand.
+fn keep_new_box(boxes: &mut Boxes, nodes: &Nodes, points: &Points, index: usize, sizes: &Sizes)
+    requires few { ⌜ (capacityOf (now sizes) ≤ capacityLimit) × (cachedOf (now sizes) ≤ branchLimit) × (channelsOf (now sizes) ≤ width) ⌝ }
+    requires stands { ⌜ SomeSides (capacityOf (now sizes)) (cachedOf (now sizes)) index (now nodes) (now points) (now boxes) ⌝ }
+    requires padded { ⌜ PaddedTable (channelsOf (now sizes)) (now points) × PaddedBoxes (channelsOf (now sizes)) (now boxes) ⌝ }
+    ensures kept { λ _. ⌜ SidesKept (capacityOf (now (sizes .entry))) (cachedOf (now (sizes .entry))) index (now (nodes .entry)) (now (points .entry)) (now (boxes .entry)) (now (boxes .exit)) ⌝ }
+    ensures padded { λ _. ⌜ PaddedBoxes (channelsOf (now (sizes .entry))) (now (boxes .exit)) ⌝ }
+{
+    if index < sizes[1] {
+        branchboxes::rebuild_box(boxes, nodes, points, index, sizes);
+    }
+}
+
+// A reading that no leaf has: the highest cut that parts, a free number for the new branch, its row and its box, and the boxes above it grown, but for those
+// that are known to hold the point.
 // Rules out a cut of the tree's own choosing, and a word left out where the box holds the point.
 pub fn insert_leaf(
     root: u16,
     manager: IntervalStoreManager,
+    dimensions: usize,
     capacity: u16,
     cached: usize,
     nodes: &mut Nodes,
@@ -195,21 +206,11 @@ pub fn insert_leaf(
     words: &[u64],
     point: &Row,
 ) -> Entered
-    requires { ⌜ SomeEntering capacity cached root manager (lent (now nodes) (now cuts) (now copies) (now free) (now boxes)) (now points) (now path) n leaf index (now words) (now point) ⌝ }
-    ensures { λ r. ⌜ Enters capacity cached root manager (lent (now (nodes .entry)) (now (cuts .entry)) (now (copies .entry)) (now (free .entry)) (now (boxes .entry))) (now (points .entry)) (now (path .entry)) n leaf index (now (words .entry)) (now (point .entry)) r (lent (now (nodes .exit)) (now (cuts .exit)) (now (copies .exit)) (now (free .exit)) (now (boxes .exit))) ⌝ }
+    requires { ⌜ SomeEntering dimensions capacity cached root manager (lent (now nodes) (now cuts) (now copies) (now free) (now boxes)) (now points) (now path) n leaf index (now words) (now point) ⌝ }
+    ensures { λ r. ⌜ Enters dimensions capacity cached root manager (lent (now (nodes .entry)) (now (cuts .entry)) (now (copies .entry)) (now (free .entry)) (now (boxes .entry))) (now (points .entry)) (now (path .entry)) n leaf index (now (words .entry)) (now (point .entry)) r (lent (now (nodes .exit)) (now (cuts .exit)) (now (copies .exit)) (now (free .exit)) (now (boxes .exit))) ⌝ }
 {
-    let highest = drawing::highest_cut(
-        nodes,
-        points,
-        boxes,
-        path,
-        n,
-        leaf,
-        words,
-        point,
-        casts::wide16(capacity),
-        cached,
-    );
+    let sizes: Sizes = [casts::wide16(capacity), cached, dimensions];
+    let highest = drawing::highest_cut(nodes, points, boxes, path, n, leaf, words, point, &sizes);
     let above = n - 1 - highest.height;
     let got = manager.get(free);
     match got {
@@ -228,12 +229,11 @@ pub fn insert_leaf(
                 left,
                 capacity,
             );
-            let below = highest.bounding_box;
-            boxstore::copy_box_above(boxes, casts::wide16(b), below, point, cached);
-            boxstore::grow_ancestors(boxes, path, above, point, cached);
-            let top = nodestore::placed_root(root, above, b);
+            keep_new_box(boxes, nodes, points, casts::wide16(b), &sizes);
+            walkboxes::grow_ancestors(boxes, path, n - highest.top, above, point, &sizes);
+            let new_root = nodestore::placed_root(root, above, b);
             Entered {
-                root: top,
+                root: new_root,
                 manager: rest,
                 words: n,
             }

@@ -2,7 +2,6 @@
 // A path is lent, as the Rust's vector of node and sibling is.
 use casts::wide16;
 use cut::Cut;
-use limits::CHANNELS;
 use limits::Cuts;
 use limits::Nodes;
 use limits::Path;
@@ -13,6 +12,7 @@ ghost use mathlib.Core.List.{[], _∷_};
 ghost use Prim.Native.Nat.{ℕ, _+_, _*_, _<_, _≤_};
 ghost use lib.ListN.{length, drop, set};
 ghost use Rattle.limits.specs.Limits.{width, capacityLimit, branchLimit};
+ghost use Rattle.boundingbox.specs.Padding.{Padded};
 ghost use Rattle.cuttree.specs.Tree.{Tree, ending};
 ghost use Rattle.wholetree.specs.Reading.{Reading, sameRow};
 ghost use Rattle.wholetree.specs.Whole.{whole};
@@ -143,13 +143,15 @@ pub fn leaf_at(path: &Path, n: usize, capacity: u16) -> usize
     wide16(node_at(path, n - 1)) - wide16(capacity)
 }
 
-// Equal coordinates in every channel.
-// Rules out one equal channel that is enough, and channels beyond the tree's left out.
-pub fn same_point(a: &Row, b: &Row) -> bool
+// Equal coordinates in every channel. Beyond the tree's both have +0.0, so that those are not looked at.
+// Rules out one equal channel that is enough, and the last channel left out.
+pub fn same_point(a: &Row, b: &Row, dimensions: usize) -> bool
+    requires narrow { ⌜ dimensions ≤ width ⌝ }
+    requires padded { ⌜ Padded (now a) dimensions width × Padded (now b) dimensions width ⌝ }
     ensures { λ r. ⌜ r ≡ sameRow (now (a .entry)) (now (b .entry)) ⌝ }
 {
     let mut i: usize = 0;
-    while i < CHANNELS {
+    while i < dimensions {
         if a[i] == b[i] {
             i += 1;
         } else {

@@ -3,7 +3,7 @@
 use crate::archive::Row;
 use crate::form;
 use crate::form::Read;
-use runs::{Answer, Call, Driver, Making, ROW_NUMBERS};
+use runs::{Answer, Call, Driver, Making, Sums, ROW_NUMBERS};
 use std::fmt::Write;
 use texts::{refused, OUT_OF_FORM};
 
@@ -30,6 +30,8 @@ pub struct Grown {
     pub answers: Vec<Answer>,
     /// How many of these rows have their words by a key.
     pub keyed: usize,
+    /// What its reports show of sums.
+    pub sums: Sums,
     pub end: End,
 }
 
@@ -88,6 +90,7 @@ fn carried_out(read: &Read) -> Outcome {
         calls,
         answers,
         keyed: read.archive.rows.iter().filter(keyed).count(),
+        sums: driver.sums(),
         end,
     })
 }

@@ -35,8 +35,8 @@ fn row(capacity: usize, calls: usize, repetitions: usize) {
     };
     // each is dropped before the next is made: a million arrivals of capacity 256 have 2 gigabytes
     let timed = |workload: &dyn Fn() -> Workload| {
-        let times = times::least(&workload(), repetitions);
-        format!("{:.0} | {:.0}", times.rust, times.port)
+        let (rust, port) = times::least(&workload(), repetitions);
+        format!("{rust:.0} | {port:.0}")
     };
     let adds = timed(&|| adds::adds_and_deletes(&shape, calls));
     let evicting = timed(&|| arrivals(Arrivals::Evicting, &shape, calls));

@@ -3,10 +3,10 @@ use port::{Called, Lending};
 use runs::{Call, Making, Run};
 use std::thread::Builder;
 
-/// docs/LAYOUT.md: 'each with 192 KB of stack'.
-const STACK: usize = 192 * 1024;
+/// docs/LAYOUT.md: 'each with 320 KB of stack'.
+const STACK: usize = 320 * 1024;
 
-const CHANNELS: u32 = 8;
+const CHANNELS: [u32; 2] = [8, 32];
 const CAPACITY: u32 = 256;
 
 /// In which direction each reading lies beyond all before it.
@@ -16,19 +16,26 @@ enum Beyond {
     Below,
 }
 
-impl Beyond {
+/// What a chain is made of.
+#[derive(Clone, Copy)]
+struct Chain {
+    beyond: Beyond,
+    channels: u32,
+}
+
+impl Chain {
     /// Whole numbers, 4 apart.
     fn coordinates(self, n: u32) -> Vec<u32> {
-        let x = match self {
+        let x = match self.beyond {
             Beyond::Above => 4.0 * n as f32,
             Beyond::Below => -4.0 * n as f32,
         };
-        vec![x.to_bits(); CHANNELS as usize]
+        vec![x.to_bits(); self.channels as usize]
     }
 
     /// Words whose cuts fall next to the outermost end: the root's parts the new reading from all others.
     fn words(self) -> Vec<u64> {
-        let word = match self {
+        let word = match self.beyond {
             Beyond::Above => u64::MAX << 52,
             Beyond::Below => 1 << 52,
         };
@@ -62,7 +69,7 @@ impl Beyond {
         calls.extend((0..CAPACITY).step_by(3).map(|index| Call::Delete { index }));
         calls.extend([add(CAPACITY), self.report(1000)]);
         Run {
-            making: Making::bare(CHANNELS, CAPACITY, share),
+            making: Making::bare(self.channels, CAPACITY, share),
             calls,
         }
     }
@@ -79,18 +86,23 @@ impl Beyond {
         calls.extend((0..2 * CAPACITY).map(arrival));
         calls.extend([self.report(0), self.report(1000), Call::Sample]);
         Run {
-            making: Making::sampled(CHANNELS, CAPACITY, share, 1.0),
+            making: Making::sampled(self.channels, CAPACITY, share, 1.0),
             calls,
         }
     }
 }
 
-/// Chains to the left and to the right, with all boxes cached, half of them and none.
+/// Chains to the left and to the right, of few channels and of the most, with all boxes cached, half of them and none.
 pub fn all() -> Vec<Run> {
-    let shares = [1.0, 0.5, 0.0];
-    let both = |beyond: Beyond| shares.map(|share| [beyond.bare(share), beyond.sampled(share)]);
-    let runs = [Beyond::Above, Beyond::Below].map(both);
-    runs.into_iter().flatten().flatten().collect()
+    let mut runs = vec![];
+    for channels in CHANNELS {
+        for beyond in [Beyond::Above, Beyond::Below] {
+            let chain = Chain { beyond, channels };
+            let both = |share: f64| [chain.bare(share), chain.sampled(share)];
+            runs.extend([1.0, 0.5, 0.0].map(both).into_iter().flatten());
+        }
+    }
+    runs
 }
 
 /// The port's answer. Where the stack is too small the process ends, and nothing is compared.

@@ -2,7 +2,9 @@
 use oracle::Words;
 use runs::damaged::damage_whole;
 use runs::examples;
-use runs::generate::{self, lone_leaf_to_the_limit, three_values_to_the_limit, Room, Written};
+use runs::generate::{
+    self, lone_leaf_to_the_limit, three_values_to_the_limit, Room, Widths, Written,
+};
 
 pub struct Inputs {
     pub number: usize,
@@ -11,7 +13,7 @@ pub struct Inputs {
 }
 
 /// What makes up a run in a room.
-type Draw = fn(&mut Words, Room) -> Written;
+type Draw = fn(&mut Words, Room, Widths) -> Written;
 
 /// Of five runs two are bare, one is bare with reports, two are sampled.
 const MIXED: [Draw; 5] = [
@@ -25,7 +27,7 @@ const MIXED: [Draw; 5] = [
 /// Where inputs come from.
 pub struct Source {
     seed: u64,
-    /// Document 01's inputs, with two runs to the limit of copies.
+    /// Document 01's inputs, with two runs to the limit of copies and those of many channels.
     first: Vec<Written>,
 }
 
@@ -36,6 +38,7 @@ impl Source {
         first.push(three_values_to_the_limit());
         first.extend(examples::reported());
         first.extend(examples::sampled());
+        first.extend(examples::wide());
         Source { seed, first }
     }
 
@@ -44,7 +47,7 @@ impl Source {
         let mut words = Words::nth(self.seed, number);
         let written = match self.first.get(number) {
             Some(written) => written.clone(),
-            None => kind(number / ROOMS)(&mut words, room(number)),
+            None => kind(number / ROOMS)(&mut words, room(number), Widths::All),
         };
         inputs(number, written, &mut words)
     }
@@ -52,7 +55,7 @@ impl Source {
     /// Inputs with a short run.
     pub fn draw_short(&self, number: usize) -> Inputs {
         let mut words = Words::nth(self.seed, number);
-        let written = kind(number)(&mut words, SHORT);
+        let written = kind(number)(&mut words, SHORT, Widths::All);
         inputs(number, written, &mut words)
     }
 }
@@ -62,7 +65,7 @@ fn kind(number: usize) -> Draw {
 }
 
 fn inputs(number: usize, written: Written, words: &mut Words) -> Inputs {
-    let damaged = |n| damage_whole(&kind(number + n)(words, SHORT).run, words);
+    let damaged = |n| damage_whole(&kind(number + n)(words, SHORT, Widths::All).run, words);
     Inputs {
         number,
         written,

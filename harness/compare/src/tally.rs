@@ -1,7 +1,7 @@
 //! What was compared, counted, and the least that has to be.
 use command::{reached, HELD_TO};
-use runs::generate::Written;
-use runs::Call;
+use runs::generate::{Written, FEW};
+use runs::{Call, Sums, MOST_CHANNELS};
 use std::collections::BTreeMap;
 
 /// How much has to be compared.
@@ -11,6 +11,9 @@ pub struct Least {
     /// Calls of sampled runs.
     pub sampled_calls: usize,
     pub report_rows: usize,
+    /// Those whose computed sum is not the whole-number sum, and those of them at 9 channels.
+    pub rounded: usize,
+    pub rounded_at_nine: usize,
 }
 
 /// What was compared so far.
@@ -27,6 +30,9 @@ pub struct Tally {
     /// How often each thing became of an arrival: not accepted, accepted, accepted and another evicted.
     arrivals: [usize; 3],
     report_rows: usize,
+    sums: Sums,
+    /// Runs of more than 8 channels.
+    wide_runs: usize,
     pub damaged: usize,
     pub out_of_layout: usize,
     pub too_few: usize,
@@ -42,6 +48,9 @@ impl Tally {
         let calls = written.answers.len() - 1;
         self.runs += 1;
         self.calls += calls;
+        self.sums.add(&written.sums);
+        let channels = written.run.making.channels;
+        self.wide_runs += usize::from((FEW + 1..=MOST_CHANNELS).contains(&channels));
         if written.run.making.initial.is_some() {
             self.sampled_runs += 1;
             self.sampled_calls += calls;
@@ -79,6 +88,11 @@ impl Tally {
             self.sampled_runs, self.sampled_calls, self.report_rows
         );
         println!(
+            "more than {FEW} channels: {} runs; report rows with a rounded sum: {}, at 9 channels: {}; the furthest \
+             lies {} from the whole-number sum",
+            self.wide_runs, self.sums.rounded, self.sums.rounded_at_nine, self.sums.furthest
+        );
+        println!(
             "compare: {} runs, {} calls, {} answer bytes compared, {} differ",
             self.runs, self.calls, self.answer_bytes, self.differing
         );
@@ -94,7 +108,17 @@ impl Tally {
                 "calls of sampled runs",
             )?;
             reached(self.report_rows, least.report_rows, "report rows")?;
+            reached(
+                self.sums.rounded,
+                least.rounded,
+                "report rows with a rounded sum",
+            )?;
+            reached(
+                self.sums.rounded_at_nine,
+                least.rounded_at_nine,
+                "report rows with a rounded sum at 9 channels",
+            )?;
         }
-        Ok(())
+        self.sums.all_right()
     }
 }

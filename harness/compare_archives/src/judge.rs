@@ -4,7 +4,7 @@ use archives::generate::{nth, Given, FIRST_DRAWN};
 use archives::{outcome, End, Outcome};
 use command::{reached, Pieces, Program, Tally};
 use oracle::Words;
-use runs::Call;
+use runs::{Call, Sums};
 
 /// What was compared so far.
 #[derive(Default)]
@@ -20,6 +20,7 @@ pub struct Judge {
     accepted: usize,
     evicting: usize,
     report_rows: usize,
+    sums: Sums,
     kept: usize,
     nodes: usize,
     bytes: usize,
@@ -55,7 +56,13 @@ impl command::Judge for Judge {
         }
         reached(self.arrivals, ARRIVALS + ARRIVALS_EACH * asked, "arrivals")?;
         reached(self.keyed, KEYED + KEYED_EACH * asked, "keyed arrivals")?;
-        reached(self.report_rows, REPORT_ROWS_EACH * asked, "report rows")
+        reached(self.report_rows, REPORT_ROWS_EACH * asked, "report rows")?;
+        reached(
+            self.sums.rounded,
+            asked / ARCHIVES_EACH_ROUNDED,
+            "report rows with a rounded sum",
+        )?;
+        self.sums.all_right()
     }
 }
 
@@ -85,6 +92,7 @@ impl Judge {
         self.rows += grown.calls.len();
         self.most_rows = self.most_rows.max(grown.calls.len());
         self.keyed += grown.keyed;
+        self.sums.add(&grown.sums);
         for (call, answer) in grown.calls.iter().zip(&grown.answers) {
             match (call, &answer[..]) {
                 (Some(Call::Arrival { .. }), [_, became, ..]) => {
@@ -111,6 +119,10 @@ impl Judge {
         );
         println!("keyed: {} arrivals", self.keyed);
         println!(
+            "report rows with a rounded sum: {}, at 9 channels: {}",
+            self.sums.rounded, self.sums.rounded_at_nine
+        );
+        println!(
             "printed: {} bytes for {}; {} kept arrivals, {} nodes",
             tally.output_bytes, self.bytes, self.kept, self.nodes
         );
@@ -127,6 +139,8 @@ const ARRIVALS_EACH: usize = 40;
 const KEYED: usize = 6_000;
 const KEYED_EACH: usize = 5;
 const REPORT_ROWS_EACH: usize = 30;
+/// To each row with a rounded sum there may be so many archives.
+const ARCHIVES_EACH_ROUNDED: usize = 5;
 
 /// Pieces of odd sizes, single bytes where the archive is short, and no more than a few hundred in all.
 fn pieces(bytes: usize, turn: usize) -> Pieces {

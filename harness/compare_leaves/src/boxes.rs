@@ -9,7 +9,7 @@ use oracle::Words;
 /// Ends, where the leaf gives a box, and a number or a truth value.
 #[derive(Debug, PartialEq)]
 pub struct Said {
-    ends: [[u64; 8]; 2],
+    ends: [[u64; WIDTH]; 2],
     number: u64,
 }
 
@@ -125,7 +125,9 @@ pub fn leaves() -> Vec<Leaf<Given, Said>> {
                 ("a face taken for inside", |g| {
                     number(in_channels(&g, |lo, p, hi| lo <= p && p <= hi).into())
                 }),
-                ("padding counted", |g| number(port_strictly(&g, 8).into())),
+                ("padding counted", |g| {
+                    number(port_strictly(&g, WIDTH).into())
+                }),
             ],
         ),
         leaf(
@@ -150,7 +152,7 @@ pub fn leaves() -> Vec<Leaf<Given, Said>> {
     ]
 }
 
-const EMPTY: Row = [0.0; 8];
+const EMPTY: Row = [0.0; WIDTH];
 
 fn leaf(
     name: &'static str,
@@ -238,7 +240,7 @@ fn port_strictly(g: &Given, dimensions: usize) -> bool {
 /// The channels, or a number beyond them where none is padding.
 fn dimensions(g: &Given) -> usize {
     match (g.channels, g.whole) {
-        (8, true) => usize::MAX,
+        (WIDTH, true) => usize::MAX,
         (channels, _) => channels,
     }
 }

@@ -1,7 +1,8 @@
 //! Boxes, points and other boxes to compare on.
-use crate::port::Row;
+use crate::port::{Row, WIDTH};
 use oracle::rcflib::samplerplustree::boundingbox::BoundingBox;
 use oracle::Words;
+use runs::generate::Widths;
 
 /// The largest coordinate; the least is minus this.
 const EDGE: i32 = 1 << 20;
@@ -98,7 +99,7 @@ pub fn around(channels: usize, first: &Row, second: &Row) -> BoundingBox {
 
 /// A point or ends of fewer channels, with +0.0 in the others.
 pub fn row(values: &[f32]) -> Row {
-    let mut row = [0.0; 8];
+    let mut row = [0.0; WIDTH];
     row[..values.len()].copy_from_slice(values);
     row
 }
@@ -112,8 +113,8 @@ fn given(kind: Kind, words: &mut Words) -> Given {
         false => words.one_of(&[Bits, near, near, Odd]),
     };
     let drawn = Drawn { kind, spread };
-    let channels = 1 + words.below(8);
-    let (mut first, mut second) = ([0.0; 8], [0.0; 8]);
+    let channels = Widths::All.channels(words) as usize;
+    let (mut first, mut second) = ([0.0; WIDTH], [0.0; WIDTH]);
     let flat = words.once_in(8);
     for i in 0..channels {
         first[i] = drawn.value(words);
@@ -173,7 +174,7 @@ impl Drawn {
         let chosen = words.below(low.len());
         let one = words.once_in(2);
         let mixed = words.once_in(4);
-        let mut point = [0.0; 8];
+        let mut point = [0.0; WIDTH];
         for i in 0..low.len() {
             let place = match (mixed, one && i == chosen) {
                 (true, _) => words.one_of(&[Anywhere, Between, Face, Beside]),

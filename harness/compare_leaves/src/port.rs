@@ -2,7 +2,10 @@
 #![allow(unsafe_code)]
 
 /// A point, or the lower or upper ends of a box. Channels that are not used hold +0.0.
-pub type Row = [f32; 8];
+pub type Row = [f32; WIDTH];
+
+/// How many channels a row has room for.
+pub const WIDTH: usize = 32;
 
 // Each asks nothing of its caller but what the types say, and keeps no reference.
 unsafe extern "C" {

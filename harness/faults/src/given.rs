@@ -1,6 +1,6 @@
 //! A file of generated runs with the answers of the unchanged Rust.
 use oracle::Words;
-use runs::generate::{self, Room};
+use runs::generate::{self, Room, Widths};
 use runs::{answers, bytes_of, decode};
 use std::panic::{catch_unwind, AssertUnwindSafe};
 
@@ -18,8 +18,8 @@ pub fn draw() -> Vec<u8> {
             answers: size,
         };
         let written = match n % 3 {
-            0 => generate::reported(&mut words, room),
-            _ => generate::sampled(&mut words, room),
+            0 => generate::reported(&mut words, room, Widths::All),
+            _ => generate::sampled(&mut words, room, Widths::All),
         };
         for bytes in [written.run.encode(), bytes_of(&written.answers)] {
             file.extend((bytes.len() as u32).to_le_bytes());

@@ -36,7 +36,7 @@ const BOX: &str = "boundingbox.rs";
 
 /// Faults of the sampler, of the starting chance and of what `update` keeps, then of reports. They are
 /// numbered from 1.
-pub const FAULTS: [Fault; 18] = [
+pub const FAULTS: [Fault; 20] = [
     fault(
         "an equal weight evicts",
         SAMPLER,
@@ -162,5 +162,20 @@ pub const FAULTS: [Fault; 18] = [
         "node_store.grow_node_box(x, point_store, index, sibling)?",
         0,
         "()",
+    ),
+    // made where two faults above have left what stood there
+    fault(
+        "of a cached box what lies below and above is added up in one chain",
+        STORE,
+        "maxsum + minsum",
+        0,
+        "(0..point.len()).map(|i| (minarray[i] - point[i]).max(0.0) + (point[i] - maxarray[i]).max(0.0)).sum::<f32>()",
+    ),
+    fault(
+        "of another box what lies below and above is added up in one chain",
+        BOX,
+        "maxsum + minsum",
+        0,
+        "(0..point.len()).map(|i| (self.min_values[i] - point[i]).max(0.0) + (point[i] - self.max_values[i]).max(0.0)).sum::<f32>()",
     ),
 ];

@@ -3,8 +3,10 @@
 #![deny(unsafe_code)]
 
 mod guarded;
+mod library;
 mod words;
 
+pub use library::Library;
 pub use words::{words_of_port, Filled, Source, WordsLent};
 
 use guarded::Guarded;
@@ -38,7 +40,7 @@ impl Lending {
 
     /// Hands both to the port.
     pub fn call(&mut self) {
-        self.returned = run_of_port(self.run.lent(), self.answers.lent_mut());
+        self.returned = Library::linked().run(self.run.lent(), self.answers.lent_mut());
     }
 
     /// What came of the call.
@@ -86,19 +88,4 @@ impl Lending {
     pub fn returned(&self) -> usize {
         self.returned
     }
-}
-
-/// One call of the port, with nothing around what it is lent.
-#[allow(unsafe_code)]
-pub fn run_of_port(run: &[u8], answers: &mut [u8]) -> usize {
-    extern "C" {
-        fn sicklephlox_run(
-            run: *const u8,
-            run_length: usize,
-            answers: *mut u8,
-            answers_length: usize,
-        ) -> usize;
-    }
-    // Both slices are valid for their lengths and do not overlap, and the function keeps neither.
-    unsafe { sicklephlox_run(run.as_ptr(), run.len(), answers.as_mut_ptr(), answers.len()) }
 }

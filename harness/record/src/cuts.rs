@@ -7,7 +7,9 @@ pub const KIND: u32 = 0;
 const RECORDS: usize = 6000;
 const SEED: u64 = 0x0123_4567_89AB_CDEF;
 /// A record has room for this many channels.
-const WIDTH: usize = 8;
+const WIDTH: usize = 32;
+/// Those drawn first have no more.
+const FEW: usize = 8;
 /// The largest coordinate; the least is minus this.
 const EDGE: i32 = 1 << 20;
 
@@ -66,7 +68,7 @@ pub fn records() -> Vec<Record> {
     let mut words = Words::new(SEED);
     let mut cases = examples();
     for n in cases.len()..RECORDS {
-        cases.push(random_case(n, &mut words));
+        cases.push(random_case(1 + n % FEW, n / FEW, &mut words));
     }
     let records = cases.iter().map(record).collect();
     assert!(
@@ -105,10 +107,16 @@ fn examples() -> Vec<Case> {
     ]
 }
 
-/// The n-th case: channels and span go round, the rest is drawn.
-fn random_case(n: usize, words: &mut Words) -> Case {
-    let channels = 1 + n % WIDTH;
-    let span = [Span::Full, Span::Edges, Span::ZeroOne, Span::Small][n / WIDTH % 4];
+/// So many records with more than 8 channels, each number of them in turn.
+pub fn of_many_channels(records: usize, words: &mut Words) -> Vec<Record> {
+    let many = WIDTH - FEW;
+    let case = |n: usize| random_case(FEW + 1 + n % many, n / many, words);
+    (0..records).map(case).map(|case| record(&case)).collect()
+}
+
+/// A case of so many channels: its span goes round with n, the rest is drawn.
+fn random_case(channels: usize, n: usize, words: &mut Words) -> Case {
+    let span = [Span::Full, Span::Edges, Span::ZeroOne, Span::Small][n % 4];
     let (low, high) = random_box(channels, span, words);
     let point = random_point(&low, &high, span, words);
     let mut case = Case {

@@ -18,10 +18,13 @@ mod sampled_runs;
 mod samples;
 mod text_page;
 mod texts;
+mod wide;
+mod wide_page;
 
 use record::Record;
 use std::path::{Path, PathBuf};
 use std::process::ExitCode;
+use wide::Wide;
 
 fn main() -> ExitCode {
     let arguments: Vec<String> = std::env::args().skip(1).collect();
@@ -48,6 +51,7 @@ struct Recorded {
     floats: Vec<Record>,
     samples: Vec<Record>,
     sampled_runs: Vec<runs::Entry>,
+    wide: Wide,
 }
 
 impl Recorded {
@@ -60,6 +64,7 @@ impl Recorded {
             floats: floats::records(),
             samples: samples::records(),
             sampled_runs: sampled_runs::entries(),
+            wide: Wide::new(),
         }
     }
 
@@ -69,13 +74,9 @@ impl Recorded {
         let runs = self.runs.iter().map(|run| run.record().bytes());
         let texts = self.texts.iter().map(|text| text.record().bytes());
         let after = self.floats.iter().chain(&self.samples).map(Record::bytes);
-        let last = self.sampled_runs.iter().map(|run| run.record().bytes());
-        before
-            .chain(runs)
-            .chain(texts)
-            .chain(after)
-            .chain(last)
-            .collect()
+        let sampled = self.sampled_runs.iter().map(|run| run.record().bytes());
+        let few = before.chain(runs).chain(texts).chain(after).chain(sampled);
+        few.chain(self.wide.bytes()).collect()
     }
 }
 

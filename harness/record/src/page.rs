@@ -1,5 +1,7 @@
 //! The page beside the recorded file: what a record is, and what the records hold, counted.
-use crate::{cuts, intervals, record, run_page, sampled_page, samples, text_page, Recorded};
+use crate::{
+    cuts, intervals, record, run_page, sampled_page, samples, text_page, wide_page, Recorded,
+};
 use floats::{Function, FUNCTIONS};
 
 pub fn make(recorded: &Recorded) -> String {
@@ -36,6 +38,7 @@ pub fn make(recorded: &Recorded) -> String {
     let page = include_str!("page.md").replace("@FLOAT_TABLE\n", &float_rows(recorded));
     let page = run_page::fill(page, &recorded.runs);
     let page = sampled_page::fill(page, &recorded.sampled_runs);
+    let page = wide_page::fill(page, &recorded.wide);
     put(text_page::fill(page, &recorded.texts), &numbers)
 }
 

@@ -2,7 +2,7 @@
 use crate::record::{Record, ROOM};
 use oracle::{feed, Words};
 use runs::damaged::damage;
-use runs::generate::{self, Room, Written};
+use runs::generate::{self, Room, Widths, Written};
 use runs::{bytes_of, decode, examples, outcome, Call, Making, Outcome, Run};
 
 pub const KIND: u32 = 2;
@@ -49,7 +49,9 @@ impl Entry {
 pub fn entries() -> Vec<Entry> {
     let mut words = Words::new(SEED);
     let mut entries: Vec<Entry> = examples::bare().into_iter().map(Entry::whole).collect();
-    entries.extend((0..GENERATED).map(|n| Entry::whole(generate::run(&mut words, room(n)))));
+    entries.extend(
+        (0..GENERATED).map(|n| Entry::whole(generate::run(&mut words, room(n), Widths::Few))),
+    );
     entries.extend(large());
     entries.extend((0..DAMAGED).map(|_| damaged(&mut words)));
     assert!(
@@ -84,7 +86,8 @@ fn large() -> Vec<Entry> {
         run: 8_000,
         answers: 3 * ROOM,
     };
-    let drawn = (0..GENERATED).map(|_| Entry::lent_all(generate::run(words, room).run.encode()));
+    let drawn = (0..GENERATED)
+        .map(|_| Entry::lent_all(generate::run(words, room, Widths::Few).run.encode()));
     let too_large = drawn.filter(|entry| entry.outcome == Outcome::Refused(15));
     entries.extend(too_large.take(NEEDING_MORE));
     entries
@@ -118,5 +121,5 @@ fn damaged(words: &mut Words) -> Entry {
         run: 600,
         answers: 800,
     };
-    Entry::lent_all(damage(&generate::run(words, room).run, words))
+    Entry::lent_all(damage(&generate::run(words, room, Widths::Few).run, words))
 }

@@ -30,7 +30,7 @@ pub fn fill(page: String, entries: &[Entry]) -> String {
 }
 
 /// The rows that a report writes.
-fn rows(answer: &Answered) -> usize {
+pub fn rows(answer: &Answered) -> usize {
     match answer.kind {
         7 => answer.numbers[1] as usize,
         _ => 0,

@@ -4,7 +4,7 @@ use crate::runs::Entry;
 use oracle::{feed, Words};
 use runs::damaged::damage_whole;
 use runs::examples;
-use runs::generate::{self, Room};
+use runs::generate::{self, Room, Widths::Few};
 
 const SEED: u64 = 0x7A11_0E5C_0FFE_E123;
 const SAMPLED: usize = 216;
@@ -21,14 +21,15 @@ pub fn entries() -> Vec<Entry> {
     let words = &mut words;
     let examples = [examples::reported(), examples::sampled()].concat();
     let mut entries: Vec<Entry> = examples.into_iter().map(Entry::whole).collect();
-    entries.extend((0..SAMPLED).map(|n| Entry::whole(generate::sampled(words, room(n)))));
-    entries.extend((0..REPORTED).map(|n| Entry::whole(generate::reported(words, room(n)))));
+    entries.extend((0..SAMPLED).map(|n| Entry::whole(generate::sampled(words, room(n), Few))));
+    entries.extend((0..REPORTED).map(|n| Entry::whole(generate::reported(words, room(n), Few))));
     let all = Room {
         run: ROOM,
         answers: ROOM,
     };
-    entries
-        .extend((0..OF_LARGEST).map(|_| Entry::whole(generate::sampled_of(LARGEST, words, all))));
+    entries.extend(
+        (0..OF_LARGEST).map(|_| Entry::whole(generate::sampled_of(LARGEST, words, all, Few))),
+    );
     entries.extend((0..DAMAGED).map(|n| damaged(n, words)));
     assert!(
         feed::seed17_draws() == 0,
@@ -54,8 +55,8 @@ fn damaged(n: usize, words: &mut Words) -> Entry {
         answers: 800,
     };
     let drawn = match n % 3 {
-        0 => generate::reported(words, room),
-        _ => generate::sampled(words, room),
+        0 => generate::reported(words, room, Few),
+        _ => generate::sampled(words, room, Few),
     };
     Entry::lent_all(damage_whole(&drawn.run, words))
 }

@@ -12,7 +12,10 @@ pub fn fill(page: String, entries: &[Entry]) -> String {
         ("@OP_ROWS", of(rows).sum()),
         ("@TEXTS_UNMADE", of(unmade).sum()),
         ("@MOST_TEXT", MOST_TEXT),
-        ("@LONGEST_OUTPUT", of(|e| e.output().len()).max().unwrap_or(0)),
+        (
+            "@LONGEST_OUTPUT",
+            of(|e| e.output().len()).max().unwrap_or(0),
+        ),
         ("@LARGEST_TREE", of(nodes).max().unwrap_or(0)),
         ("@NODES", of(nodes).sum()),
     ];

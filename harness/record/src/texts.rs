@@ -22,7 +22,7 @@ pub struct Entry {
 }
 
 impl Entry {
-    fn new(given: Given) -> Self {
+    pub fn new(given: Given) -> Self {
         let entry = Entry {
             kind: given.kind,
             outcome: outcome(&given.bytes),

@@ -33,7 +33,7 @@ struct Side {
     ends: [i32; 2],
 }
 
-/// The non-zero sides in channel order, and their sum. The sum is at most 2^24.
+/// The non-zero sides in channel order, and their sum. The sum is at most 2^26.
 fn sides(place: &Place) -> (Vec<Side>, i32) {
     let mut found = Vec::new();
     let mut before = 0;

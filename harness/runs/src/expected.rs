@@ -3,6 +3,7 @@ use crate::decode::decode;
 use crate::driver::Driver;
 use crate::layout::{Answer, Run};
 use crate::refusals::{making_refusal, OUT_OF_LAYOUT, TOO_FEW_LENT};
+use crate::sums::Sums;
 
 /// No more answer bytes than this are lent to damaged runs. A report may ask for 80 gigabytes of rows.
 pub const MOST_LENT: usize = 1 << 22;
@@ -28,11 +29,17 @@ impl Outcome {
 
 /// The answers of a run: the making's, then one for each call. A refused making has its own only.
 pub fn answers(run: &Run) -> Vec<Answer> {
+    carried_out(run).0
+}
+
+/// The same, and what the run's reports show of sums.
+pub fn carried_out(run: &Run) -> (Vec<Answer>, Sums) {
     match Driver::make(&run.making) {
-        Err(refusal) => vec![vec![refusal]],
+        Err(refusal) => (vec![vec![refusal]], Sums::default()),
         Ok(mut driver) => {
             let calls = run.calls.iter().map(|call| driver.call(call));
-            [vec![0]].into_iter().chain(calls).collect()
+            let answers = [vec![0]].into_iter().chain(calls).collect();
+            (answers, driver.sums())
         }
     }
 }

@@ -18,10 +18,13 @@ mod layout;
 pub mod page;
 mod refusals;
 mod spans;
+mod sums;
 
 pub use checker::{check, Checked};
 pub use decode::decode;
 pub use driver::Driver;
 pub use expected::{answers, bytes_of, needed, outcome, Outcome, MOST_LENT};
 pub use layout::{Answer, Call, Making, Run, ROW_NUMBERS};
+pub use refusals::MOST_CHANNELS;
 pub use spans::Span;
+pub use sums::Sums;

@@ -20,6 +20,8 @@ pub const TOO_FEW_LENT: u32 = 15;
 pub const NO_SUCH_NODE: u32 = 16;
 pub const OUT_OF_LAYOUT: u32 = 17;
 
+/// No tree has more channels.
+pub const MOST_CHANNELS: u32 = 32;
 /// The largest coordinate; the least is minus this.
 pub const EDGE: i32 = 1 << 20;
 /// No tree holds more copies.
@@ -28,7 +30,7 @@ pub const MOST_COPIES: usize = 65_535;
 /// Why a making is refused, if it is.
 pub fn making_refusal(making: &Making) -> Option<u32> {
     let in_range = |share: u64| (0.0..=1.0).contains(&f64::from_bits(share));
-    if !(1..=8).contains(&making.channels) {
+    if !(1..=MOST_CHANNELS).contains(&making.channels) {
         Some(CHANNELS)
     } else if !(2..=256).contains(&making.capacity) {
         Some(CAPACITY)

@@ -4,7 +4,7 @@ use crate::examples::line;
 use oracle::rcflib::samplerplustree::boundingbox::BoundingBox;
 use oracle::rcflib::samplerplustree::cut::Cut;
 use oracle::rcflib::samplerplustree::randomcuttree::RCFTree;
-use oracle::{cut_choice, feed, nodes, printed, shown, BareTree, Choice, Sampler, Table};
+use oracle::{cut_choice, feed, nodes, printed, shown, sums, BareTree, Choice, Sampler, Table};
 use std::panic::{catch_unwind, set_hook, take_hook, AssertUnwindSafe};
 
 pub const HALF: u64 = 1 << 63;
@@ -13,11 +13,12 @@ pub const BELOW_ZERO: &str = "attempt to subtract with overflow";
 
 /// Runs all and answers how many there are.
 pub fn run() -> usize {
-    let listed: [fn(); 12] = [
+    let listed: [fn(); 13] = [
         words_from_leaf_to_root,
         a_word_for_a_box_that_holds_the_point,
         place_counted_from_the_lower_end,
         no_cut_where_the_box_holds_the_point,
+        a_rounded_sum,
         branch_seeded_with_17,
         wrong_node,
         full_store,
@@ -96,6 +97,27 @@ fn place_counted_from_the_lower_end() {
 fn no_cut_where_the_box_holds_the_point() {
     assert_eq!(cut_choice(&[0.0], &[8.0], &[4.0], HALF), Choice::NoCut);
     assert_eq!(cut_choice(&[3.0], &[3.0], &[3.0], HALF), Choice::NoCut);
+}
+
+/// 1.12: eight distances of 2^21 and one of 1. The sum in whole numbers has no place in an f32.
+fn a_rounded_sum() {
+    let far = (1 << 20) as f32;
+    let reading = |x: f32, last: f32| [&[x; 8][..], &[last]].concat();
+    let mut table = Table::new();
+    table.put(0, &reading(-far, 0.0));
+    table.put(1, &reading(-far, -1.0));
+    let query = reading(far, 1.0);
+    for share in [0.0, 1.0] {
+        let mut bare = BareTree::make(9, 2, share).unwrap();
+        bare.add(&table, 0, &[]).unwrap();
+        bare.add(&table, 1, &[HALF]).unwrap();
+        let rows = shown(bare.tree(), &table, &query).unwrap();
+        assert_eq!(rows[1].probability.to_bits(), 0x3FEF_FFFF_E000_0020);
+        let sum = sums(bare.tree(), &table, &query)[1];
+        assert_eq!((sum.computed, sum.whole), (16_777_216.0, 16_777_217));
+        assert_eq!(sum.probability(), rows[1].probability);
+        assert_eq!(sum.of_whole().to_bits(), 0x3FEF_FFFF_E000_0040);
+    }
 }
 
 /// No word gives a factor that leaves a rest after all sides; 1.1 does.

@@ -1,8 +1,9 @@
 //! What document 01 says of a tree, worked out from the counts of copies and from the tree before.
 use oracle::{
     cut_choice, free_intervals, nodes, report, rust_mass, total, walk_nodes, Choice, Masses, Node,
-    Row, Table, Tree, Words,
+    Row, Sum, Table, Tree, Words,
 };
+use runs::generate::Widths;
 use std::collections::{BTreeMap, BTreeSet};
 use std::slice::Iter;
 
@@ -368,7 +369,7 @@ fn check_report(tree: &Tree, table: &Table, query: &[f32]) {
     }
 }
 
-/// The rows that document 01 defines for a query, from the leaf to the root.
+/// The rows that document 01 and request A.7 define for a query, from the leaf to the root.
 pub fn defined_report(tree: &Tree, table: &Table, query: &[f32]) -> Vec<Row> {
     let walked = walk(tree, table, query);
     let row = |(n, walked_here): (usize, &Walked)| Row {
@@ -383,19 +384,13 @@ pub fn defined_report(tree: &Tree, table: &Table, query: &[f32]) -> Vec<Row> {
     walked.iter().enumerate().map(row).collect()
 }
 
-/// S / (W + S) in whole numbers, which f64 holds exactly, and one division.
+/// S / (W + S) by one division, S being the computed sum, which is the whole-number sum up to 8 channels and no further from it than 126
+/// up to 32.
 fn probability(row: &Walked, query: &[f32]) -> f64 {
-    let (mut outside, mut sides) = (0i64, 0i64);
-    for ((&low, &high), &x) in row.low.iter().zip(&row.high).zip(query) {
-        let (low, high, x) = (low as i64, high as i64, x as i64);
-        outside += (low - x).max(0) + (x - high).max(0);
-        sides += high - low;
-    }
-    if outside == 0 {
-        0.0
-    } else {
-        outside as f64 / (sides + outside) as f64
-    }
+    let sum = Sum::outside(&row.low, &row.high, query);
+    let most = if query.len() <= 8 { 0 } else { 126 };
+    assert!(sum.off() <= most, "{sum:?} of {query:?}");
+    sum.probability()
 }
 
 /// Readings of a run.
@@ -426,7 +421,7 @@ impl Setting {
             any,
         ];
         Setting {
-            channels: 1 + words.below(8),
+            channels: Widths::All.channels(words) as usize,
             capacity: words.one_of(&[2, 2, 3, 3, 4, 5, 6, 8, 13, 16, 33, 49, 64, 256]),
             share: words.one_of(&shares),
             span: words.one_of(&[1, 2, 4, 20, 1 << 10, 1 << 20]),

@@ -53,7 +53,7 @@ fn channels_out_of_range() {
         mass: 2,
     };
     assert_eq!(nodes(none.tree(), &table), [leaf]);
-    for channels in [9, 256] {
+    for channels in [33, 256] {
         let (bare, _) = of_channels(channels);
         let branch = bare.tree().oracle_store().cut_and_children(0);
         assert_eq!(branch, (channels - 1, 4.0, 4, 5));

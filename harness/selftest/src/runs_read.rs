@@ -4,17 +4,26 @@
 use crate::replayed::replay;
 use oracle::Words;
 use runs::damaged::{damage, damage_whole};
-use runs::generate::{self, Room, Written};
+use runs::generate::{self, Room, Widths, Written};
 use runs::{answers, bytes_of, check, decode, examples, outcome, page, Answer, Call, Checked};
-use runs::{Outcome, MOST_LENT};
+use runs::{Outcome, Sums, MOST_LENT};
 
 const SEED: u64 = 0x00C0_FFEE_0000_0003;
+/// Of the runs' report rows so many have a computed sum that is not the whole-number sum, and so many at 9 channels.
+const ROUNDED: usize = 500;
+const ROUNDED_AT_NINE: usize = 40;
 
 /// Looks at document 01's runs, at this many drawn ones and as many damaged ones, and answers how many
 /// calls they have. Of four drawn ones one is bare, one bare with reports, and two are sampled.
 pub fn run(runs: usize) -> usize {
     list_of_three_adds();
-    let mut all = [examples::bare(), examples::reported(), examples::sampled()].concat();
+    let mut all = [
+        examples::bare(),
+        examples::reported(),
+        examples::sampled(),
+        examples::wide(),
+    ]
+    .concat();
     let mut words = Words::new(SEED);
     for n in 0..runs {
         let size = 1_000 << (n / 4 % 6);
@@ -28,15 +37,22 @@ pub fn run(runs: usize) -> usize {
             generate::sampled,
             generate::sampled,
         ][n % 4];
-        let written = drawn(&mut words, room);
+        let written = drawn(&mut words, room, Widths::All);
         both_agree(&damage(&written.run, &mut words));
         both_agree(&damage_whole(&written.run, &mut words));
         all.push(written);
     }
+    let mut sums = Sums::default();
     for written in &all {
         read_back(written);
         replay(written);
+        sums.add(&written.sums);
     }
+    sums.all_right().unwrap_or_else(|why| panic!("{why}"));
+    assert!(
+        sums.rounded >= ROUNDED && sums.rounded_at_nine >= ROUNDED_AT_NINE,
+        "{sums:?}"
+    );
     all.iter().map(|written| written.run.calls.len()).sum()
 }
 
@@ -54,7 +70,7 @@ pub fn worked_runs() -> usize {
 
 /// Document 01's list and its printed tree: branches 0 and 1, leaves 4, 6 and 5.
 fn list_of_three_adds() {
-    let Written { run, answers } = examples::bare().swap_remove(0);
+    let Written { run, answers, .. } = examples::bare().swap_remove(0);
     let answer = |call: &Call| -> &Answer {
         let place = run.calls.iter().position(|c| c == call);
         &answers[1 + place.expect("a call of the run")]

@@ -6,6 +6,9 @@ use runs::Driver;
 
 /// The refusal of what is out of form.
 pub const OUT_OF_FORM: u32 = 17;
+/// Request A.7 keeps the printed-tree program to so many channels; more are refused so, before all else of the making.
+const MOST_CHANNELS: u32 = 8;
+const TOO_MANY_CHANNELS: u32 = 1;
 
 /// What a text comes to.
 #[derive(Clone, Debug, PartialEq)]
@@ -72,6 +75,9 @@ pub fn printed(bytes: &[u8]) -> Vec<u8> {
 }
 
 fn carried_out(text: &Text) -> Outcome {
+    if text.making.dimensions > MOST_CHANNELS {
+        return Outcome::Unmade(TOO_MANY_CHANNELS);
+    }
     let mut driver = match Driver::make(&text.making.of_tree()) {
         Err(refusal) => return Outcome::Unmade(refusal),
         Ok(driver) => driver,

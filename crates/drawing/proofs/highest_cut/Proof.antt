@@ -1,105 +1,137 @@
--- `highest_cut` meets its contract: before the node of height m it keeps what the tree keeps of the m nodes below. Assumes nothing.
+-- `highest_cut` meets its contract: before the node of height m it has chosen what the tree keeps of the m nodes below. Assumes nothing.
 use native.Mathlib.Omega.{arith}
-use mathlib.Core.Path.{refl}
-use mathlib.Core.Logic.{⊎-elim}
-use Prim.Native.Nat.{_-_}
-use lib.Ieee.{ofBits}
-use Rattle.readings.specs.Number.{zero}
-use Rattle.drawing.proofs.Going.{Going, going-starts, going-readings, some-rising, kept-held, kept-last, going-on}
+use mathlib.Core.Path.{refl, subst}
+use mathlib.Core.Logic.{⊎-elim, inl, inr}
+use Prim.Native.Nat.{_+_, _-_}
+use lib.Dec.{ltb}
 use borrow.Author.Needs.{needs}
+use borrow.Author.Tests.{ltb-false}
+use Rattle.rowboxes.specs.Rows.{capacityOf, cachedOf, channelsOf, PaddedEnds}
+use Rattle.drawing.specs.Choice.{Numbered, endsFor}
+use Rattle.drawing.proofs.Going.{BoxAt, Going, leaf-box, readings, padded-rows, is-numbered, going-starts, some-rising, chosen-number, in-slots, next-ends, kept-end, kept-there, going-on}
 use Rattle.drawing.proofs.highest_cut.Statement.{statement}
 use Rattle.drawing.proofs.highest_cut.Tie as tie
 
 abbrev Inv-loop : tie.InvT-loop
-Inv-loop nodes points boxes path len leaf words point capacity cached current₀ kept₀ m₀ current kept m = Going capacity cached nodes points boxes path len leaf words point m current kept
+Inv-loop nodes points boxes path len leaf words point sizes chosen₀ ends₀ partly m₀ chosen ends m = Going (capacityOf sizes) (cachedOf sizes) (channelsOf sizes) nodes points boxes path len leaf words point partly m ends chosen
 
 abbrev μ-loop : tie.MeasureT-loop
-μ-loop nodes points boxes path len leaf words point capacity cached current₀ kept₀ m₀ current kept m = len - m
+μ-loop nodes points boxes path len leaf words point sizes chosen₀ ends₀ partly m₀ chosen ends m = len - m
 
-mul-new : tie.Need-mul-new Inv-loop μ-loop
-mul-new c = search needs
+shared-slice-read-chosen-first : tie.Need-shared-slice-read-chosen-first Inv-loop μ-loop
+shared-slice-read-chosen-first c = let D = c .before .before .pre .1 .0 .drawing in omega (arith, D .count, D .enough)
 
-index-1-new : tie.Need-index-1-new Inv-loop μ-loop
-index-1-new c = c .before .pre .1 .drawing .leaf-small
+element-copy-out-chosen-first : tie.Need-element-copy-out-chosen-first Inv-loop μ-loop
+element-copy-out-chosen-first c = search needs
 
-mul-new-2 : tie.Need-mul-new-2 Inv-loop μ-loop
-mul-new-2 c = search needs
+chosen-first-requires : tie.Need-chosen-first-requires Inv-loop μ-loop
+chosen-first-requires c κs =
+    let q = c .before .before .before .pre in
+    let B = leaf-box _ _ _ _ _ _ _ _ _ _ _ (q .1 .0) (q .1 .1 .1) in
+    (q .1 .0 .drawing .leaf-small, (readings _ _ _ _ _ _ _ _ _ _ _ 0 _ B (q .1 .0), (padded-rows _ _ _ _ _ _ _ _ _ _ _ 0 _ B (q .0 .2) (q .1 .1 .0), is-numbered _ _ _ _ _ _ _ _ _ _ _ 0 _ B _ refl (q .1 .0) (omega (arith, c .before .shared-slice-known2 .given 0)))))
 
-index-1-new-2 : tie.Need-index-1-new-2 Inv-loop μ-loop
-index-1-new-2 c = c .before .before .pre .1 .drawing .leaf-small
+mul-row : tie.Need-mul-row Inv-loop μ-loop
+mul-row c = search needs
 
-new-requires : tie.Need-new-requires Inv-loop μ-loop
-new-requires c κs = search needs
+element-copy-out-row : tie.Need-element-copy-out-row Inv-loop μ-loop
+element-copy-out-row c = c .before .before .before .before .pre .1 .0 .drawing .leaf-small
+
+element-copy-out-partly : tie.Need-element-copy-out-partly Inv-loop μ-loop
+element-copy-out-partly c = search needs
+
+add-partly : tie.Need-add-partly Inv-loop μ-loop
+add-partly c = omega (arith, c .before .before .before .before .before .before .pre .0 .1)
+
+element-copy-out-partly-2 : tie.Need-element-copy-out-partly-2 Inv-loop μ-loop
+element-copy-out-partly-2 c = search needs
 
 loop-holds : tie.Need-loop-holds Inv-loop μ-loop
-unfolding zero ofBits
-loop-holds c = going-starts _ _ _ _ _ _ _ _ _ _ (c .before .before .before .before .pre .1) _ (c .new .ensures .0) (c .new .ensures .1) _ refl
+loop-holds c =
+    let q = c .before .before .before .before .before .before .before .pre in
+    going-starts _ _ _ _ _ _ _ _ _ _ _ (q .1 .0) (q .1 .1 .1) (omega (arith, c .before .before .before .before .before .shared-slice-known2 .given 0)) _ _ (c .before .before .before .chosen-first .ensures)
 
-add-loop : tie.Need-add-loop Inv-loop μ-loop
-add-loop c = omega (arith, c .loop .inv .within)
+-- the entry, from the loop's test
+abbrev entry : tie.At-loop Inv-loop μ-loop → tie.Start Inv-loop μ-loop
+entry c = c .before .before .before .before .before .before .before .before
 
-mul-whole-cut-and-separation : tie.Need-mul-whole-cut-and-separation Inv-loop μ-loop
-mul-whole-cut-and-separation c = search needs
+sub-box-above : tie.Need-sub-box-above Inv-loop μ-loop
+sub-box-above c = omega (arith, c .before .before .before .loop .inv .some)
 
-shared-slice-read-whole-cut-and-separation : tie.Need-shared-slice-read-whole-cut-and-separation Inv-loop μ-loop
-shared-slice-read-whole-cut-and-separation c = omega (arith, c .before .before .loop .inv .within, c .before .before .before .before .before .before .before .pre .1 .drawing .enough)
+box-above-requires : tie.Need-box-above-requires Inv-loop μ-loop
+box-above-requires c κs =
+    let q = entry (c .before .before .before) .pre in
+    let g = c .before .before .before .loop .inv in
+    ((q .0 .0, q .0 .1, q .0 .2, q .1 .0 .drawing .most, omega (arith, g .some, c .before .before .loop-test .taken)), (some-rising _ _ _ _ _ _ _ _ _ _ _ _ _ _ _ g (c .before .if1 .taken) (q .1 .0), (q .1 .1 .1, q .1 .1 .2, g .padded)))
 
-whole-cut-and-separation-requires : tie.Need-whole-cut-and-separation-requires Inv-loop μ-loop
-whole-cut-and-separation-requires c κs = going-readings _ _ _ _ _ _ _ _ _ _ _ _ _ (c .before .before .loop .inv) (c .before .before .before .before .before .before .before .pre .1)
+sub-node-of : tie.Need-sub-node-of Inv-loop μ-loop
+sub-node-of c = omega (arith, c .before .loop-test .taken)
+
+sub-node-of-2 : tie.Need-sub-node-of-2 Inv-loop μ-loop
+sub-node-of-2 c = omega (arith, c .before .loop-test .taken)
+
+node-of-requires : tie.Need-node-of-requires Inv-loop μ-loop
+node-of-requires c κs = omega (arith, c .before .loop-test .taken, entry (c .before .before) .pre .1 .0 .drawing .most)
+
+-- the ends of the branch that is drawn at, and those that are kept on
+branch-ends : (c : tie.After-node-of Inv-loop μ-loop) →
+    let a = entry (c .before .before .before) .args in
+    let s = a .sizes .now in
+    let E = c .before .if1 .ends in
+    BoxAt (capacityOf s) (cachedOf s) (channelsOf s) (a .nodes .now) (a .points .now) (a .boxes .now) (a .path .now) (a .len) (a .leaf) (a .words .now) (a .point .now) (c .before .before .before .loop .m) (endsFor (ltb (cachedOf s + 1) (capacityOf s)) (c .node-of .result) E (a .boxes .now)) × PaddedEnds (channelsOf s) E
+branch-ends c =
+    let q = entry (c .before .before .before) .pre in
+    next-ends _ _ _ _ _ _ _ _ _ _ _ _ _ _ _ (c .before .before .before .loop .inv) (c .before .before .loop-test .taken) _ (c .node-of .ensures) (q .1 .0) (q .0 .0) (λ f. ltb-false _ _ f) (q .1 .1 .2) _
+    (⊎-elim (λ w. inl (w .0 .taken, rw (w .3) (w .2 .ensures .0), rw (w .3) (w .2 .ensures .1))) (λ w. inr (w .0 .left, w .1)) (c .before .if1 .came))
+
+mul-drawn-of : tie.Need-mul-drawn-of Inv-loop μ-loop
+mul-drawn-of c = search needs
+
+shared-slice-read-drawn-of : tie.Need-shared-slice-read-drawn-of Inv-loop μ-loop
+shared-slice-read-drawn-of c = omega (arith, c .before .before .before .before .loop-test .taken, entry (c .before .before .before .before .before) .pre .1 .0 .drawing .enough)
+
+element-copy-out-drawn-of : tie.Need-element-copy-out-drawn-of Inv-loop μ-loop
+element-copy-out-drawn-of c = search needs
+
+drawn-of-requires : tie.Need-drawn-of-requires Inv-loop μ-loop
+drawn-of-requires c κs =
+    let q = entry (c .before .before .before .before .before .before) .pre in
+    let B = branch-ends (c .before .before .before) .0 in
+    (λ _. in-slots _ _ _ _ _ _ _ _ _ _ _ _ _ _ _ (c .before .before .before .before .before .before .loop .inv) (c .before .before .before .before .before .loop-test .taken) _ (c .before .before .before .node-of .ensures) (q .1 .0) (q .0 .0), (readings _ _ _ _ _ _ _ _ _ _ _ _ _ B (q .1 .0), padded-rows _ _ _ _ _ _ _ _ _ _ _ _ _ B (q .0 .2) (q .1 .1 .0)))
 
 enum-told : tie.Need-enum-told Inv-loop μ-loop
 enum-told c = search needs
 
+highest-of-requires : tie.Need-highest-of-requires Inv-loop μ-loop
+highest-of-requires c κs = chosen-number _ _ _ _ _ _ _ _ _ _ _ _ _ _ _ (c .before .before .before .before .before .before .before .before .before .loop .inv) (entry (c .before .before .before .before .before .before .before .before .before) .pre .1 .0)
+
 returns : tie.Need-returns Inv-loop μ-loop
-returns c = kept-held _ _ _ _ _ _ _ _ _ _ _ _ _ (c .before .before .before .before .before .loop .inv) (omega (arith, c .before .before .before .shared-slice-known2 .given (c .before .before .before .before .before .loop .m))) _ (c .before .before .whole-cut-and-separation .ensures) (c .enum-told .given .1)
+returns c =
+    let K = branch-ends (c .before .before .before .before .before .before .before) in
+    rw (c .highest-of .ensures) (kept-there _ _ _ _ _ _ _ _ _ _ _ _ _ _ _ (c .before .before .before .before .before .before .before .before .before .before .loop .inv) (c .before .before .before .before .before .before .before .before .before .loop-test .taken) _ (c .before .before .before .before .before .before .before .node-of .ensures) _ (K .1) (K .0) (omega (arith, c .before .before .before .before .before .shared-slice-known3 .given (c .before .before .before .before .before .before .before .before .before .before .loop .m))) _ (c .before .before .before .drawn-of .ensures) (c .before .enum-told .given .1))
 
 enum-known-drawn : tie.Need-enum-known-drawn Inv-loop μ-loop
 enum-known-drawn c = search needs
 
-box-above-requires : tie.Need-box-above-requires Inv-loop μ-loop
-box-above-requires c κs =
-    let p = c .before .before .before .before .before .before .before .before .before .before .before .before .pre in
-    ((p .0, p .1 .drawing .most, c .before .before .before .before .before .before .loop-test .taken), some-rising _ _ _ _ _ _ _ _ _ _ _ _ _ (c .before .before .before .before .before .before .before .loop .inv) (p .1))
+chosen-at-requires : tie.Need-chosen-at-requires Inv-loop μ-loop
+chosen-at-requires c κs =
+    subst Numbered (c .before .drawn .given .1) (is-numbered _ _ _ _ _ _ _ _ _ _ _ _ _ (branch-ends (c .before .before .before .before .before .before .before) .0) _ (c .before .before .before .drawn-of .ensures) (entry (c .before .before .before .before .before .before .before .before .before .before) .pre .1 .0) (omega (arith, c .before .before .before .before .before .shared-slice-known3 .given (c .before .before .before .before .before .before .before .before .before .before .loop .m))))
 
 add-m : tie.Need-add-m Inv-loop μ-loop
-add-m c = omega (arith, c .before .before .before .before .before .before .before .loop-test .taken, c .before .before .before .before .before .before .before .before .before .before .before .before .before .pre .1 .drawing .most)
+add-m c = omega (arith, c .before .before .before .before .before .before .before .before .before .before .loop-test .taken, entry (c .before .before .before .before .before .before .before .before .before .before .before) .pre .1 .0 .drawing .most)
 
 loop-less : tie.Need-loop-less Inv-loop μ-loop
-loop-less c = omega (arith, c .before .before .before .before .before .before .before .loop-test .taken)
+loop-less c = omega (arith, c .before .before .before .before .before .before .before .before .before .before .loop-test .taken)
 
 loop-again : tie.Need-loop-again Inv-loop μ-loop
 loop-again c =
-    going-on _ _ _ _ _ _ _ _ _ _ _ _ _ (c .before .before .before .before .before .before .before .before .loop .inv) (omega (arith, c .before .before .before .before .before .before .shared-slice-known2 .given (c .before .before .before .before .before .before .before .before .loop .m))) _ (c .before .before .before .before .before .whole-cut-and-separation .ensures)
-    _ _ (c .before .before .before .drawn .given .1) _ (⊎-elim (λ w. rw (w .0 .taken) (w .1)) (λ w. rw (w .0 .left) (w .1)) (c .before .if1 .came))
-    (c .before .before .before .before .before .before .before .loop-test .taken) _ (c .box-above .ensures)
+    let K = branch-ends (c .before .before .before .before .before .before .before .before) in
+    going-on _ _ _ _ _ _ _ _ _ _ _ _ _ _ _ (c .before .before .before .before .before .before .before .before .before .before .before .loop .inv) (c .before .before .before .before .before .before .before .before .before .before .loop-test .taken) _ (c .before .before .before .before .before .before .before .before .node-of .ensures) _ (K .1) (K .0) (omega (arith, c .before .before .before .before .before .before .shared-slice-known3 .given (c .before .before .before .before .before .before .before .before .before .before .before .loop .m))) _ (c .before .before .before .before .drawn-of .ensures) _ _ (c .before .before .drawn .given .1) _ (c .chosen-at .ensures)
 
-mul-whole-cut-and-separation-2 : tie.Need-mul-whole-cut-and-separation-2 Inv-loop μ-loop
-mul-whole-cut-and-separation-2 c = search needs
-
-shared-slice-read-whole-cut-and-separation-2 : tie.Need-shared-slice-read-whole-cut-and-separation-2 Inv-loop μ-loop
-shared-slice-read-whole-cut-and-separation-2 c = omega (arith, c .before .before .loop .inv .within, c .before .before .before .before .before .before .before .pre .1 .drawing .enough)
-
-whole-cut-and-separation-requires-2 : tie.Need-whole-cut-and-separation-requires-2 Inv-loop μ-loop
-whole-cut-and-separation-requires-2 c κs = going-readings _ _ _ _ _ _ _ _ _ _ _ _ _ (c .before .before .loop .inv) (c .before .before .before .before .before .before .before .pre .1)
-
-enum-told-2 : tie.Need-enum-told-2 Inv-loop μ-loop
-enum-told-2 c = search needs
-
-enum-known-last : tie.Need-enum-known-last Inv-loop μ-loop
-enum-known-last c = search needs
+highest-of-requires-2 : tie.Need-highest-of-requires-2 Inv-loop μ-loop
+highest-of-requires-2 c κs = chosen-number _ _ _ _ _ _ _ _ _ _ _ _ _ _ _ (c .before .loop .inv) (entry (c .before) .pre .1 .0)
 
 returns-2 : tie.Need-returns-2 Inv-loop μ-loop
-returns-2 c =
-    kept-last _ _ _ _ _ _ _ _ _ _ _ _ _ (c .before .before .before .before .before .before .before .loop .inv) (omega (arith, c .before .before .before .before .before .shared-slice-known3 .given (c .before .before .before .before .before .before .before .loop .m))) _ (c .before .before .before .before .whole-cut-and-separation2 .ensures)
-    _ _ (c .before .before .last .given .1) _ (rw (c .if2 .taken)) (c .before .before .before .before .before .before .loop-test .left)
-
-returns-3 : tie.Need-returns-3 Inv-loop μ-loop
-returns-3 c = kept-held _ _ _ _ _ _ _ _ _ _ _ _ _ (c .before .before .before .before .before .loop .inv) (omega (arith, c .before .before .before .shared-slice-known3 .given (c .before .before .before .before .before .loop .m))) _ (c .before .before .whole-cut-and-separation2 .ensures) (c .enum-told2 .given .1)
-
-returns-4 : tie.Need-returns-4 Inv-loop μ-loop
-returns-4 c =
-    kept-last _ _ _ _ _ _ _ _ _ _ _ _ _ (c .before .before .before .before .before .before .before .loop .inv) (omega (arith, c .before .before .before .before .before .shared-slice-known3 .given (c .before .before .before .before .before .before .before .loop .m))) _ (c .before .before .before .before .whole-cut-and-separation2 .ensures)
-    _ _ (c .before .before .last .given .1) _ (rw (c .if2 .left)) (c .before .before .before .before .before .before .loop-test .left)
+returns-2 c = rw (c .highest-of2 .ensures) (kept-end _ _ _ _ _ _ _ _ _ _ _ _ _ _ _ (c .before .before .loop .inv) (c .before .loop-test .left))
 
 pub highest-cut-spec : {M : Type 1} → statement M
 highest-cut-spec =
@@ -107,28 +139,31 @@ highest-cut-spec =
     (tie.spec
     Inv-loop
     μ-loop
-    mul-new
-    index-1-new
-    mul-new-2
-    index-1-new-2
-    new-requires
+    shared-slice-read-chosen-first
+    element-copy-out-chosen-first
+    chosen-first-requires
+    mul-row
+    element-copy-out-row
+    element-copy-out-partly
+    add-partly
+    element-copy-out-partly-2
     loop-holds
-    add-loop
-    mul-whole-cut-and-separation
-    shared-slice-read-whole-cut-and-separation
-    whole-cut-and-separation-requires
+    sub-box-above
+    box-above-requires
+    sub-node-of
+    sub-node-of-2
+    node-of-requires
+    mul-drawn-of
+    shared-slice-read-drawn-of
+    element-copy-out-drawn-of
+    drawn-of-requires
     enum-told
+    highest-of-requires
     returns
     enum-known-drawn
-    box-above-requires
+    chosen-at-requires
     add-m
     loop-less
     loop-again
-    mul-whole-cut-and-separation-2
-    shared-slice-read-whole-cut-and-separation-2
-    whole-cut-and-separation-requires-2
-    enum-told-2
-    enum-known-last
-    returns-2
-    returns-3
-    returns-4)
+    highest-of-requires-2
+    returns-2)

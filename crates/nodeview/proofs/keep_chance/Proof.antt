@@ -32,7 +32,10 @@ index-2-whole-probability-of-cut-2 : tie.Need-index-2-whole-probability-of-cut-2
 index-2-whole-probability-of-cut-2 c = search needs
 
 whole-probability-of-cut-requires : tie.Need-whole-probability-of-cut-requires
-whole-probability-of-cut-requires c κs = c .before .before .before .before .before .before .pre .1 (c .before .before .if1 .left)
+whole-probability-of-cut-requires c κs =
+    let q = c .before .before .before .before .before .before .pre .1 in
+    let h = c .before .before .if1 .left in
+    (q .0 h, q .1 h)
 
 mul-chances : tie.Need-mul-chances
 mul-chances c = search needs

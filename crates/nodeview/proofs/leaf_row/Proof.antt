@@ -5,7 +5,7 @@ use Rattle.nodeview.proofs.leaf_row.Statement.{statement}
 use Rattle.nodeview.proofs.leaf_row.Tie as tie
 
 same-point-requires : tie.Need-same-point-requires
-same-point-requires c κs = search needs
+same-point-requires c κs = (c .pre .0, (c .pre .1 .0 .rest, c .pre .1 .1 .rest))
 
 numbers-of-requires : tie.Need-numbers-of-requires
 numbers-of-requires c κs = search needs

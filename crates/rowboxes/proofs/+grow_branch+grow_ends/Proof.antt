@@ -3,18 +3,15 @@ use borrow.Author.Needs.{needs}
 use native.Mathlib.Omega.{arith}
 use mathlib.Core.Path.{sym, ap, _∙_}
 use mathlib.Core.List.{List, []}
-use Prim.Native.Nat.{ℕ, _+_, _-_, _*_, _<_}
+use Prim.Native.Nat.{ℕ, _+_, _*_, _<_}
 use lib.ListN.{getD}
 use lib.Ieee.{Float}
 use Rattle.limits.specs.Limits.{capacityLimit}
-use Rattle.boundingbox.specs.Ends.{joined, least, greatest}
-use Rattle.cuttree.proofs.Tests.{by-test}
-use borrow.Author.Tests.{ltb-true, ltb-false}
-use lib.Dec.{ltb}
-use Rattle.boxstore.proofs.Parts.{at-leaf, at-cached, at-pair, both-leaves, in-table, Parts, parts, sides-grown}
+use Rattle.boundingbox.specs.Ends.{least, greatest}
+use Rattle.boxstore.proofs.Parts.{at-pair, both-leaves, in-table, Parts, parts, sides-grown}
 use Rattle.boxstore.proofs.Depths.{deep}
 use Rattle.rowboxes.specs.Rows.{capacityOf, cachedOf, channelsOf}
-use Rattle.rowboxes.proofs.Rows.{joined-padded, joined-ends, hand-true, hand-false, nought-least, nought-greatest}
+use Rattle.rowboxes.proofs.Rows.{joined-padded, joined-ends, hand-true, hand-false, hand-grown, nought-least, nought-greatest}
 use borrow.Fn.Kinds.{In}
 use borrow.Fn.PlainCycle.{Measures, is, falls, and}
 use Rattle.rowboxes.proofs.grow_branch.Reads as grow-branch
@@ -420,12 +417,8 @@ grow-ends-returns t c =
     let k = cachedOf (S .args .sizes .now) in
     let n = capacityOf (S .args .sizes .now) in
     let r = c .before .before .before .at-hand .ensures in
-    let E = c .widen-by .ensures in (
-      by-test (ltb (S .args .node) n)
-          (λ u. let l = ltb-true (S .args .node) n u in at-cached _ _ _ _ _ _ l (hand-true n k (S .args .node) (sym r ∙ c .before .before .if1 .taken) l) .grown _ _ _ _ (ap (λ (X : List (List Float)). getD X 0 []) (E .1 .0 l)) (ap (λ (X : List (List Float)). getD X 1 []) (E .1 .0 l)))
-          (λ u. let l = ltb-false (S .args .node) n u in at-leaf _ _ _ _ _ _ l .grown _ _ _ _ (ap (λ (X : List (List Float)). getD X 0 []) (E .0 l)) (ap (λ (X : List (List Float)). getD X 1 []) (E .0 l))),
-      E .1 .1,
-    )
+    let E = c .widen-by .ensures in
+    (hand-grown n k (S .args .node) _ _ _ (sym r ∙ c .before .before .if1 .taken) _ _ _ (E .0) (E .1 .0), E .1 .1)
 
 grow-ends-returns-2 : (t : ℕ) → grow-ends-lts.Need-returns-2 (
   at-hand-reads.Asked,

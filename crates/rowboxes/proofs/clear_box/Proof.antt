@@ -8,7 +8,6 @@ use lib.ListN.{getD, set, getD-replicate}
 use lib.Ieee.{nan, ofBits}
 use Rattle.limits.specs.Limits.{width}
 use Rattle.readings.specs.Number.{nought}
-use Rattle.boundingbox.specs.Ends.{channel}
 use Rattle.layout.specs.Layout.{noBoxEnds}
 use Rattle.boxstore.proofs.Written.{written-cached, written-other}
 use Rattle.rowboxes.specs.Rows.{cachedOf, channelsOf, PaddedBoxes}

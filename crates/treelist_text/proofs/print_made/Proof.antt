@@ -70,14 +70,14 @@ share-of-requires : tie.Need-share-of-requires
 share-of-requires c κs =
     few _ _ (c .before .before .before .before .before .read-making .ensures) _ _ _ (c .before .before .before .channels .given .1)
 
-add-print-by : tie.Need-add-print-by
-add-print-by c =
+add-print-few : tie.Need-add-print-few
+add-print-few c =
     let s = c .before .before .before .before .before .before .before .before .before .before .before .before .before in
     let t = s .args .text .now in
     omega (arith, after-third t (s .pre) _ (c .before .before .before .before .before .before .before .before .before .before .piece-end .ensures) _ (c .before .before .before .before .before .before .before .before .before .piece-end2 .ensures) _ (c .before .before .before .before .before .before .before .before .piece-end3 .ensures), short t (s .pre))
 
-print-by-requires : tie.Need-print-by-requires
-print-by-requires c κs =
+print-few-requires : tie.Need-print-few-requires
+print-few-requires c κs =
     let s = c .before .before .before .before .before .before .before .before .before .before .before .before .before .before in
     let t = s .args .text .now in
     ((after-third t (s .pre) _ (c .before .before .before .before .before .before .before .before .before .before .before .piece-end .ensures) _ (c .before .before .before .before .before .before .before .before .before .before .piece-end2 .ensures) _ (c .before .before .before .before .before .before .before .before .before .piece-end3 .ensures), short t (s .pre)), record { ops = _; rest = rows-are t (s .pre) _ (c .before .before .before .before .before .before .before .before .before .before .before .piece-end .ensures) _ (c .before .before .before .before .before .before .before .before .before .before .piece-end2 .ensures) _ (c .before .before .before .before .before .before .before .before .before .piece-end3 .ensures) })
@@ -96,7 +96,7 @@ returns-2 c =
     let s = c .before .before .before .before .before .before .before .before .before .before .before .before .before .before .before .before .before in
     let t = s .args .text .now in
     by-making _ _ (c .before .before .before .before .before .before .before .before .before .before .read-making .ensures) _ _ _ (c .before .before .before .before .before .before .before .before .channels .given .1) t (s .pre) (making-is t (s .pre) _ (c .before .before .before .before .before .before .before .before .before .before .before .before .before .before .piece-end .ensures) _ (c .before .before .before .before .before .before .before .before .before .before .before .before .before .piece-end2 .ensures) _ (c .before .before .before .before .before .before .before .before .before .before .before .before .piece-end3 .ensures)) _ _ _ (c .before .before .before .before .before .before .wide64 .ensures) (c .before .before .before .before .before .wide642 .ensures) (c .before .before .before .before .share-of .ensures)
-    (c .before .before .print-by .ensures (s .pre .ops) (rows-are t (s .pre) _ (c .before .before .before .before .before .before .before .before .before .before .before .before .before .before .piece-end .ensures) _ (c .before .before .before .before .before .before .before .before .before .before .before .before .before .piece-end2 .ensures) _ (c .before .before .before .before .before .before .before .before .before .before .before .before .piece-end3 .ensures)))
+    (c .before .before .print-few .ensures (s .pre .ops) (rows-are t (s .pre) _ (c .before .before .before .before .before .before .before .before .before .before .before .before .before .before .piece-end .ensures) _ (c .before .before .before .before .before .before .before .before .before .before .before .before .before .piece-end2 .ensures) _ (c .before .before .before .before .before .before .before .before .before .before .before .before .piece-end3 .ensures)))
 
 pub print-made-spec : {M : Type 1} → statement M
 print-made-spec =
@@ -117,8 +117,8 @@ print-made-spec =
     wide64-requires
     wide64-requires-2
     share-of-requires
-    add-print-by
-    print-by-requires
+    add-print-few
+    print-few-requires
     returns
     same-length
     returns-2)

@@ -1,6 +1,6 @@
 -- `find` meets its contract: the walk, its leaf and the test of their rows. Assumes nothing.
 use native.Mathlib.Omega.{arith}
-use Rattle.treestore.proofs.Findings.{some-walks, some-walked, leaf-low, found-in}
+use Rattle.treestore.proofs.Findings.{some-walks, some-walked, leaf-low, leaf-padded, index-padded, found-in}
 use borrow.Author.Needs.{needs}
 use Rattle.treestore.proofs.find.Statement.{statement}
 use Rattle.treestore.proofs.find.Tie as tie
@@ -30,10 +30,13 @@ index-1-same-point-2 : tie.Need-index-1-same-point-2
 index-1-same-point-2 c = c .before .before .before .before .before .before .pre .sought .index-small
 
 same-point-requires : tie.Need-same-point-requires
-same-point-requires c κs = search needs
+same-point-requires c κs =
+    let walked = c .before .before .before .before in
+    let s = walked .before .before .before .pre .sought in
+    (s .channels-few, (leaf-padded s _ _ (walked .set-path .ensures .0) _ (c .before .before .leaf-at .ensures), index-padded s))
 
 returns : tie.Need-returns
-returns c = λ d t p G. found-in G _ _ (c .before .before .before .before .before .set-path .ensures .0) _ (c .before .before .before .leaf-at .ensures) _ _ (c .same-point .ensures) (c .before .before .before .before .before .set-path .ensures .1)
+returns c = λ t p G. found-in G _ _ (c .before .before .before .before .before .set-path .ensures .0) _ (c .before .before .before .leaf-at .ensures) _ _ (c .same-point .ensures) (c .before .before .before .before .before .set-path .ensures .1)
 
 pub find-spec : {M : Type 1} → statement M
 find-spec =

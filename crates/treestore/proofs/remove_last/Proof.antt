@@ -1,6 +1,6 @@
 -- `remove_last` meets its contract: the sibling in the parent's place, its number free, and the boxes above repaired. Assumes nothing.
 use native.Mathlib.Omega.{arith}
-use Rattle.treestore.proofs.Removes.{reached, some-reached, one-copy, some-forgotten, removed, back}
+use Rattle.treestore.proofs.Removes.{reached, some-reached, one-copy, kept-padded, some-forgotten, removed, back}
 use borrow.Author.Needs.{needs}
 use Rattle.treestore.proofs.remove_last.Statement.{statement}
 use Rattle.treestore.proofs.remove_last.Tie as tie
@@ -9,7 +9,7 @@ lifted-root-requires : tie.Need-lifted-root-requires
 lifted-root-requires c κs = search needs
 
 remove-leaf-requires : tie.Need-remove-leaf-requires
-remove-leaf-requires c κs = (some-reached (c .before .before .before .before .pre .0 .walking), (one-copy (c .before .before .before .before .pre .0 .walking) (c .before .before .before .before .pre .1 .0), c .before .before .before .before .pre .1 .1))
+remove-leaf-requires c κs = let P = c .before .before .before .before .pre in (some-reached (P .0 .walking), (one-copy (P .0 .walking) (P .1 .0), P .1 .1))
 
 put-back-requires : tie.Need-put-back-requires
 put-back-requires c κs = search needs
@@ -17,27 +17,31 @@ put-back-requires c κs = search needs
 wide16-requires : tie.Need-wide16-requires
 wide16-requires c κs = search needs
 
+wide16-requires-2 : tie.Need-wide16-requires-2
+wide16-requires-2 c κs = search needs
+
 clear-box-requires : tie.Need-clear-box-requires
-clear-box-requires c κs = search needs
+clear-box-requires c κs = let G = c .before .before .before .before .before .before .before .before .before .before .before .pre .0 .walking in ((omega (arith, G .small, G .cached-few), G .channels-few), kept-padded G)
 
 sub-repair-ancestors : tie.Need-sub-repair-ancestors
 sub-repair-ancestors c = search needs
 
-wide16-requires-2 : tie.Need-wide16-requires-2
-wide16-requires-2 c κs = search needs
-
 repair-ancestors-requires : tie.Need-repair-ancestors-requires
-repair-ancestors-requires c κs = (
-  (omega (arith, c .before .before .before .before .before .before .before .before .before .before .before .before .before .pre .0 .walking .walked .most), omega (arith, c .before .before .before .before .before .before .before .before .before .before .before .before .before .pre .0 .walking .small, c .before .before .before .before .before .before .before .before .before .before .before .before .before .pre .0 .walking .cached-few), omega (arith, c .wide162 .ensures .0, c .before .before .before .before .before .before .before .before .before .before .before .before .before .pre .0 .walking .small)),
-  some-forgotten (c .before .before .before .before .before .before .before .before .before .before .before .before .before .pre .0 .walking) (c .before .before .before .before .before .before .before .before .before .before .before .before .before .pre .0 .held) (c .before .before .before .before .before .before .before .before .before .before .before .before .before .pre .1 .0) (c .before .before .before .before .before .before .before .before .before .before .before .before .before .pre .1 .1) _ _ _ _ (c .before .before .before .before .before .before .before .before .remove-leaf .ensures _ _ _ _ (reached (c .before .before .before .before .before .before .before .before .before .before .before .before .before .pre .0 .walking)))
-      _ _ _ (c .wide162 .ensures .0) (c .before .before .before .before .wide16 .ensures .0) (c .before .before .before .clear-box .ensures),
-)
+repair-ancestors-requires c κs = let P = c .before .before .before .before .before .before .before .before .before .before .before .before .before .before .before .pre in
+    let G = P .0 .walking in (
+      (omega (arith, c .before .before .before .before .before .before .before .wide16 .ensures .0, G .small), omega (arith, G .small, G .cached-few), G .channels-few, omega (arith, G .walked .most)),
+      (
+        some-forgotten G (P .0 .held) (P .1 .0) (P .1 .1) _ _ _ _ (c .before .before .before .before .before .before .before .before .before .before .remove-leaf .ensures _ _ _ _ (reached G)) _ _ _ (c .before .before .before .before .before .before .before .wide16 .ensures .0) (c .before .before .before .before .before .wide162 .ensures .0) (c .before .before .before .clear-box .ensures .0),
+        (G .row-padded, G .padded, c .before .before .before .clear-box .ensures .1),
+      ),
+    )
 
 returns : tie.Need-returns
 returns c = λ t u p G held.
-    let A = c .before .before .before .before .before .before .before .before .before .remove-leaf .ensures _ _ _ _ (reached G) in
-    removed G held (c .before .before .before .before .before .before .before .before .before .before .before .before .before .before .pre .1 .0) (c .before .before .before .before .before .before .before .before .before .before .before .before .before .before .pre .1 .1) _ _ _ _ A _ _ _ (c .before .wide162 .ensures .0) (c .before .before .before .before .before .wide16 .ensures .0) (c .before .before .before .before .clear-box .ensures) _ _ _ _
-    (c .before .before .before .before .before .before .before .before .before .before .before .before .before .lifted-root .ensures .1 _ _ _ _ _ _ _ _ (reached G) (one-copy G (c .before .before .before .before .before .before .before .before .before .before .before .before .before .before .pre .1 .0)) (G .root-is)) (back G _ (A .1) _ _ (c .before .before .before .before .before .before .before .put-back .ensures)) (c .repair-ancestors .ensures)
+    let A = c .before .before .before .before .before .before .before .before .before .before .before .remove-leaf .ensures _ _ _ _ (reached G) in
+    let P = c .before .before .before .before .before .before .before .before .before .before .before .before .before .before .before .before .pre in
+    removed G held (P .1 .0) (P .1 .1) _ _ _ _ A _ _ _ (c .before .before .before .before .before .before .before .before .wide16 .ensures .0) (c .before .before .before .before .before .before .wide162 .ensures .0) (c .before .before .before .before .clear-box .ensures .0) _ _ _ _
+    (c .before .before .before .before .before .before .before .before .before .before .before .before .before .before .before .lifted-root .ensures .1 _ _ _ _ _ _ _ _ (reached G) (one-copy G (P .1 .0)) (G .root-is)) (back G _ (A .1) _ _ (c .before .before .before .before .before .before .before .before .before .put-back .ensures)) (c .repair-ancestors .ensures .0)
 
 pub remove-last-spec : {M : Type 1} → statement M
 remove-last-spec =
@@ -47,8 +51,8 @@ remove-last-spec =
     remove-leaf-requires
     put-back-requires
     wide16-requires
+    wide16-requires-2
     clear-box-requires
     sub-repair-ancestors
-    wide16-requires-2
     repair-ancestors-requires
     returns)

@@ -3,6 +3,7 @@
 use super::keyed::Keying;
 use crate::archive::{Archive, Making, Row};
 use oracle::{Table, Words};
+use runs::generate::Widths;
 
 #[derive(Clone, Copy)]
 pub struct Big {
@@ -37,7 +38,7 @@ const fn keyed(one_in: usize, big: Big) -> Big {
     }
 }
 
-pub const BIGS: [Big; 8] = [
+pub const BIGS: [Big; 10] = [
     big(100_000, 2, 8, 16),
     big(30_000, 1, 16, 8),
     big(20_000, 8, 5, 0),
@@ -46,6 +47,8 @@ pub const BIGS: [Big; 8] = [
     keyed(1, big(6_000, 2, 8, 16)),
     keyed(3, big(3_000, 4, 64, 8)),
     keyed(1, big(1_600, 8, 256, 0)),
+    big(10_000, 32, 8, 16),
+    big(1_600, 32, 256, 4),
 ];
 
 impl Big {
@@ -54,7 +57,7 @@ impl Big {
         let capacity = words.one_of(&[2, 3, 4, 8, 16, 17, 64]);
         Big {
             rows: 500 + words.below(100_000 / capacity as usize).min(5_500),
-            dimensions: 1 + words.below(8) as u32,
+            dimensions: Widths::All.channels(words),
             capacity,
             cache16: words.below(17) as u32,
             others: words.one_of(&[2, 8, 40]),

@@ -36,8 +36,14 @@ use texts::generate::bytes_changed;
 pub type Given = texts::Given<Archive>;
 
 /// The number of the first archive that is not one of a list.
-pub const FIRST_DRAWN: usize =
-    LANTERNS + STARRED + BREAKS.count() + MAKINGS.len() + LENGTHS.len() + SIZES + SMALLS + BIGS.len();
+pub const FIRST_DRAWN: usize = LANTERNS
+    + STARRED
+    + BREAKS.count()
+    + MAKINGS.len()
+    + LENGTHS.len()
+    + SIZES
+    + SMALLS
+    + BIGS.len();
 
 /// The n-th archive of a seed: the lanterns' and document 01's, each break of a rule, each making at a limit, each
 /// length of a line, each size of an archive, the smallest, the largest, then drawn ones.

@@ -38,7 +38,7 @@ fn row(archive: &Archive, words: &mut Words) -> Row {
 
 /// Of any number: at the limit or next to it, far beyond it, or small.
 fn coordinates(archive: &Archive, words: &mut Words) -> Vec<i32> {
-    let channels = archive.making.dimensions.clamp(1, 8) as usize;
+    let channels = archive.making.dimensions.clamp(1, 32) as usize;
     let count = words.one_of(&[
         channels,
         channels,

@@ -23,7 +23,7 @@ const LINES: [&str; 16] = [
     "dimensions capacity cache16 initial16\r\n1 2 16 16\r\nop index rest\r\n",
     "\u{FEFF}dimensions capacity cache16 initial16\n1 2 16 16\nop index rest\n",
     // a making that would be refused; but the third line is looked at before
-    "dimensions capacity cache16 initial16\n9 1 17 17\nop index\n",
+    "dimensions capacity cache16 initial16\n33 1 17 17\nop index\n",
 ];
 
 /// Op rows in form, and the first bad one behind them if there is one.
@@ -118,7 +118,7 @@ const ROWS: [(&str, Option<usize>); 35] = [
 ];
 
 /// Makings refused, whatever comes after them.
-const REFUSED: [&str; 4] = ["9 1 17 17", "1 1 17 17", "1 2 17 17", "1 2 16 17"];
+const REFUSED: [&str; 4] = ["33 1 17 17", "1 1 17 17", "1 2 17 17", "1 2 16 17"];
 const AFTER: [&str; 3] = ["", "0 0 0\n", "no row\n"];
 
 /// How many there are.

@@ -5,7 +5,7 @@ use super::keyed::Keying;
 use super::odd;
 use crate::archive::{Archive, Making, Row};
 use oracle::Words;
-use runs::generate::{sampled_by, sampled_capacity, Room};
+use runs::generate::{sampled_by, sampled_capacity, Room, Widths};
 use runs::{Call, Run};
 use texts::generate::{too_large_share, whole_coordinate, MOST};
 
@@ -38,7 +38,7 @@ pub fn within(words: &mut Words, room: usize) -> Archive {
         words.one_of(&[0, 2, 8, 16, any, any])
     };
     let making = Making {
-        dimensions: 1 + words.below(8) as u32,
+        dimensions: Widths::All.channels(words),
         capacity,
         cache16: sixteenths(words),
         initial16: sixteenths(words),

@@ -1,6 +1,6 @@
 //! Runs with one number changed before the port is handed them.
 use oracle::Words;
-use runs::{decode, Call};
+use runs::{decode, Call, MOST_CHANNELS};
 
 /// Which number is another.
 #[derive(Clone, Copy, Debug, PartialEq)]
@@ -15,11 +15,19 @@ pub enum Other {
     Weight,
     /// A query's first coordinate is one more, or one less.
     Query,
+    /// 32 channels for 33: what a port does that does not refuse them.
+    Taken,
+    /// 33 channels for 9 and more: what a port does that refuses those.
+    Refused,
 }
 
 /// The run with the number changed in one of its calls, if one has it.
 pub fn with_other(other: Other, run: &[u8], words: &mut Words) -> Option<Vec<u8>> {
     let mut decoded = decode(run)?;
+    if let Some(channels) = other_channels(other, decoded.making.channels) {
+        decoded.making.channels = channels;
+        return Some(decoded.encode());
+    }
     let mut changed = decoded.clone();
     let calls = changed.calls.iter_mut();
     let mut having: Vec<(usize, &mut Call)> = calls
@@ -33,6 +41,15 @@ pub fn with_other(other: Other, run: &[u8], words: &mut Words) -> Option<Vec<u8>
     let (n, call) = having.swap_remove(any);
     decoded.calls[n] = call.clone();
     Some(decoded.encode())
+}
+
+/// The channels in the place of a making's, if it is one of those.
+fn other_channels(other: Other, channels: u32) -> Option<u32> {
+    match (other, channels) {
+        (Other::Taken, 33) => Some(MOST_CHANNELS),
+        (Other::Refused, 9..=MOST_CHANNELS) => Some(MOST_CHANNELS + 1),
+        _ => None,
+    }
 }
 
 /// Changes the number, if the call has it.

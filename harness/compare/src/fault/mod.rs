@@ -2,6 +2,7 @@
 mod answered;
 mod handed;
 mod masses;
+mod sums;
 
 use crate::inputs::Source;
 use crate::judge::{Answers, Judge};
@@ -11,6 +12,7 @@ use handed::{with_other, Other};
 use masses::Column;
 use oracle::Words;
 use port::{Called, Lending};
+use sums::Added;
 
 /// Each fault is tried in so many runs that it can touch.
 const TRIES: usize = 40;
@@ -31,6 +33,8 @@ enum Fault {
     Answered(Spot),
     /// The Rust's own mass in place of the count.
     RustMass(Column),
+    /// The probability of another sum in place of the computed one's.
+    Sum(Added),
     /// The port is handed another number. One that doesn't decide need not show.
     Handed(Other),
 }
@@ -38,13 +42,14 @@ enum Fault {
 impl Fault {
     fn shows(self) -> Shows {
         match self {
+            Fault::Handed(Other::Taken | Other::Refused) => Shows::Always,
             Fault::Handed(_) => Shows::Sometimes,
             _ => Shows::Always,
         }
     }
 }
 
-const FAULTS: [Fault; 20] = [
+const FAULTS: [Fault; 25] = [
     Fault::AnswerBit,
     Fault::BytesBeyond,
     Fault::BytesOfRefused,
@@ -65,6 +70,11 @@ const FAULTS: [Fault; 20] = [
     Fault::Answered(Spot::KeptBeyond),
     Fault::RustMass(Column::Branch),
     Fault::RustMass(Column::Row),
+    Fault::Sum(Added::Whole),
+    Fault::Sum(Added::InOneChain),
+    Fault::Sum(Added::FromTheLast),
+    Fault::Handed(Other::Taken),
+    Fault::Handed(Other::Refused),
 ];
 
 /// The port with one fault, done once at most.
@@ -122,6 +132,10 @@ impl Faulty {
                     None => return,
                 }
             }
+            Fault::Sum(added) if !refused => match sums::place(added, run, &mut self.words) {
+                Some((place, bits)) => lending.write_answers(place, &bits.to_le_bytes()),
+                None => return,
+            },
             _ => return,
         }
         self.done = true;
@@ -148,7 +162,12 @@ fn try_fault(fault: Fault, source: &Source) -> Result<Tries, String> {
         };
         let mut judge = Judge::new(faulty);
         judge.loud = false;
-        judge.look(&source.draw_short(n));
+        let inputs = match fault {
+            // few short runs have such sums, and few such makings; the first runs have both
+            Fault::Sum(_) | Fault::Handed(Other::Taken) => source.draw(n),
+            _ => source.draw_short(n),
+        };
+        judge.look(&inputs);
         let noticed = judge.tally.differing > 0;
         Ok(judge.answers.done.then_some(noticed))
     })

@@ -10,6 +10,7 @@ mod sampled;
 use crate::copies::{value, Copies};
 use crate::layout::{Answer, Call, Making};
 use crate::refusals::*;
+use crate::sums::Sums;
 use oracle::{ids, total, walk_nodes, BareTree, Masses, SampledTree, Table, Tree};
 use std::cell::OnceCell;
 use std::collections::BTreeSet;
@@ -32,6 +33,7 @@ pub struct Driver {
     ids: OnceCell<BTreeSet<usize>>,
     /// The same for the masses of its nodes.
     masses: OnceCell<Masses>,
+    sums: Sums,
 }
 
 impl Driver {
@@ -57,6 +59,7 @@ impl Driver {
             copies: Copies::default(),
             ids: OnceCell::new(),
             masses: OnceCell::new(),
+            sums: Sums::default(),
         })
     }
 
@@ -127,6 +130,11 @@ impl Driver {
             masses
         };
         self.masses.get_or_init(counted)
+    }
+
+    /// What the reports so far show of sums.
+    pub fn sums(&self) -> Sums {
+        self.sums
     }
 
     pub fn table(&self) -> &Table {

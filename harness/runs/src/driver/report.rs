@@ -2,11 +2,11 @@
 use super::{refuse, Driver};
 use crate::layout::ROW_NUMBERS;
 use crate::refusals::*;
-use oracle::{report, walk_nodes, Row};
+use oracle::{report, sums, walk_nodes, Row};
 
 impl Driver {
     /// How many rows are written, then the numbers of each row lent; 0 beyond those written.
-    pub(super) fn report(&self, lent: u32, coordinates: &[u32]) -> Result<Vec<usize>, u32> {
+    pub(super) fn report(&mut self, lent: u32, coordinates: &[u32]) -> Result<Vec<usize>, u32> {
         let query = self.reading(coordinates)?;
         let rows = report(self.tree(), &self.table, self.masses(), &query);
         let rows = rows.expect("the Rust refuses no report");
@@ -14,6 +14,8 @@ impl Driver {
         assert_eq!(rows.is_empty(), self.copies.total() == 0);
         refuse(rows.is_empty(), EMPTY)?;
         refuse((lent as usize) < rows.len(), TOO_FEW_LENT)?;
+        let sums = sums(self.tree(), &self.table, &query);
+        self.sums.look(&rows, &sums, self.channels);
         let mut numbers = vec![rows.len()];
         numbers.extend(rows.iter().flat_map(row_numbers));
         numbers.resize(1 + ROW_NUMBERS * lent as usize, 0);

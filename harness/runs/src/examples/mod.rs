@@ -2,11 +2,12 @@
 mod reported;
 mod sampled;
 mod twice;
+mod wide;
 
 pub use reported::all as reported;
 pub use sampled::all as sampled;
+pub use wide::all as wide;
 
-use crate::answers;
 use crate::generate::Written;
 use crate::layout::{Call, Making, Run};
 
@@ -68,12 +69,7 @@ const SHARES: [f64; 10] = [
 /// channels say, also where they are out of range.
 fn made(making: Making) -> Written {
     let calls = vec![Call::Branch { id: 0 }, Call::Box { id: 0 }];
-    written(Run { making, calls })
-}
-
-fn written(run: Run) -> Written {
-    let answers = answers(&run);
-    Written { run, answers }
+    Written::of(Run { making, calls })
 }
 
 /// A run that writes the readings at 0, 1, ..., adds each with its words and asks for everything.
@@ -85,7 +81,7 @@ fn grown(capacity: u32, readings: &[&[f32]], words: &[&[u64]]) -> Written {
     });
     let calls = puts(readings).into_iter().chain(adds);
     let calls = calls.chain(all_queries(capacity + readings.len() as u32));
-    written(Run {
+    Written::of(Run {
         making,
         calls: calls.collect(),
     })

@@ -1,5 +1,5 @@
 //! Document 01's walk reports, and others at an edge: lone leaves, empty trees, rows lent, longest sums.
-use super::{puts, twice, written, HALF};
+use super::{puts, twice, HALF};
 use crate::generate::Written;
 use crate::layout::{Call, Making, Run};
 use crate::refusals::EDGE;
@@ -52,7 +52,7 @@ fn one_box(share: f64) -> Written {
     calls.extend(every(4).chain(refused));
     calls.extend([0, 0, 1].map(|index| Call::Delete { index }));
     calls.extend(every(1));
-    written(Run {
+    Written::of(Run {
         making: Making::bare(1, 4, share),
         calls,
     })
@@ -79,7 +79,7 @@ fn longest_sums(share: f64) -> Written {
             calls.push(report(4, query));
         }
     }
-    written(Run {
+    Written::of(Run {
         making: Making::bare(8, 4, share),
         calls,
     })

@@ -1,5 +1,5 @@
 //! Document 01's samples, and others that stand at an edge of what an arrival is accepted for.
-use super::{all_queries, puts, written, HALF, SHARES};
+use super::{all_queries, puts, HALF, SHARES};
 use crate::generate::Written;
 use crate::layout::{Call, Making, Run};
 
@@ -49,7 +49,7 @@ fn arrived(capacity: u32, readings: &[&[f32]], weights: &[f32]) -> Written {
         calls.extend([arrival(index, *weight, capacity as usize), Call::Sample]);
     }
     calls.extend(all_queries(capacity + readings.len() as u32));
-    written(Run { making, calls })
+    Written::of(Run { making, calls })
 }
 
 /// Arrivals refused for each cause, alone and with those after it in document 01's order.
@@ -72,7 +72,7 @@ fn refused() -> Written {
         Call::Sample,
     ]);
     calls.extend(all_queries(7));
-    written(Run {
+    Written::of(Run {
         making: Making::sampled(1, 4, 0.5, 0.5),
         calls,
     })
@@ -96,7 +96,7 @@ fn makings() -> Vec<Making> {
 
 /// A making, and what no fresh tree has; the sample's answer is as long as the capacity says, also where
 /// it is out of range.
-fn made(making: Making) -> Written {
+pub(super) fn made(making: Making) -> Written {
     let calls = vec![
         Call::Sample,
         Call::Branch { id: 0 },
@@ -106,5 +106,5 @@ fn made(making: Making) -> Written {
             coordinates: vec![0],
         },
     ];
-    written(Run { making, calls })
+    Written::of(Run { making, calls })
 }

@@ -1,7 +1,7 @@
 //! Values held more than once, with every query and reports after each call: their masses are where the Rust and the count part
 //! (docs/DIFFERENCES.md, 1.2 to 1.4).
 use super::reported::report;
-use super::{all_queries, puts, written, HALF};
+use super::{all_queries, puts, HALF};
 use crate::generate::Written;
 use crate::layout::{Call, Making, Run};
 
@@ -43,7 +43,7 @@ fn run(steps: &[Step]) -> Written {
         calls.extend(all_queries(CAPACITY + READINGS.len() as u32));
         calls.extend([0.0, 8.0, 12.0].map(|query| report(3, &[query])));
     }
-    written(Run {
+    Written::of(Run {
         making: Making::bare(1, CAPACITY, 1.0),
         calls,
     })

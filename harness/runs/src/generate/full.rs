@@ -88,6 +88,7 @@ pub fn run(words: &mut Words, room: Room, n: usize) -> Written {
     let shape = SHAPES[n % SHAPES.len()];
     let setting = Setting {
         making: Making::bare(shape.channels, CAPACITY, shape.share),
+        spoilt: false,
         pool: (0..CAPACITY + MORE).collect(),
         spread: Spread::Line,
         style: Style::Mixed,

@@ -1,6 +1,5 @@
 //! Runs that hold as many copies as a tree may, 65,535, and ask for more.
 use super::Written;
-use crate::expected::answers;
 use crate::layout::{Call, Making, Run};
 use crate::refusals::MOST_COPIES;
 
@@ -39,12 +38,10 @@ fn limit(values: u32, adds: Vec<Call>) -> Written {
     calls.extend([Call::Delete { index: 0 }, Call::Delete { index: 0 }]);
     calls.extend([add(0), add(0), add(0), Call::Delete { index: 3 }]);
     calls.extend(all_queries());
-    let run = Run {
+    Written::of(Run {
         making: Making::bare(2, 3, 0.5),
         calls,
-    };
-    let answers = answers(&run);
-    Written { run, answers }
+    })
 }
 
 fn all_queries() -> Vec<Call> {

@@ -7,6 +7,7 @@ mod reports;
 mod sampled;
 mod setting;
 mod steps;
+mod widths;
 mod writer;
 
 pub use full::{outward, run as full, Outward};
@@ -14,16 +15,28 @@ pub use long::{lone_leaf_to_the_limit, three_values_to_the_limit};
 pub use sampled::{
     capacity as sampled_capacity, run as sampled, run_by as sampled_by, run_of as sampled_of,
 };
+pub use widths::{Widths, FEW};
 
+use crate::expected::carried_out;
 use crate::layout::{Answer, Run};
+use crate::sums::Sums;
 use oracle::Words;
 use setting::Setting;
 
-/// A run, and the answers to its making and calls.
+/// A run, the answers to its making and calls, and what its reports show of sums.
 #[derive(Clone)]
 pub struct Written {
     pub run: Run,
     pub answers: Vec<Answer>,
+    pub sums: Sums,
+}
+
+impl Written {
+    /// The run with all that comes of it.
+    pub fn of(run: Run) -> Self {
+        let (answers, sums) = carried_out(&run);
+        Written { run, answers, sums }
+    }
 }
 
 /// How many bytes a run and its answers may have.
@@ -34,17 +47,17 @@ pub struct Room {
 }
 
 /// A bare run that the generator makes up, in this room.
-pub fn run(words: &mut Words, room: Room) -> Written {
-    let setting = Setting::draw(words, room);
+pub fn run(words: &mut Words, room: Room, widths: Widths) -> Written {
+    let setting = Setting::draw(words, room, widths);
     writer::write(setting, words, room)
 }
 
 /// A bare run with reports.
-pub fn reported(words: &mut Words, room: Room) -> Written {
+pub fn reported(words: &mut Words, room: Room, widths: Widths) -> Written {
     let reports = Some(words.one_of(&[3, 8, 8, 20]));
     let setting = Setting {
         reports,
-        ..Setting::draw(words, room)
+        ..Setting::draw(words, room, widths)
     };
     writer::write(setting, words, room)
 }

@@ -1,5 +1,6 @@
 //! Readings for puts: from ranges where sides are equal, zero, short or as long as they can be; and
 //! what is no reading.
+use super::widths::FEW;
 use crate::refusals::EDGE;
 use oracle::Words;
 
@@ -15,6 +16,8 @@ pub enum Spread {
     Flat,
     /// One line, growing with the index.
     Line,
+    /// Next to one corner of the whole range; a bit for each channel says which end of it.
+    Corner(u32),
 }
 
 impl Spread {
@@ -26,6 +29,12 @@ impl Spread {
         Spread::Powers,
         Spread::Flat,
     ];
+
+    /// Any corner, the lowest and the highest more often.
+    pub fn corner(words: &mut Words) -> Self {
+        let any = words.word() as u32;
+        Spread::Corner(words.one_of(&[0, u32::MAX, any, any, 0x5555_5555]))
+    }
 
     /// A reading for an index, as bits.
     pub fn reading(self, channels: usize, index: u32, words: &mut Words) -> Vec<u32> {
@@ -45,6 +54,14 @@ impl Spread {
             Spread::Flat => 7 - channel as i32,
             Spread::Line if channel == 0 => 16 * (index % 1024) as i32 - 4096,
             Spread::Line => -3,
+            Spread::Corner(upper) => {
+                let x = EDGE - words.between(0, 1_999);
+                if upper >> channel & 1 > 0 {
+                    x
+                } else {
+                    -x
+                }
+            }
         }
     }
 }
@@ -84,5 +101,6 @@ pub fn bad_coordinate(words: &mut Words) -> u32 {
 
 /// A number of coordinates that is not the tree's.
 pub fn bad_count(channels: usize, words: &mut Words) -> usize {
-    words.one_of(&[0, channels - 1, channels + 1, 9, 40])
+    let next = if channels > FEW as usize { 33 } else { 9 };
+    words.one_of(&[0, channels - 1, channels + 1, next, 40])
 }

@@ -2,6 +2,7 @@
 //! or nearly so, with rows enough, too few and more than enough.
 use super::readings::{bad_coordinate, bad_count, Spread};
 use super::steps::{any_index, index_where};
+use super::widths::FEW;
 use super::writer::Writer;
 use crate::layout::Call;
 use crate::refusals::EDGE;
@@ -40,13 +41,15 @@ fn rows(writer: &mut Writer, coordinates: &[u32]) -> u32 {
 
 fn query(writer: &mut Writer) -> Vec<u32> {
     let channels = writer.setting.making.channels as usize;
-    let whole = match writer.words.below(10) {
+    let kinds = if channels > FEW as usize { 16 } else { 10 };
+    let whole = match writer.words.below(kinds) {
         0 | 1 => point(writer, true),
         2 => point(writer, false),
         3 | 4 => one_channel_off(writer),
         5 | 6 => by_a_box(writer, false),
         7 => by_a_box(writer, true),
         8 => outermost(channels, writer.words),
+        10.. => opposite(writer),
         _ => spread(Spread::Full, writer),
     };
     whole.iter().map(|x| (*x as f32).to_bits()).collect()
@@ -83,14 +86,9 @@ fn one_channel_off(writer: &mut Writer) -> Vec<i32> {
 
 /// On the faces of a branch's box, within them, and where `outside` next to them or further away.
 fn by_a_box(writer: &mut Writer, outside: bool) -> Vec<i32> {
-    let capacity = writer.driver.capacity();
-    let branches: Vec<usize> = writer.driver.ids().range(..capacity).copied().collect();
-    if branches.is_empty() {
+    let Some((low, high)) = branch_box(writer) else {
         return point(writer, true);
-    }
-    let id = writer.words.one_of(&branches);
-    let (low, high) = bounds(writer.driver.tree(), writer.driver.table(), id);
-    let (low, high) = (whole(low), whole(high));
+    };
     let words = &mut *writer.words;
     let away = words.one_of(&[1, 1, 2, 1 << 10, 1 << 19]);
     let side = |(&low, &high): (&i32, &i32)| match words.below(if outside { 6 } else { 3 }) {
@@ -102,6 +100,41 @@ fn by_a_box(writer: &mut Writer, outside: bool) -> Vec<i32> {
         _ => words.between(low, high),
     };
     low.iter().zip(&high).map(side).collect()
+}
+
+/// In most channels at the end of the whole range that is further from a branch's box, or next to it, in the others within the box: sums
+/// of many such distances pass 2^24, and f32 numbers round them.
+fn opposite(writer: &mut Writer) -> Vec<i32> {
+    let Some((low, high)) = branch_box(writer) else {
+        return point(writer, true);
+    };
+    let words = &mut *writer.words;
+    let within = words.one_of(&[3, 9, usize::MAX, usize::MAX]);
+    let beside = words.one_of(&[0, 1, 40, 4_000]);
+    let side = |(&low, &high): (&i32, &i32)| match words.once_in(within) {
+        true => words.between(low, high),
+        false => {
+            let x = EDGE - words.between(0, beside);
+            if low + high > 0 {
+                -x
+            } else {
+                x
+            }
+        }
+    };
+    low.iter().zip(&high).map(side).collect()
+}
+
+/// The ends of the box of one of the branches, if there is one.
+fn branch_box(writer: &mut Writer) -> Option<(Vec<i32>, Vec<i32>)> {
+    let capacity = writer.driver.capacity();
+    let branches: Vec<usize> = writer.driver.ids().range(..capacity).copied().collect();
+    if branches.is_empty() {
+        return None;
+    }
+    let id = writer.words.one_of(&branches);
+    let (low, high) = bounds(writer.driver.tree(), writer.driver.table(), id);
+    Some((whole(low), whole(high)))
 }
 
 /// As far out as coordinates go, in every channel.

@@ -4,7 +4,7 @@ use super::fed::so_many;
 use super::setting::{self, Setting};
 use super::steps::{self, any_index, odd_index};
 use super::writer::{write_by, Writer};
-use super::{reports, Room, Written};
+use super::{reports, Room, Widths, Written};
 use crate::arriving::{bad_weight, initial_share, start_word, Weighing, Weights};
 use crate::layout::{Call, Making};
 use oracle::{walk, Words};
@@ -38,15 +38,15 @@ struct Arrivals {
 }
 
 /// A run that the generator makes up, in this room.
-pub fn run(words: &mut Words, room: Room) -> Written {
+pub fn run(words: &mut Words, room: Room, widths: Widths) -> Written {
     let capacity = capacity(words, room);
-    run_of(capacity, words, room)
+    run_of(capacity, words, room, widths)
 }
 
 /// The same with this capacity.
-pub fn run_of(capacity: u32, words: &mut Words, room: Room) -> Written {
+pub fn run_of(capacity: u32, words: &mut Words, room: Room, widths: Widths) -> Written {
     let making = Making::sampled(
-        1 + words.below(8) as u32,
+        widths.channels(words),
         capacity,
         setting::share(capacity, words),
         initial_share(capacity as usize, words),

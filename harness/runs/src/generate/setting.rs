@@ -1,6 +1,7 @@
 //! What a run draws once: its making, the indices it uses, where readings and words come from.
 use super::fed::Style;
 use super::readings::Spread;
+use super::widths::{Widths, FEW};
 use super::Room;
 use crate::layout::Making;
 use oracle::{Table, Words};
@@ -12,6 +13,8 @@ const CAPACITIES: [u32; 24] = [
 /// What the calls of a run are drawn from.
 pub struct Setting {
     pub making: Making,
+    /// Whether the making is one that took another's place, mostly a refused one.
+    pub spoilt: bool,
     /// The indices that are written, added and deleted.
     pub pool: Vec<u32>,
     pub spread: Spread,
@@ -25,9 +28,9 @@ pub struct Setting {
 }
 
 impl Setting {
-    pub fn draw(words: &mut Words, room: Room) -> Self {
+    pub fn draw(words: &mut Words, room: Room, widths: Widths) -> Self {
         let capacity = capacity(words, room);
-        let channels = 1 + words.below(8) as u32;
+        let channels = widths.channels(words);
         let making = Making::bare(channels, capacity, share(capacity, words));
         Setting::of(making, words, room)
     }
@@ -37,20 +40,31 @@ impl Setting {
         let chain = words.once_in(8);
         let (spread, style) = match chain {
             true => (Spread::Line, words.one_of(&[Style::Zeros, Style::Ones])),
-            false => (words.one_of(&Spread::ALL), words.one_of(&Style::ALL)),
+            false => (spread(&making, words), words.one_of(&Style::ALL)),
         };
+        let pool = pool(&making, room, words);
+        let spoilt = words.once_in(24);
         Setting {
-            pool: pool(&making, room, words),
-            making: match words.once_in(24) {
+            making: match spoilt {
                 true => bad_making(making, words),
                 false => making,
             },
+            spoilt,
+            pool,
             spread,
             style,
             in_order: chain || words.once_in(6),
             repeats: words.one_of(&[3, 9, 40, usize::MAX]),
             reports: None,
         }
+    }
+}
+
+/// Where readings are drawn from; those of many channels often lie in one corner, so that distances to them can be long in every channel.
+fn spread(making: &Making, words: &mut Words) -> Spread {
+    match making.channels > FEW && words.once_in(2) {
+        true => Spread::corner(words),
+        false => words.one_of(&Spread::ALL),
     }
 }
 
@@ -95,10 +109,11 @@ pub fn share(capacity: u32, words: &mut Words) -> f64 {
     ])
 }
 
-/// A making with one or more numbers out of range.
+/// A making with one or more numbers out of range; one of few channels may have 9 in their place, as it is recorded.
 fn bad_making(making: Making, words: &mut Words) -> Making {
     let mut bad = making;
-    let channels = words.one_of(&[0, 9, 256, u32::MAX]);
+    let next = if making.channels > FEW { 33 } else { 9 };
+    let channels = words.one_of(&[0, next, 256, u32::MAX]);
     let capacity = words.one_of(&[0, 1, 257, 65_538, u32::MAX]);
     let share = words.one_of(&[
         f64::NAN,

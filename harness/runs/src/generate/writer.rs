@@ -23,43 +23,40 @@ pub fn write(setting: Setting, words: &mut Words, room: Room) -> Written {
     write_by(setting, words, room, |writer| writer.stretches())
 }
 
-/// Writes a whole run by these calls. A refused making is followed by some others, which it leaves
-/// unanswered.
+/// Writes a whole run by these calls. A making that took another's place is followed by some others; where it is refused it leaves
+/// them unanswered.
 pub fn write_by(
     setting: Setting,
     words: &mut Words,
     room: Room,
     calls: impl FnOnce(&mut Writer),
 ) -> Written {
-    let mut written = Written {
-        run: Run {
-            making: setting.making,
-            calls: vec![],
-        },
-        answers: vec![vec![0]],
-    };
+    let making = setting.making;
+    if setting.spoilt {
+        let calls = steps::unanswered(&setting, words);
+        return Written::of(Run { making, calls });
+    }
+    let written = Written::of(Run {
+        making,
+        calls: vec![],
+    });
     let left = Room {
         run: room.run - written.run.run_bytes(),
         answers: room.answers - 4,
     };
-    match Driver::make(&setting.making) {
-        Err(refusal) => {
-            written.run.calls = steps::unanswered(&setting, words);
-            written.answers = vec![vec![refusal]];
-            written
-        }
-        Ok(driver) => {
-            let mut writer = Writer {
-                words,
-                setting,
-                driver,
-                turn: 0,
-                written,
-                left,
-            };
-            calls(&mut writer);
-            writer.written
-        }
+    let mut writer = Writer {
+        words,
+        driver: Driver::make(&making).expect("in range"),
+        setting,
+        turn: 0,
+        written,
+        left,
+    };
+    calls(&mut writer);
+    let sums = writer.driver.sums();
+    Written {
+        sums,
+        ..writer.written
     }
 }
 

@@ -31,6 +31,16 @@ pub const MAKINGS: [[u32; 3]; 22] = [
     [8, 1, 0],
 ];
 
+/// Makings of more channels than the program prints, within the limits of a tree and beyond them.
+pub const WIDE_MAKINGS: [[u32; 3]; 6] = [
+    [9, 4, 16],
+    [9, 1, 17],
+    [16, 256, 0],
+    [32, 4, 8],
+    [32, 257, 16],
+    [33, 4, 16],
+];
+
 /// A short text with this making, over rows that another one wanted.
 pub fn text(making: [u32; 3], words: &mut Words) -> Text {
     let [dimensions, capacity, cache16] = making;

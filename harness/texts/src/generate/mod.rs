@@ -13,7 +13,7 @@ pub use broken::BREAKS;
 pub use changed::given as bytes_changed;
 pub use example::document;
 pub use long::{ones, text as long, LONGS};
-pub use makings::MAKINGS;
+pub use makings::{MAKINGS, WIDE_MAKINGS};
 pub use odd::{coordinate as odd_coordinate, index as odd_index, put_rows_in, EDGE};
 pub use small::{smalls, SMALLS};
 pub use whole::{too_large_share, whole as whole_coordinate, MOST};
@@ -32,12 +32,14 @@ pub type Given = crate::Given<Text>;
 pub fn nth(seed: u64, n: usize) -> Given {
     let mut words = Words::nth(seed, n);
     let makings_from = 1 + BREAKS.count();
-    let longs_from = makings_from + MAKINGS.len();
+    let wide_from = makings_from + MAKINGS.len();
+    let longs_from = wide_from + WIDE_MAKINGS.len();
     let smalls_from = longs_from + LONGS.len();
     match n {
         0 => document(),
         n if n < makings_from => broken(n - 1, &mut words),
-        n if n < longs_from => made(n - makings_from, &mut words),
+        n if n < wide_from => made(n - makings_from, &mut words),
+        n if n < longs_from => made_wide(n - wide_from, &mut words),
         n if n < smalls_from => long(&LONGS[n - longs_from], &mut words),
         n if n < FIRST_DRAWN => smalls().swap_remove(n - smalls_from),
         _ => drawn(&mut words),
@@ -45,7 +47,8 @@ pub fn nth(seed: u64, n: usize) -> Given {
 }
 
 /// The number of the first text that is not one of a list.
-pub const FIRST_DRAWN: usize = 1 + BREAKS.count() + MAKINGS.len() + LONGS.len() + SMALLS;
+pub const FIRST_DRAWN: usize =
+    1 + BREAKS.count() + MAKINGS.len() + WIDE_MAKINGS.len() + LONGS.len() + SMALLS;
 
 fn drawn(words: &mut Words) -> Given {
     match words.below(24) {
@@ -81,6 +84,14 @@ pub fn broken(n: usize, words: &mut Words) -> Given {
 /// A short text with a making at a limit, the n-th of `MAKINGS`.
 pub fn made(n: usize, words: &mut Words) -> Given {
     Given::in_form("making at a limit", makings::text(MAKINGS[n], words))
+}
+
+/// A short text with more channels than the program prints, the n-th of `WIDE_MAKINGS`.
+pub fn made_wide(n: usize, words: &mut Words) -> Given {
+    Given::in_form(
+        "more than 8 channels",
+        makings::text(WIDE_MAKINGS[n], words),
+    )
 }
 
 /// A short text with a few bytes changed anywhere, in form or not.

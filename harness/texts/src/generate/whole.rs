@@ -4,7 +4,7 @@ use super::odd;
 use crate::in_form::OpRow;
 use crate::text::{Making, Row, Text};
 use oracle::Words;
-use runs::generate::{self, Room};
+use runs::generate::{self, Room, Widths};
 use runs::{Call, Run};
 
 /// No number of a text is larger.
@@ -17,7 +17,7 @@ pub fn text(words: &mut Words, room: usize) -> Text {
         run: bytes,
         answers: bytes,
     };
-    let mut all = of_run(&generate::run(words, room_of_run).run, words);
+    let mut all = of_run(&generate::run(words, room_of_run, Widths::Few).run, words);
     if words.once_in(3) {
         odd::put_in(&mut all, words);
     }

@@ -31,7 +31,7 @@ enum-known-side : tie.Need-enum-known-side
 enum-known-side c = search needs
 
 drawn-requires : tie.Need-drawn-requires
-drawn-requires c κs = reached-below _ width 0 _ _ _ (sym (c .before .before .before .side-cut .ensures) ∙ c .before .side .given .1)
+drawn-requires c κs = reached-below _ width 0 _ _ _ (sym (c .before .before .before .before .before .before .before .side-cut .ensures) ∙ c .before .before .before .before .before .side .given .1)
 
 returns-2 : tie.Need-returns-2
 unfolding ofBits drawnAt
@@ -41,7 +41,7 @@ returns-2 c =
 returns-3 : tie.Need-returns-3
 unfolding ofBits
 returns-3 c =
-    c .drawn .ensures ∙ sym (draws _ _ _ _ _ _ (c .before .before .before .before .before .before .before .before .outside-sum .ensures) (c .before .before .before .before .before .before .before .if1 .left) _ _ (c .before .before .before .before .before .before .get-range-sum .ensures) (c .before .before .before .before .before .factor .ensures) _ (sym (c .before .before .side .given .1) ∙ c .before .before .before .before .side-cut .ensures))
+    c .drawn .ensures ∙ sym (draws _ _ _ _ _ _ (c .before .before .before .before .before .before .before .before .before .before .before .before .outside-sum .ensures) (c .before .before .before .before .before .before .before .before .before .before .before .if1 .left) _ _ (c .before .before .before .before .before .before .before .before .before .before .get-range-sum .ensures) (c .before .before .before .before .before .before .before .before .before .factor .ensures) _ (sym (c .before .before .before .before .before .before .side .given .1) ∙ c .before .before .before .before .before .before .before .before .side-cut .ensures))
 
 pub random-cut-and-separation-spec : {M : Type 1} → statement M
 random-cut-and-separation-spec =
