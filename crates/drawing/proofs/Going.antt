@@ -1,4 +1,4 @@
--- The loop before the node of height m: the cut that it has chosen and the ends it has, whichever tree stands in the arrays; the node's own ends; and each way on or out. Assumes nothing.
+-- The loop before the node of height m: the cut that it has chosen, whichever tree stands in the arrays, and the ends of the node below unless its box is at hand; the node's own ends; and each way on or out. Assumes nothing.
 use mathlib.Core.Path.{_≡_, refl, sym, ap, _∙_, subst}
 use mathlib.Core.Bool.{Bool, true, false, not}
 use mathlib.Core.Logic.{_⊎_, ⊎-elim}
@@ -6,11 +6,12 @@ use mathlib.Core.List.{List, [], _∷_}
 use Prim.Native.Nat.{ℕ, _+_, _-_, _^_, _≤_, _<_}
 use native.Mathlib.Numerals.{add-one}
 use native.Mathlib.Omega.{arith}
-use lib.Dec.{T, ltb}
-use borrow.Author.Tests.{ltb-true, ltb-false}
+use lib.Dec.{T, leb, ltb}
+use borrow.Author.Tests.{ltb-true, ltb-false, leb-false}
 use lib.ListN.{getD, take}
 use lib.Ieee.{Float, binary32, nanBits}
 use Rattle.limits.specs.Limits.{width, capacityLimit, branchLimit}
+use Rattle.boundingbox.specs.declared.BoundingBox.{BoundingBox}
 use Rattle.cut.specs.declared.Cut.{Cut}
 use Rattle.cut.specs.declared.Separation.{Separation}
 use Rattle.cut.specs.declared.Separation.the-variants.{NoCut, Drawn}
@@ -24,10 +25,13 @@ use Rattle.wholetree.specs.Reading.{Reading}
 use Rattle.wholetree.specs.Whole.{whole}
 use Rattle.wholetree.proofs.Boxes.{tree-box}
 use Rattle.wholetree.proofs.Draws.{ends-leaf, are-readings}
-use Rattle.layout.specs.Slots.{lowOf, highOf}
+use Rattle.layout.specs.Slots.{lowOf, highOf, field}
 use Rattle.layout.specs.Stands.{trail}
+use Rattle.layout.proofs.Replaced.{in-sub}
 use Rattle.layout.proofs.Trails.{path-node}
-use Rattle.boxstore.specs.Above.{At, Rising, SomeRising, BoxAbove}
+use Rattle.boxstore.specs.Grown.{BoxOf}
+use Rattle.boxstore.specs.Above.{At}
+use Rattle.boxstore.proofs.Standing.{boxed-in}
 use Rattle.boxstore.proofs.Above.{cached-box, above-leaf}
 use Rattle.rowboxes.specs.Rows.{PaddedRow, PaddedEnds, PaddedTable, PaddedBoxes, boxOf}
 use Rattle.drawing.specs.declared.Chosen.{Chosen}
@@ -75,40 +79,50 @@ module _ (c k channels : ℕ) (nodes : List (List ℕ)) (points : List (List Flo
       pub is-numbered : Some → getD words m 0 < 2 ^ 64 → Numbered s
       is-numbered S W = numbered (S .channels) c (S .tree) (S .reading) words m W s (drawn-in (S .channels) (S .tree) (S .reading) (S .drawing))
 
-  -- before the node of height m, which is no leaf: ends are kept where the branches are cached partly
-  pub record Turn (partly : Bool) (m : ℕ) (X : List (List Float)) (s : Chosen) (d : ℕ) (t : Tree (whole d)) (p : Reading) : Type 0 where
+  -- before the node of height m, which is no leaf
+  pub record Turn (m : ℕ) (s : Chosen) (d : ℕ) (t : Tree (whole d)) (p : Reading) : Type 0 where
     pub chosen-is : s ≡ numbersOf (keptTo d c t p words m)
     pub outside : (j : ℕ) → 0 < j → j < m → holdsAt d c t p j ≡ false
-    pub below : partly ≡ true → At d c p t (m - 1) (boxOf X)
 
-  pub record Going (partly : Bool) (m : ℕ) (X : List (List Float)) (s : Chosen) : Type 0 where
+  pub record Going (m : ℕ) (X : List (List Float)) (s : Chosen) : Type 0 where
     pub some : 0 < m
     pub within : m ≤ len
     pub padded : PaddedEnds channels X
-    pub turn : (d : ℕ) (t : Tree (whole d)) (p : Reading) → In d t p → Turn partly m X s d t p
+    pub box : k ≤ field path (len - m) 0 → field path (len - m) 0 < c → BoxOf c k (field path (len - m) 0) nodes points boxes (boxOf X)
+    pub turn : (d : ℕ) (t : Tree (whole d)) (p : Reading) → In d t p → Turn m s d t p
 
-  pub going-starts : Some → PaddedTable channels points → getD words 0 0 < 2 ^ 64 → (partly : Bool) (s : Chosen) → s ≡ chosenBy noneChosen 0 (separation width (getD points leaf []) (getD points leaf []) point (getD words 0 0))
-      → Going partly 1 (getD points leaf [] ∷ getD points leaf [] ∷ []) s
-  going-starts S P W partly s e =
+  -- the ends that are drawn from at the node of height m, whose number is node, where X′ are kept on
+  abbrev drawnFrom : ℕ → List (List Float) → List (List Float)
+  drawnFrom node X′ = endsFor (leb k node) node X′ boxes
+
+  pub record Ends (m node : ℕ) (X′ : List (List Float)) : Type 0 where
+    pub here : BoxAt m (drawnFrom node X′)
+    pub padded : PaddedEnds channels X′
+    pub own : k ≤ node → BoxOf c k node nodes points boxes (boxOf X′)
+
+  node-in : (i m : ℕ) → i + m + 1 ≡ len → (node : ℕ) → node ≡ field path i 0 → {d : ℕ} {t : Tree (whole d)} {p : Reading} → In d t p → node ≡ id (whole d) c (sub (whole d) t m p)
+  node-in i m e node N {d} {t} {p} D = N ∙ path-node d c p path t (subst (λ (n : ℕ). take n path ≡ trail d c t p) (D .count) (D .is-trail)) i m (omega (arith, D .count))
+
+  -- the leaf's id is from the capacity on
+  leaf-large : {d : ℕ} {t : Tree (whole d)} {p : Reading} → In d t p → c ≤ field path (len - 1) 0
+  leaf-large {d} {t} {p} D = rw (node-in (len - 1) 0 (omega (arith, D .count)) _ refl D, sub-leaf (whole d) p t) (omega arith)
+
+  pub going-starts : Some → PaddedRow channels point → PaddedTable channels points → getD words 0 0 < 2 ^ 64 → (s : Chosen) → s ≡ chosenBy noneChosen 0 (separation width (getD points leaf []) (getD points leaf []) point (getD words 0 0))
+      → Going 1 (point ∷ point ∷ []) s
+  going-starts S R P W s e =
       let B = leaf-box S P in
       record {
         some = omega arith;
         within = omega (arith, S .drawing .count);
-        padded = B .padded;
+        padded = record { two = refl; low = R; high = R };
+        box = λ _ n. absurd (omega (arith, leaf-large (S .drawing)));
         turn = λ d t p D. record {
           chosen-is = e ∙ ap (λ (x : Chosen). chosenBy x 0 (separation width (getD points leaf []) (getD points leaf []) point (getD words 0 0))) (none-is d) ∙ chosen-on d c t p words 0 W _ (drawn-in 0 _ B _ refl d t p D);
           outside = λ j a b. absurd (omega arith);
-          below = λ _. B .at-node d t p D;
         };
       }
 
-  module _ (partly : Bool) (m : ℕ) (X : List (List Float)) (s : Chosen) (G : Going partly m X s) where
-    rising : partly ≡ true → {d : ℕ} {t : Tree (whole d)} {p : Reading} → In d t p → Rising c k nodes points boxes path len (m - 1) (boxOf X) d t p
-    rising f {d} {t} {p} D = record { boxed = D .boxed; once = D .once; count = D .count; is-trail = D .is-trail; box-is = G .turn d t p D .below f }
-
-    pub some-rising : partly ≡ true → Some → SomeRising c k nodes points boxes path len (m - 1) (boxOf X)
-    some-rising f S = record { channels = S .channels; tree = S .tree; reading = S .reading; rising = rising f (S .drawing) }
-
+  module _ (m : ℕ) (X : List (List Float)) (s : Chosen) (G : Going m X s) where
     pub chosen-number : Some → T (not (nanBits binary32 (s .bits)))
     chosen-number S = rw (G .turn (S .channels) (S .tree) (S .reading) (S .drawing) .chosen-is) (bits-number (keptTo (S .channels) c (S .tree) (S .reading) words m .1 .value))
 
@@ -127,11 +141,11 @@ module _ (c k channels : ℕ) (nodes : List (List ℕ)) (points : List (List Flo
           hold-not = λ j a b. g .outside j a (omega arith);
         })
 
-    -- the node's own ends are its slot, or those below it moved out
-    module _ (l : m < len) (node : ℕ) (N : node ≡ getD (getD path (len - 1 - m) []) 0 0) where
+    -- the node's own ends are its slot where it is cached, else those worked out
+    module _ (l : m < len) (node : ℕ) (N : node ≡ field path (len - 1 - m) 0) where
       module _ {d : ℕ} {t : Tree (whole d)} {p : Reading} (D : In d t p) where
         is-node : node ≡ id (whole d) c (sub (whole d) t m p)
-        is-node = N ∙ path-node d c p path t (subst (λ (n : ℕ). take n path ≡ trail d c t p) (D .count) (D .is-trail)) (len - 1 - m) m (omega (arith, D .count))
+        is-node = node-in (len - 1 - m) m (omega arith) node N D
 
         node-low : node + 1 < c
         node-low = above-leaf p (D .boxed) m (omega (arith, D .count)) node is-node (G .some)
@@ -139,24 +153,25 @@ module _ (c k channels : ℕ) (nodes : List (List ℕ)) (points : List (List Flo
         own-box : node < k → At d c p t m (boxOf (getD boxes node []))
         own-box f = cached-box p (D .boxed) m (omega (arith, D .count)) node is-node (omega (arith, node-low)) f (boxOf (getD boxes node [])) refl refl
 
+        told-box : (b : BoundingBox) → BoxOf c k node nodes points boxes b → At d c p t m b
+        told-box b B = let x = B d (sub (whole d) t m p) (sym is-node) (boxed-in d c (in-sub d c m p t (omega (arith, D .count))) (D .boxed)) in record { low = x .0; high = x .1 }
+
       pub in-slots : Some → c ≤ capacityLimit → node < branchLimit
       in-slots S h = omega (arith, node-low (S .drawing))
 
-      -- X′ are the ends that are kept on
-      pub next-ends : Some → c ≤ capacityLimit → (partly ≡ false → c ≤ k + 1) → PaddedBoxes channels boxes → (X′ : List (List Float))
-          → ((partly ≡ true) × BoxAbove c k nodes points boxes path len (m - 1) (boxOf X) (boxOf X′) × PaddedEnds channels X′) ⊎ ((partly ≡ false) × (X′ ≡ X))
-          → BoxAt m (endsFor partly node X′ boxes) × PaddedEnds channels X′
-      next-ends S h f P X′ = ⊎-elim
-          (λ w. let z : (m - 1) + 1 ≡ m = omega (arith, G .some) in
-          rw (w .0) (record { padded = w .2; at-node = λ d t p D. rw z at (w .1 d t p (rising (w .0) D)) }, w .2))
-          (λ w. rw (w .0, w .1) (record { padded = P .slots node (in-slots S h); at-node = λ d t p D. own-box D (omega (arith, node-low D, f (w .0))) }, G .padded))
+      pub next-ends : Some → c ≤ capacityLimit → PaddedBoxes channels boxes → (X′ : List (List Float))
+          → ((leb k node ≡ true) × BoxOf c k node nodes points boxes (boxOf X′) × PaddedEnds channels X′) ⊎ ((leb k node ≡ false) × (X′ ≡ X)) → Ends m node X′
+      next-ends S h P X′ = ⊎-elim
+          (λ w. record { here = rw (w .0) (record { padded = w .2; at-node = λ d t p D. told-box D (boxOf X′) (w .1) }); padded = w .2; own = λ _. w .1 })
+          (λ w.
+          let f = leb-false k node (w .0) in
+          record { here = rw (w .0) (record { padded = P .slots node (in-slots S h); at-node = λ d t p D. own-box D f }); padded = rw (w .1) (G .padded); own = λ n. absurd (omega arith) })
 
-      module _ (X′ : List (List Float)) (Q : PaddedEnds channels X′) (B : BoxAt m (endsFor partly node X′ boxes)) (W : getD words m 0 < 2 ^ 64)
-          (v : Separation) (Y : v ≡ separation width (getD (endsFor partly node X′ boxes) 0 []) (getD (endsFor partly node X′ boxes) 1 []) point (getD words m 0)) where
+      module _ (X′ : List (List Float)) (K : Ends m node X′) (W : getD words m 0 < 2 ^ 64) (v : Separation) (Y : v ≡ separation width (getD (drawnFrom node X′) 0 []) (getD (drawnFrom node X′) 1 []) point (getD words m 0)) where
         pub kept-there : v ≡ NoCut → (d : ℕ) (t : Tree (whole d)) (p : Reading) → In d t p → Kept d c t p words len (highestOf s m)
         kept-there e d t p D =
             let g = G .turn d t p D in
-            let is = drawn-in m _ B v Y d t p D in
+            let is = drawn-in m _ (K .here) v Y d t p D in
             let z : keptTo d c t p words len ≡ keptTo d c t p words m = rw (D .count) (kept-held d c t p words m W v is (omega (arith, D .count)) e) in
             rw (g .chosen-is) (record {
               height-is = ap (λ x. x .0) (sym z);
@@ -168,17 +183,17 @@ module _ (c k channels : ℕ) (nodes : List (List ℕ)) (points : List (List Flo
               hold-not = g .outside;
             })
 
-        pub going-on : (q : Cut) (a : Bool) → v ≡ Drawn q a → (y : Chosen) → y ≡ chosenAt s m q a → Going partly (m + 1) X′ y
+        pub going-on : (q : Cut) (a : Bool) → v ≡ Drawn q a → (y : Chosen) → y ≡ chosenAt s m q a → Going (m + 1) X′ y
         going-on q a e y Z = record {
           some = omega arith;
           within = omega arith;
-          padded = Q;
+          padded = K .padded;
+          box = let row : len - (m + 1) ≡ len - 1 - m = omega arith in rw (row, ← N) (λ n _. K .own n);
           turn = λ d t p D.
               let g = G .turn d t p D in
-              let is = drawn-in m _ B v Y d t p D ∙ e in
+              let is = drawn-in m _ (K .here) v Y d t p D ∙ e in
               record {
                 chosen-is = Z ∙ ap (λ (x : Chosen). chosenAt x m q a) (g .chosen-is) ∙ rw (add-one m) (chosen-on d c t p words m W (Drawn q a) is);
                 outside = λ j f l. by-test (ltb j m) (λ h. g .outside j f (omega (arith, ltb-true))) (λ h. let z : j ≡ m = omega (arith, ltb-false) in rw z (drawn-outside d c t p m (getD words m 0) W q a is));
-                below = λ f. let z : (m + 1) - 1 ≡ m = omega arith in rw z (rw f at (B .at-node d t p D));
               };
         }

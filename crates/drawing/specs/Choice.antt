@@ -12,7 +12,7 @@ use Rattle.cut.specs.declared.Separation.the-variants.{NoCut, Drawn}
 use Rattle.drawing.specs.declared.Chosen.{Chosen}
 use Rattle.drawing.specs.declared.Highest.{Highest}
 
--- the ends of a branch's box: those that were worked out where some branches are not cached, else its slot
+-- the ends of a branch's box: those that were worked out where it is not cached, else its slot
 abbrev pub endsFor : Bool → ℕ → List (List Float) → List (List (List Float)) → List (List Float)
 endsFor partly branch ends boxes = cond partly ends (getD boxes branch [])
 

@@ -1,6 +1,8 @@
 // The leaf-to-root loop of `RCFTree::add`: a word for each node of the walk, and the highest cut that parts the new point from a node's box.
 use boxstore::node_of;
+use boxstore::sibling_at;
 use branchboxes::either;
+use branchboxes::ends_above;
 use cut::Cut;
 use cut::Separation;
 use limits::Boxes;
@@ -10,7 +12,6 @@ use limits::Points;
 use limits::Row;
 use rowboxes::Ends;
 use rowboxes::Sizes;
-use walkboxes::box_above;
 ghost use mathlib.Core.Path.{_≡_};
 ghost use mathlib.Core.Bool.{false, not, cond};
 ghost use mathlib.Core.List.{[]};
@@ -101,7 +102,7 @@ fn highest_of(chosen: Chosen, top: usize) -> Highest
     }
 }
 
-// The draw of a branch of the walk: where some branches are not cached from the ends that were worked out, else from its slot.
+// The draw of a branch of the walk: from its slot where it is cached, else from the ends that were worked out.
 fn drawn_of<'a>(
     partly: bool,
     branch: usize,
@@ -141,15 +142,16 @@ pub fn highest_cut<'a>(
     ensures { λ r. ⌜ ((d : ℕ) (t : Tree (whole d)) (p : Reading) → Drawing d (capacityOf (now (sizes .entry))) t p (cachedOf (now (sizes .entry))) (now (nodes .entry)) (now (points .entry)) (now (boxes .entry)) (now (path .entry)) len leaf (now (words .entry)) (now (point .entry)) → Kept d (capacityOf (now (sizes .entry))) t p (now (words .entry)) len r) ⌝ }
 {
     let mut chosen = chosen_first(points, leaf, words[0], point, sizes[2]);
-    let row = points[leaf];
-    let mut ends: Ends = [row, row];
-    let partly = sizes[1] + 1 < sizes[0];
+    let mut ends: Ends = [*point, *point];
     let mut m: usize = 1;
     while m < len {
-        if partly {
-            box_above(&mut ends, path, len, m - 1, nodes, points, boxes, sizes);
-        }
         let branch = node_of(path, len - 1 - m);
+        let partly = sizes[1] <= branch;
+        if partly {
+            let below = node_of(path, len - m);
+            let sibling = sibling_at(path, len, m - 1);
+            ends_above(&mut ends, below, sibling, nodes, points, boxes, sizes);
+        }
         let drawn = drawn_of(partly, branch, &ends, boxes, words[m], point, sizes[2]);
         match drawn {
             Separation::NoCut => {

@@ -2,21 +2,20 @@
 use native.Mathlib.Omega.{arith}
 use mathlib.Core.Path.{refl, subst}
 use mathlib.Core.Logic.{⊎-elim, inl, inr}
-use Prim.Native.Nat.{_+_, _-_}
-use lib.Dec.{ltb}
+use Prim.Native.Nat.{_-_}
 use borrow.Author.Needs.{needs}
-use borrow.Author.Tests.{ltb-false}
-use Rattle.rowboxes.specs.Rows.{capacityOf, cachedOf, channelsOf, PaddedEnds}
-use Rattle.drawing.specs.Choice.{Numbered, endsFor}
-use Rattle.drawing.proofs.Going.{BoxAt, Going, leaf-box, readings, padded-rows, is-numbered, going-starts, some-rising, chosen-number, in-slots, next-ends, kept-end, kept-there, going-on}
+use Rattle.rowboxes.specs.Rows.{capacityOf, cachedOf, channelsOf}
+use Rattle.branchboxes.proofs.Walks.{both-stand, under-box, branch-box}
+use Rattle.drawing.specs.Choice.{Numbered}
+use Rattle.drawing.proofs.Going.{Going, Ends, leaf-box, readings, padded-rows, is-numbered, going-starts, chosen-number, in-slots, next-ends, kept-end, kept-there, going-on}
 use Rattle.drawing.proofs.highest_cut.Statement.{statement}
 use Rattle.drawing.proofs.highest_cut.Tie as tie
 
 abbrev Inv-loop : tie.InvT-loop
-Inv-loop nodes points boxes path len leaf words point sizes chosen₀ ends₀ partly m₀ chosen ends m = Going (capacityOf sizes) (cachedOf sizes) (channelsOf sizes) nodes points boxes path len leaf words point partly m ends chosen
+Inv-loop nodes points boxes path len leaf words point sizes chosen₀ ends₀ m₀ chosen ends m = Going (capacityOf sizes) (cachedOf sizes) (channelsOf sizes) nodes points boxes path len leaf words point m ends chosen
 
 abbrev μ-loop : tie.MeasureT-loop
-μ-loop nodes points boxes path len leaf words point sizes chosen₀ ends₀ partly m₀ chosen ends m = len - m
+μ-loop nodes points boxes path len leaf words point sizes chosen₀ ends₀ m₀ chosen ends m = len - m
 
 shared-slice-read-chosen-first : tie.Need-shared-slice-read-chosen-first Inv-loop μ-loop
 shared-slice-read-chosen-first c = let D = c .before .before .pre .1 .0 .drawing in omega (arith, D .count, D .enough)
@@ -30,108 +29,110 @@ chosen-first-requires c κs =
     let B = leaf-box _ _ _ _ _ _ _ _ _ _ _ (q .1 .0) (q .1 .1 .1) in
     (q .1 .0 .drawing .leaf-small, (readings _ _ _ _ _ _ _ _ _ _ _ 0 _ B (q .1 .0), (padded-rows _ _ _ _ _ _ _ _ _ _ _ 0 _ B (q .0 .2) (q .1 .1 .0), is-numbered _ _ _ _ _ _ _ _ _ _ _ 0 _ B _ refl (q .1 .0) (omega (arith, c .before .shared-slice-known2 .given 0)))))
 
-mul-row : tie.Need-mul-row Inv-loop μ-loop
-mul-row c = search needs
+loop-holds : tie.Need-loop-holds Inv-loop μ-loop
+loop-holds c =
+    let q = c .before .before .before .before .before .before .pre in
+    going-starts _ _ _ _ _ _ _ _ _ _ _ (q .1 .0) (q .1 .1 .0) (q .1 .1 .1) (omega (arith, c .before .before .before .before .shared-slice-known2 .given 0)) _ (c .before .before .chosen-first .ensures)
 
-element-copy-out-row : tie.Need-element-copy-out-row Inv-loop μ-loop
-element-copy-out-row c = c .before .before .before .before .pre .1 .0 .drawing .leaf-small
+-- the entry, from the loop's test
+abbrev entry : tie.At-loop Inv-loop μ-loop → tie.Start Inv-loop μ-loop
+entry c = c .before .before .before .before .before .before .before
+
+sub-node-of : tie.Need-sub-node-of Inv-loop μ-loop
+sub-node-of c = omega (arith, c .loop-test .taken)
+
+sub-node-of-2 : tie.Need-sub-node-of-2 Inv-loop μ-loop
+sub-node-of-2 c = omega (arith, c .loop-test .taken)
+
+node-of-requires : tie.Need-node-of-requires Inv-loop μ-loop
+node-of-requires c κs = omega (arith, c .loop-test .taken, entry (c .before) .pre .1 .0 .drawing .most)
 
 element-copy-out-partly : tie.Need-element-copy-out-partly Inv-loop μ-loop
 element-copy-out-partly c = search needs
 
-add-partly : tie.Need-add-partly Inv-loop μ-loop
-add-partly c = omega (arith, c .before .before .before .before .before .before .pre .0 .1)
+sub-node-of-3 : tie.Need-sub-node-of-3 Inv-loop μ-loop
+sub-node-of-3 c = omega (arith, c .before .before .before .loop-test .taken)
 
-element-copy-out-partly-2 : tie.Need-element-copy-out-partly-2 Inv-loop μ-loop
-element-copy-out-partly-2 c = search needs
+node-of-requires-2 : tie.Need-node-of-requires-2 Inv-loop μ-loop
+node-of-requires-2 c κs = omega (arith, c .before .before .before .before .loop .inv .some, c .before .before .before .loop-test .taken, entry (c .before .before .before .before) .pre .1 .0 .drawing .most)
 
-loop-holds : tie.Need-loop-holds Inv-loop μ-loop
-loop-holds c =
-    let q = c .before .before .before .before .before .before .before .pre in
-    going-starts _ _ _ _ _ _ _ _ _ _ _ (q .1 .0) (q .1 .1 .1) (omega (arith, c .before .before .before .before .before .shared-slice-known2 .given 0)) _ _ (c .before .before .before .chosen-first .ensures)
+sub-sibling-at : tie.Need-sub-sibling-at Inv-loop μ-loop
+sub-sibling-at c = c .before .before .before .before .before .loop .inv .some
 
--- the entry, from the loop's test
-abbrev entry : tie.At-loop Inv-loop μ-loop → tie.Start Inv-loop μ-loop
-entry c = c .before .before .before .before .before .before .before .before
+sibling-at-requires : tie.Need-sibling-at-requires Inv-loop μ-loop
+sibling-at-requires c κs = (omega (arith, c .before .before .before .before .loop-test .taken), entry (c .before .before .before .before .before) .pre .1 .0 .drawing .most)
 
-sub-box-above : tie.Need-sub-box-above Inv-loop μ-loop
-sub-box-above c = omega (arith, c .before .before .before .loop .inv .some)
-
-box-above-requires : tie.Need-box-above-requires Inv-loop μ-loop
-box-above-requires c κs =
-    let q = entry (c .before .before .before) .pre in
-    let g = c .before .before .before .loop .inv in
-    ((q .0 .0, q .0 .1, q .0 .2, q .1 .0 .drawing .most, omega (arith, g .some, c .before .before .loop-test .taken)), (some-rising _ _ _ _ _ _ _ _ _ _ _ _ _ _ _ g (c .before .if1 .taken) (q .1 .0), (q .1 .1 .1, q .1 .1 .2, g .padded)))
-
-sub-node-of : tie.Need-sub-node-of Inv-loop μ-loop
-sub-node-of c = omega (arith, c .before .loop-test .taken)
-
-sub-node-of-2 : tie.Need-sub-node-of-2 Inv-loop μ-loop
-sub-node-of-2 c = omega (arith, c .before .loop-test .taken)
-
-node-of-requires : tie.Need-node-of-requires Inv-loop μ-loop
-node-of-requires c κs = omega (arith, c .before .loop-test .taken, entry (c .before .before) .pre .1 .0 .drawing .most)
+ends-above-requires : tie.Need-ends-above-requires Inv-loop μ-loop
+ends-above-requires c κs =
+    let q = entry (c .before .before .before .before .before .before .before) .pre in
+    let D = q .1 .0 .drawing in
+    let g = c .before .before .before .before .before .before .before .loop .inv in
+    let h = c .before .before .before .before .before .before .loop-test .taken in
+    let f = c .before .before .node-of2 .ensures in
+    let s = c .before .sibling-at .ensures in
+    (q .0, (both-stand _ _ (D .boxed) (D .once) (D .count) (D .is-trail) _ (g .some) h _ f _ s, (under-box _ _ (D .boxed) (D .once) (D .count) (D .is-trail) _ (g .some) h _ f _ s _ (g .box), (q .1 .1 .1, q .1 .1 .2, g .padded))))
 
 -- the ends of the branch that is drawn at, and those that are kept on
-branch-ends : (c : tie.After-node-of Inv-loop μ-loop) →
-    let a = entry (c .before .before .before) .args in
+branch-ends : (c : tie.After-ends2 Inv-loop μ-loop) →
+    let a = entry (c .before .before .before .before .before) .args in
     let s = a .sizes .now in
-    let E = c .before .if1 .ends in
-    BoxAt (capacityOf s) (cachedOf s) (channelsOf s) (a .nodes .now) (a .points .now) (a .boxes .now) (a .path .now) (a .len) (a .leaf) (a .words .now) (a .point .now) (c .before .before .before .loop .m) (endsFor (ltb (cachedOf s + 1) (capacityOf s)) (c .node-of .result) E (a .boxes .now)) × PaddedEnds (channelsOf s) E
+    Ends (capacityOf s) (cachedOf s) (channelsOf s) (a .nodes .now) (a .points .now) (a .boxes .now) (a .path .now) (a .len) (a .leaf) (a .words .now) (a .point .now) (c .before .before .before .before .before .loop .m) (c .before .before .before .node-of .result) (c .before .if1 .ends)
 branch-ends c =
-    let q = entry (c .before .before .before) .pre in
-    next-ends _ _ _ _ _ _ _ _ _ _ _ _ _ _ _ (c .before .before .before .loop .inv) (c .before .before .loop-test .taken) _ (c .node-of .ensures) (q .1 .0) (q .0 .0) (λ f. ltb-false _ _ f) (q .1 .1 .2) _
-    (⊎-elim (λ w. inl (w .0 .taken, rw (w .3) (w .2 .ensures .0), rw (w .3) (w .2 .ensures .1))) (λ w. inr (w .0 .left, w .1)) (c .before .if1 .came))
+    let q = entry (c .before .before .before .before .before) .pre in
+    let D = q .1 .0 .drawing in
+    let g = c .before .before .before .before .before .loop .inv in
+    let h = c .before .before .before .before .loop-test .taken in
+    let n = c .before .before .before .node-of .ensures in
+    next-ends _ _ _ _ _ _ _ _ _ _ _ _ _ _ g h _ n (q .1 .0) (q .0 .0) (q .1 .1 .2) _
+    (⊎-elim (λ w. inl (w .0 .taken, rw (w .5) (branch-box _ _ (D .boxed) (D .once) (D .count) (D .is-trail) _ (g .some) h _ (w .1 .ensures) _ (w .2 .ensures) _ n _ (w .4 .ensures .0)), rw (w .5) (w .4 .ensures .1))) (λ w. inr (w .0 .left, w .1)) (c .before .if1 .came))
 
 mul-drawn-of : tie.Need-mul-drawn-of Inv-loop μ-loop
 mul-drawn-of c = search needs
 
 shared-slice-read-drawn-of : tie.Need-shared-slice-read-drawn-of Inv-loop μ-loop
-shared-slice-read-drawn-of c = omega (arith, c .before .before .before .before .loop-test .taken, entry (c .before .before .before .before .before) .pre .1 .0 .drawing .enough)
+shared-slice-read-drawn-of c = omega (arith, c .before .before .before .before .before .loop-test .taken, entry (c .before .before .before .before .before .before) .pre .1 .0 .drawing .enough)
 
 element-copy-out-drawn-of : tie.Need-element-copy-out-drawn-of Inv-loop μ-loop
 element-copy-out-drawn-of c = search needs
 
 drawn-of-requires : tie.Need-drawn-of-requires Inv-loop μ-loop
 drawn-of-requires c κs =
-    let q = entry (c .before .before .before .before .before .before) .pre in
-    let B = branch-ends (c .before .before .before) .0 in
-    (λ _. in-slots _ _ _ _ _ _ _ _ _ _ _ _ _ _ _ (c .before .before .before .before .before .before .loop .inv) (c .before .before .before .before .before .loop-test .taken) _ (c .before .before .before .node-of .ensures) (q .1 .0) (q .0 .0), (readings _ _ _ _ _ _ _ _ _ _ _ _ _ B (q .1 .0), padded-rows _ _ _ _ _ _ _ _ _ _ _ _ _ B (q .0 .2) (q .1 .1 .0)))
+    let q = entry (c .before .before .before .before .before .before .before) .pre in
+    let K = branch-ends (c .before .before) .here in
+    (λ _. in-slots _ _ _ _ _ _ _ _ _ _ _ _ _ _ (c .before .before .before .before .before .before .before .loop .inv) (c .before .before .before .before .before .before .loop-test .taken) _ (c .before .before .before .before .before .node-of .ensures) (q .1 .0) (q .0 .0), (readings _ _ _ _ _ _ _ _ _ _ _ _ _ K (q .1 .0), padded-rows _ _ _ _ _ _ _ _ _ _ _ _ _ K (q .0 .2) (q .1 .1 .0)))
 
 enum-told : tie.Need-enum-told Inv-loop μ-loop
 enum-told c = search needs
 
 highest-of-requires : tie.Need-highest-of-requires Inv-loop μ-loop
-highest-of-requires c κs = chosen-number _ _ _ _ _ _ _ _ _ _ _ _ _ _ _ (c .before .before .before .before .before .before .before .before .before .loop .inv) (entry (c .before .before .before .before .before .before .before .before .before) .pre .1 .0)
+highest-of-requires c κs = chosen-number _ _ _ _ _ _ _ _ _ _ _ _ _ _ (c .before .before .before .before .before .before .before .before .before .before .loop .inv) (entry (c .before .before .before .before .before .before .before .before .before .before) .pre .1 .0)
 
 returns : tie.Need-returns Inv-loop μ-loop
 returns c =
-    let K = branch-ends (c .before .before .before .before .before .before .before) in
-    rw (c .highest-of .ensures) (kept-there _ _ _ _ _ _ _ _ _ _ _ _ _ _ _ (c .before .before .before .before .before .before .before .before .before .before .loop .inv) (c .before .before .before .before .before .before .before .before .before .loop-test .taken) _ (c .before .before .before .before .before .before .before .node-of .ensures) _ (K .1) (K .0) (omega (arith, c .before .before .before .before .before .shared-slice-known3 .given (c .before .before .before .before .before .before .before .before .before .before .loop .m))) _ (c .before .before .before .drawn-of .ensures) (c .before .enum-told .given .1))
+    rw (c .highest-of .ensures) (kept-there _ _ _ _ _ _ _ _ _ _ _ _ _ _ (c .before .before .before .before .before .before .before .before .before .before .before .loop .inv) (c .before .before .before .before .before .before .before .before .before .before .loop-test .taken) _ (c .before .before .before .before .before .before .before .before .before .node-of .ensures) _ (branch-ends (c .before .before .before .before .before .before)) (omega (arith, c .before .before .before .before .before .shared-slice-known3 .given (c .before .before .before .before .before .before .before .before .before .before .before .loop .m))) _ (c .before .before .before .drawn-of .ensures) (c .before .enum-told .given .1))
 
 enum-known-drawn : tie.Need-enum-known-drawn Inv-loop μ-loop
 enum-known-drawn c = search needs
 
 chosen-at-requires : tie.Need-chosen-at-requires Inv-loop μ-loop
 chosen-at-requires c κs =
-    subst Numbered (c .before .drawn .given .1) (is-numbered _ _ _ _ _ _ _ _ _ _ _ _ _ (branch-ends (c .before .before .before .before .before .before .before) .0) _ (c .before .before .before .drawn-of .ensures) (entry (c .before .before .before .before .before .before .before .before .before .before) .pre .1 .0) (omega (arith, c .before .before .before .before .before .shared-slice-known3 .given (c .before .before .before .before .before .before .before .before .before .before .loop .m))))
+    subst Numbered (c .before .drawn .given .1) (is-numbered _ _ _ _ _ _ _ _ _ _ _ _ _ (branch-ends (c .before .before .before .before .before .before) .here) _ (c .before .before .before .drawn-of .ensures) (entry (c .before .before .before .before .before .before .before .before .before .before .before) .pre .1 .0) (omega (arith, c .before .before .before .before .before .shared-slice-known3 .given (c .before .before .before .before .before .before .before .before .before .before .before .loop .m))))
 
 add-m : tie.Need-add-m Inv-loop μ-loop
-add-m c = omega (arith, c .before .before .before .before .before .before .before .before .before .before .loop-test .taken, entry (c .before .before .before .before .before .before .before .before .before .before .before) .pre .1 .0 .drawing .most)
+add-m c = omega (arith, c .before .before .before .before .before .before .before .before .before .before .before .loop-test .taken, entry (c .before .before .before .before .before .before .before .before .before .before .before .before) .pre .1 .0 .drawing .most)
 
 loop-less : tie.Need-loop-less Inv-loop μ-loop
-loop-less c = omega (arith, c .before .before .before .before .before .before .before .before .before .before .loop-test .taken)
+loop-less c = omega (arith, c .before .before .before .before .before .before .before .before .before .before .before .loop-test .taken)
 
 loop-again : tie.Need-loop-again Inv-loop μ-loop
 loop-again c =
-    let K = branch-ends (c .before .before .before .before .before .before .before .before) in
-    going-on _ _ _ _ _ _ _ _ _ _ _ _ _ _ _ (c .before .before .before .before .before .before .before .before .before .before .before .loop .inv) (c .before .before .before .before .before .before .before .before .before .before .loop-test .taken) _ (c .before .before .before .before .before .before .before .before .node-of .ensures) _ (K .1) (K .0) (omega (arith, c .before .before .before .before .before .before .shared-slice-known3 .given (c .before .before .before .before .before .before .before .before .before .before .before .loop .m))) _ (c .before .before .before .before .drawn-of .ensures) _ _ (c .before .before .drawn .given .1) _ (c .chosen-at .ensures)
+    going-on _ _ _ _ _ _ _ _ _ _ _ _ _ _ (c .before .before .before .before .before .before .before .before .before .before .before .before .loop .inv) (c .before .before .before .before .before .before .before .before .before .before .before .loop-test .taken) _ (c .before .before .before .before .before .before .before .before .before .before .node-of .ensures) _ (branch-ends (c .before .before .before .before .before .before .before)) (omega (arith, c .before .before .before .before .before .before .shared-slice-known3 .given (c .before .before .before .before .before .before .before .before .before .before .before .before .loop .m))) _ (c .before .before .before .before .drawn-of .ensures) _ _ (c .before .before .drawn .given .1) _ (c .chosen-at .ensures)
 
 highest-of-requires-2 : tie.Need-highest-of-requires-2 Inv-loop μ-loop
-highest-of-requires-2 c κs = chosen-number _ _ _ _ _ _ _ _ _ _ _ _ _ _ _ (c .before .loop .inv) (entry (c .before) .pre .1 .0)
+highest-of-requires-2 c κs = chosen-number _ _ _ _ _ _ _ _ _ _ _ _ _ _ (c .before .loop .inv) (entry (c .before) .pre .1 .0)
 
 returns-2 : tie.Need-returns-2 Inv-loop μ-loop
-returns-2 c = rw (c .highest-of2 .ensures) (kept-end _ _ _ _ _ _ _ _ _ _ _ _ _ _ _ (c .before .before .loop .inv) (c .before .loop-test .left))
+returns-2 c = rw (c .highest-of2 .ensures) (kept-end _ _ _ _ _ _ _ _ _ _ _ _ _ _ (c .before .before .loop .inv) (c .before .loop-test .left))
 
 pub highest-cut-spec : {M : Type 1} → statement M
 highest-cut-spec =
@@ -142,17 +143,16 @@ highest-cut-spec =
     shared-slice-read-chosen-first
     element-copy-out-chosen-first
     chosen-first-requires
-    mul-row
-    element-copy-out-row
-    element-copy-out-partly
-    add-partly
-    element-copy-out-partly-2
     loop-holds
-    sub-box-above
-    box-above-requires
     sub-node-of
     sub-node-of-2
     node-of-requires
+    element-copy-out-partly
+    sub-node-of-3
+    node-of-requires-2
+    sub-sibling-at
+    sibling-at-requires
+    ends-above-requires
     mul-drawn-of
     shared-slice-read-drawn-of
     element-copy-out-drawn-of
