@@ -29,10 +29,6 @@ module _ (c k node : ℕ) (nodes : List (List ℕ)) (points : List (List Float))
   EndsGrownBy low high low′ high′ = (d : ℕ) (t : Tree (whole d)) (f g : ℕ → Number) → id (whole d) c t ≡ node → Boxed d c k nodes points boxes t
       → low ≡ ends f → high ≡ ends g → (low′ ≡ lowWith d f t) × (high′ ≡ highWith d g t)
 
-  -- r is b grown by that box
-  abbrev pub GrownBy : BoundingBox → BoundingBox → Type 0
-  GrownBy b r = EndsGrownBy (b .«min_values») (b .«max_values») (r .«min_values») (r .«max_values»)
-
   -- r is the box around the two sides of a branch, whichever trees stand there: no matter what is cached for the branch itself
   abbrev pub SidesBox : BoundingBox → Type 0
   SidesBox r = (d : ℕ) (l u : Tree (whole d)) → id (whole d) c l ≡ sideIn nodes node 0 → id (whole d) c u ≡ sideIn nodes node 1 → Boxed d c k nodes points boxes l → Boxed d c k nodes points boxes u

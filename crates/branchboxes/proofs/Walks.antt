@@ -1,13 +1,12 @@
 -- The branch of height m on a walk, from the node below it and that node's sibling: both stand in the arrays, and the box around the two is the branch's, whichever of them is its left side. Assumes nothing.
 use mathlib.Core.Path.{_≡_, sym, ap, _∙_, subst}
-use mathlib.Core.Bool.{false, _||_, true≢false}
-use mathlib.Core.List.{List, []}
+use mathlib.Core.Bool.{false, _||_}
+use mathlib.Core.List.{List}
 use Prim.Native.Nat.{ℕ, suc, _+_, _-_, _≤_, _<_}
 use native.Mathlib.Omega.{arith}
-use lib.Dec.{leb, ltb, nltb→le}
-use lib.ListN.{getD, take}
+use lib.Dec.{leb, ltb}
+use lib.ListN.{take}
 use lib.Ieee.{Float}
-use Rattle.readings.proofs.Tests.{no}
 use Rattle.boundingbox.specs.declared.BoundingBox.{BoundingBox}
 use Rattle.cuttree.specs.Setting.{Cut, below}
 use Rattle.cuttree.specs.Tree.{Tree, branch, id, height, walk}
@@ -27,13 +26,9 @@ use Rattle.boxstore.proofs.Above.{above-leaf}
 use Rattle.boxstore.proofs.Parts.{sides-box}
 use Rattle.boxstore.proofs.Siblings.{sibling-is, some-sibling}
 use Rattle.boxstore.proofs.Standing.{once-in, boxed-in}
-use Rattle.rowboxes.proofs.Rows.{hand-false}
+use Rattle.rowboxes.proofs.Rows.{hand-false, hand-uncached}
 use Rattle.branchboxes.specs.Pairs.{PairBox}
 use Rattle.branchboxes.proofs.Pairs.{turned}
-
--- a node that is not at hand is not cached
-not-kept : (c k x : ℕ) → (leb c x || ltb x k) ≡ false → k ≤ x
-not-kept c k x e = by-test (leb c x) (λ t. absurd (true≢false (rw t at e))) (λ t. nltb→le x k (no (rw t at e)))
 
 module _ (d c k : ℕ) (nodes : List (List ℕ)) (points : List (List Float)) (boxes : List (List (List Float))) (r : BoundingBox) where
   walk-sides : (h : ℕ) (p : Reading) (t : Tree (whole d)) → Linked d c nodes t → suc h ≤ height (whole d) t p
@@ -76,7 +71,7 @@ module _ {d c k : ℕ} {nodes : List (List ℕ)} {points : List (List Float)} {b
   -- the box of the node below, where it is not at hand
   pub under-box : (b : BoundingBox) → (k ≤ field path (len - m) 0 → field path (len - m) 0 < c → BoxOf c k (field path (len - m) 0) nodes points boxes b)
       → (leb c under || ltb under k) ≡ false → BoxOf c k under nodes points boxes b
-  under-box b B = rw f (λ x. B (not-kept c k (field path (len - m) 0) x) (hand-false c k (field path (len - m) 0) x))
+  under-box b B = rw f (λ x. B (hand-uncached c k (field path (len - m) 0) x) (hand-false c k (field path (len - m) 0) x))
 
   -- the branch's own
   pub branch-box : (o : ℕ) → o ≡ field path (len - 1 - m) 0 → (b : BoundingBox) → PairBox c k under side nodes points boxes b → BoxOf c k o nodes points boxes b

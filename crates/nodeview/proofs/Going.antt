@@ -1,8 +1,8 @@
 -- The loop when m rows are written: those rows, and the box of the node that it comes from unless that is at hand, whichever tree stands in the arrays; where it starts, the way on, and its end. Assumes nothing.
 use mathlib.Core.Path.{_≡_, refl, sym, ap, _∙_}
-use mathlib.Core.Bool.{false, cond, _||_, true≢false}
+use mathlib.Core.Bool.{false, cond, _||_}
 use mathlib.Core.List.{List, [], _∷_, _++_}
-use Prim.Native.Nat.{ℕ, suc, _+_, _-_, _≤_, _<_}
+use Prim.Native.Nat.{ℕ, _+_, _-_, _≤_, _<_}
 use native.Mathlib.Numerals.{add-one}
 use native.Mathlib.Omega.{arith}
 use lib.Dec.{leb, ltb, ltb→lt, nltb→le}
@@ -18,7 +18,7 @@ use Rattle.boundingbox.specs.declared.BoundingBox.{BoundingBox}
 use Rattle.probability.specs.Probability.{probability}
 use Rattle.cuttree.specs.Tree.{Tree, id, walk, ending}
 use Rattle.cuttree.proofs.Tests.{by-test, cond-true, cond-false}
-use Rattle.cuttree.specs.Walk.{sub, sibling}
+use Rattle.cuttree.specs.Walk.{sub}
 use Rattle.wholetree.specs.Reading.{Reading, sameRow}
 use Rattle.wholetree.specs.Whole.{whole, tab}
 use Rattle.wholetree.proofs.Boxes.{tree-box}
@@ -30,21 +30,14 @@ use Rattle.nodestore.specs.Rows.{massAt}
 use Rattle.boxstore.specs.Boxed.{SomeBoxed}
 use Rattle.boxstore.specs.Grown.{BoxOf}
 use Rattle.boxstore.specs.Written.{lowIn, highIn}
-use Rattle.boxstore.proofs.Parts.{sides-box}
-use Rattle.boxstore.proofs.Siblings.{sibling-is, some-sibling}
-use Rattle.rowboxes.proofs.Rows.{hand-false}
 use Rattle.branchboxes.specs.Pairs.{PairBox}
+use Rattle.branchboxes.proofs.Walks as Walks
 use Rattle.nodeview.specs.Report.{chance, rowAt}
 use Rattle.nodeview.specs.Told.{numbersOf}
 use Rattle.nodeview.specs.Walking.{Chanced}
 use Rattle.nodeview.specs.Writing.{Writing, Writes}
 use Rattle.nodeview.proofs.Fronts.{map-tab, front, front-next}
 use Rattle.nodeview.proofs.Nodes as Nodes
-use Rattle.nodeview.proofs.Pairs.{pair-sides}
-
--- a node that is not at hand is not cached
-not-kept : (c k x : ℕ) → (leb c x || ltb x k) ≡ false → k ≤ x
-not-kept c k x e = by-test (leb c x) (λ t. absurd (true≢false (rw t at e))) (λ t. nltb→le x k (no (rw t at e)))
 
 module _ (c k : ℕ) (nodes : List (List ℕ)) (copies : List ℕ) (points : List (List Float)) (boxes : List (List (List Float))) (path : List (List ℕ)) (len : ℕ) (point : List Float) where
   abbrev In : (d : ℕ) → Tree (whole d) → Reading → Type 0
@@ -64,27 +57,17 @@ module _ (c k : ℕ) (nodes : List (List ℕ)) (copies : List ℕ) (points : Lis
 
   -- at the branch of height m, the node below it on the walk and that one's sibling; c′ is the capacity too
   module _ {d : ℕ} {t : Tree (whole d)} {p : Reading} (w : In d t p) (m : ℕ) (z : 0 < m) (h : m < len) (c′ : ℕ) (e : c′ ≡ c) (below : ℕ) (f : below ≡ field path (len - m) 0) (side : ℕ) (g : side ≡ getD (getD path (len - 1 - (m - 1)) []) 1 0) where
-    side-is : side ≡ id (whole d) c (sibling (whole d) t (m - 1) p)
-    side-is = g ∙ sibling-is d c p t path len (m - 1) (w .walked .count) (w .walked .is-trail) (omega arith)
-
     pub both-stand : SomeBoxed c′ k below nodes points boxes × SomeBoxed c′ k side nodes points boxes
-    both-stand = rw e (
-      Nodes.some-node w (len - m) (m - 1) (omega arith) below f,
-      some-sibling d c p k nodes points boxes (m - 1) t (omega (arith, w .walked .count)) (w .boxed) side side-is (apart-once d c t (w .stored .apart)),
-    )
+    both-stand = rw e (Walks.both-stand path p (w .boxed) (apart-once d c t (w .stored .apart)) (w .walked .count) (w .walked .is-trail) m z h below f side g)
 
     -- the box of the node below, where it is not at hand
     pub below-box : (b : BoundingBox) → (k ≤ field path (len - m) 0 → field path (len - m) 0 < c → BoxOf c k (field path (len - m) 0) nodes points boxes b)
         → (leb c′ below || ltb below k) ≡ false → BoxOf c′ k below nodes points boxes b
-    below-box b B = rw (e, f) (λ x. B (not-kept c k (field path (len - m) 0) x) (hand-false c k (field path (len - m) 0) x))
+    below-box b B = rw e (Walks.under-box path p (w .boxed) (apart-once d c t (w .stored .apart)) (w .walked .count) (w .walked .is-trail) m z h below f side g b B)
 
     -- the branch's own
     pub branch-box : (o : ℕ) → o ≡ field path (len - 1 - m) 0 → (b : BoundingBox) → PairBox c′ k below side nodes points boxes b → BoxOf c k o nodes points boxes b
-    branch-box o n b F =
-        let up : suc (m - 1) ≡ m = omega arith in
-        let F′ = rw (e, Nodes.is-node w (len - m) (m - 1) (omega arith) below f, side-is) at F in
-        let own : o ≡ id (whole d) c (sub (whole d) t (suc (m - 1)) p) = Nodes.is-node w (len - 1 - m) m (omega arith) o n ∙ ap (λ y. id (whole d) c (sub (whole d) t y p)) (sym up) in
-        sides-box c k o nodes points boxes (Nodes.node-small w (len - 1 - m) m (omega arith) o n z) b (rw own (pair-sides d c k nodes points boxes b (m - 1) p t (w .boxed .links) (omega (arith, w .walked .count)) F′))
+    branch-box o n b F = Walks.branch-box path p (w .boxed) (apart-once d c t (w .stored .apart)) (w .walked .count) (w .walked .is-trail) m z h below f side g o n b (rw e at F)
 
   -- box and query are coordinates
   pub box-readings : (i m : ℕ) → i + m + 1 ≡ len → (o : ℕ) → o ≡ field path i 0 → (b : BoundingBox) → BoxOf c k o nodes points boxes b → {d : ℕ} {t : Tree (whole d)} {p : Reading} → In d t p → Readings (b .«min_values») (b .«max_values») point width

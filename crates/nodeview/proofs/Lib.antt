@@ -1,7 +1,6 @@
 pub mod Fronts
 pub mod Walking
 pub mod Nodes
-pub mod Pairs
 pub mod Going
 pub mod Chances
 pub mod Reports

@@ -20,19 +20,17 @@ use Rattle.cuttree.proofs.Nodes.{In}
 use Rattle.wholetree.specs.Reading.{Reading, sameRow}
 use Rattle.wholetree.specs.Whole.{whole}
 use Rattle.layout.specs.Slots.{lowOf, highOf, field}
-use Rattle.layout.specs.Stands.{InRange}
 use Rattle.layout.proofs.Ranges.{range-ending}
-use Rattle.layout.proofs.Rows.{apart-once}
 use Rattle.layout.proofs.Replaced.{in-sub}
 use Rattle.layout.proofs.Trails.{path-node}
 use Rattle.walk.proofs.Ends.{walk-is}
 use Rattle.nodestore.specs.Rows.{massAt}
 use Rattle.nodestore.proofs.Grafts.{mass-at, id-low}
-use Rattle.boxstore.specs.Boxed.{Boxed, SomeBoxed}
+use Rattle.boxstore.specs.Boxed.{Boxed}
 use Rattle.boxstore.specs.Grown.{BoxOf}
 use Rattle.boxstore.specs.Written.{lowIn, highIn}
 use Rattle.boxstore.specs.Above.{At}
-use Rattle.boxstore.proofs.Standing.{once-in, boxed-in}
+use Rattle.boxstore.proofs.Standing.{boxed-in}
 use Rattle.boxstore.proofs.Above.{cached-box}
 use Rattle.rowboxes.specs.Rows.{PaddedRow, PaddedEnds}
 use Rattle.nodeview.specs.Report.{chance, rowAt}
@@ -43,11 +41,6 @@ use Rattle.nodeview.specs.Writing.{Writing}
 pub branch-chance : (d c : ℕ) (u : Tree (whole d)) (p : Reading) → 0 < height (whole d) u p → probability (lowOf d c u) (highOf d c u) (p .row) width ≡ chance d c u p
 branch-chance d c (leaf i q n) p h = absurd (omega arith)
 branch-chance d c (branch b k l r) p h = refl
-
--- a branch's number is below the capacity
-branch-small : (d c : ℕ) (u : Tree (whole d)) (p : Reading) → 0 < height (whole d) u p → InRange d c u → id (whole d) c u < c
-branch-small d c (leaf i q n) p h R = absurd (omega arith)
-branch-small d c (branch b k l r) p h R = omega (arith, R .0)
 
 -- ends and point have +0.0 in the channels beyond d
 pub all-padded : (d : ℕ) (X : List (List Float)) (point : List Float) → d ≤ width → PaddedEnds d X → PaddedRow d point → Padded (getD X 0 []) (getD X 1 []) point d width
@@ -77,7 +70,7 @@ module _ {d c k : ℕ} {nodes : List (List ℕ)} {copies : List ℕ} {points : L
     inside = in-sub d c m p t within
 
     module _ (o : ℕ) (f : o ≡ field path i 0) where
-      pub is-node : o ≡ id (whole d) c u
+      is-node : o ≡ id (whole d) c u
       is-node = f ∙ path-node d c p path t (walk-is (w .walked)) i m (omega (arith, w .walked .count))
 
       pub mass-asks : (o < c → o < branchLimit) × (o - c < pointLimit)
@@ -86,9 +79,6 @@ module _ {d c k : ℕ} {nodes : List (List ℕ)} {copies : List ℕ} {points : L
       standing : Boxed d c k nodes points boxes u
       standing = boxed-in d c inside (w .boxed)
 
-      pub some-node : SomeBoxed c k o nodes points boxes
-      some-node = record { channels = d; tree = u; at-node = sym is-node; once = once-in d c inside (apart-once d c t (w .stored .apart)); boxed = standing }
-
       -- its box, as it is told of the arrays, or is cached
       pub node-box : (b : BoundingBox) → BoxOf c k o nodes points boxes b → At d c p t m b
       node-box b B = let x = B d u (sym is-node) standing in record { low = x .0; high = x .1 }
@@ -96,12 +86,9 @@ module _ {d c k : ℕ} {nodes : List (List ℕ)} {copies : List ℕ} {points : L
       pub cached-at : o < k → (b : BoundingBox) → b .«min_values» ≡ lowIn boxes o → b .«max_values» ≡ highIn boxes o → At d c p t m b
       cached-at l = cached-box p (w .boxed) m within o is-node (omega (arith, w .few)) l
 
-      -- the leaf's id is from the capacity on, a branch's below it
+      -- the leaf's id is from the capacity on
       pub leaf-large : m ≡ 0 → c ≤ o
       leaf-large z = rw (is-node, z, sub-leaf (whole d) p t) (omega arith)
-
-      pub node-small : 0 < m → o < c
-      node-small z = rw is-node (branch-small d c u p (omega (arith, height-sub (whole d) m p t within)) (standing .in-range))
 
       pub row-is : (x : ℕ) (y : Float) → x ≡ massAt c nodes copies o → y ≡ chance d c u p → o ∷ i ∷ x ∷ toBits binary64 y ∷ [] ≡ numbersOf (rowAt d c t p m)
       row-is x y g h =

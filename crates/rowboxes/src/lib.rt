@@ -187,13 +187,7 @@ fn upper_two(ends: &Row, a: &Row, b: &Row, at: usize) -> Lanes
 
 // Ends moved out to a box at hand.
 // Rules out a leaf's point left out, and the slot of another branch taken.
-pub fn widen_by<'a>(
-    ends: &mut Ends,
-    node: usize,
-    points: &'a Points,
-    boxes: &'a Boxes,
-    sizes: &Sizes,
-)
+fn widen_by<'a>(ends: &mut Ends, node: usize, points: &'a Points, boxes: &'a Boxes, sizes: &Sizes)
     requires few { ⌜ (capacityOf (now sizes) ≤ capacityLimit) × (cachedOf (now sizes) ≤ branchLimit) × (channelsOf (now sizes) ≤ width) ⌝ }
     requires hand { ⌜ ((capacityOf (now sizes) ≤ node → node - capacityOf (now sizes) < pointLimit) × (node < capacityOf (now sizes) → node < cachedOf (now sizes))) ⌝ }
     requires padded { ⌜ PaddedTable (channelsOf (now sizes)) (now points) × PaddedBoxes (channelsOf (now sizes)) (now boxes) × PaddedEnds (channelsOf (now sizes)) (now ends) ⌝ }
@@ -209,7 +203,7 @@ pub fn widen_by<'a>(
 // Ends moved out to hold the box of a branch that is not cached, in place: a box handed from call to call would be copied in each. They are moved by its left
 // side, then its right; by both at once where these are leaves, which saves two calls.
 // Rules out one side moved by twice, and a side left out.
-pub fn grow_branch<'a>(
+fn grow_branch<'a>(
     ends: &mut Ends,
     node: usize,
     nodes: &Nodes,

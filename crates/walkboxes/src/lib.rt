@@ -1,59 +1,23 @@
-// The boxes of a walk's branches, in lent rows: the box of the node above, the boxes grown by a new point, and the boxes repaired after one is gone. After the
-// boxes of nodestore.rs.
+// The boxes of a walk's branches, in lent rows: grown by a new point, and repaired after one is gone. After the boxes of nodestore.rs.
 use boundingbox::strictly_holds;
 use boxstore::node_of;
-use boxstore::sibling_at;
-use branchboxes::either;
 use branchboxes::rebuild_box;
 use limits::Boxes;
 use limits::Nodes;
 use limits::Path;
 use limits::Points;
 use limits::Row;
-use rowboxes::Ends;
 use rowboxes::Sizes;
-use rowboxes::at_hand;
-use rowboxes::grow_branch;
 use rowboxes::widen;
-use rowboxes::widen_by;
 ghost use mathlib.Core.Path.{_≡_};
-ghost use Prim.Native.Nat.{_+_, _≤_, _<_, min};
+ghost use Prim.Native.Nat.{_≤_, _<_, min};
 ghost use Rattle.limits.specs.Limits.{width, capacityLimit, branchLimit};
 ghost use Rattle.boundingbox.specs.Contained.{strictlyContains};
 ghost use Rattle.boxstore.specs.Written.{lowIn, highIn};
 ghost use Rattle.boxstore.specs.Grown.{SomeSides, Rebuilt};
-ghost use Rattle.boxstore.specs.Above.{SomeRising, BoxAbove};
 ghost use Rattle.boxstore.specs.Edited.{SomeGrafted, GrownAbove, SomeForgotten, RepairedAbove};
-ghost use Rattle.rowboxes.specs.Rows.{capacityOf, cachedOf, channelsOf, PaddedRow, PaddedEnds, PaddedTable, PaddedBoxes, boxOf};
+ghost use Rattle.rowboxes.specs.Rows.{capacityOf, cachedOf, channelsOf, PaddedRow, PaddedTable, PaddedBoxes};
 ghost use Rattle.walkboxes.specs.Held.{HoldBefore};
-
-// The ends of a box on a walk moved out to those of the node above: to that node's own box, where it is cached, for it holds the box below; else to the sibling's.
-// Rules out a box grown by the node below in place of its sibling, and the slot of a node that is not cached taken for its box.
-pub fn box_above<'a>(
-    ends: &mut Ends,
-    path: &Path,
-    len: usize,
-    m: usize,
-    nodes: &Nodes,
-    points: &'a Points,
-    boxes: &'a Boxes,
-    sizes: &Sizes,
-)
-    requires few { ⌜ (capacityOf (now sizes) ≤ capacityLimit) × (cachedOf (now sizes) ≤ branchLimit) × (channelsOf (now sizes) ≤ width) × (len ≤ capacityLimit) × (m + 1 < len) ⌝ }
-    requires stands { ⌜ SomeRising (capacityOf (now sizes)) (cachedOf (now sizes)) (now nodes) (now points) (now boxes) (now path) len m (boxOf (now ends)) ⌝ }
-    requires padded { ⌜ PaddedTable (channelsOf (now sizes)) (now points) × PaddedBoxes (channelsOf (now sizes)) (now boxes) × PaddedEnds (channelsOf (now sizes)) (now ends) ⌝ }
-    ensures above { λ _. ⌜ BoxAbove (capacityOf (now (sizes .entry))) (cachedOf (now (sizes .entry))) (now (nodes .entry)) (now (points .entry)) (now (boxes .entry)) (now (path .entry)) len m (boxOf (now (ends .entry))) (boxOf (now (ends .exit))) ⌝ }
-    ensures padded { λ _. ⌜ PaddedEnds (channelsOf (now (sizes .entry))) (now (ends .exit)) ⌝ }
-{
-    let sibling = sibling_at(path, len, m);
-    let node = node_of(path, len - 2 - m);
-    let source = either(node < sizes[1], node, sibling);
-    if at_hand(source, sizes) {
-        widen_by(ends, source, points, boxes, sizes);
-        return;
-    }
-    grow_branch(ends, sibling, nodes, points, boxes, sizes);
-}
 
 // The cached boxes of the rows `from` to `n` of a path grown by a point, from the lowest up. Those of the rows before hold it.
 // Rules out the row `from` itself left out, and the slot of a branch that is not cached written.
