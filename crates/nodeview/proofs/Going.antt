@@ -16,7 +16,7 @@ use Rattle.cut.specs.Laws.{Readings}
 use Rattle.cut.specs.Sums.{one}
 use Rattle.boundingbox.specs.declared.BoundingBox.{BoundingBox}
 use Rattle.probability.specs.Probability.{probability}
-use Rattle.cuttree.specs.Tree.{Tree, id, walk, ending}
+use Rattle.cuttree.specs.Tree.{Tree, walk, ending}
 use Rattle.cuttree.proofs.Tests.{by-test, cond-true, cond-false}
 use Rattle.cuttree.specs.Walk.{sub}
 use Rattle.wholetree.specs.Reading.{Reading, sameRow}
