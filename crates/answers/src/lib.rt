@@ -1,4 +1,6 @@
 // The answers of a tree's calls as numbers: document 01's refusal number first, 0 where there is none, then what is answered.
+#![tactic(auto)]
+
 ghost use Rattle.std.specs.Prelude.{◌≡◌, min};
 ghost use Rattle.limits.specs.Limits.{width};
 ghost use Rattle.answers.specs.Said.{filled, reply_width, put_numbers, add_numbers, delete_numbers, copies_numbers, branch_numbers, box_numbers};

@@ -1,4 +1,6 @@
 // A row of an archive, carried out on the lent state of a sampled tree: its answer as numbers, and the rows of a report in lent rows.
+#![tactic(auto)]
+
 ghost use Rattle.std.specs.Prelude.{◌≡◌, [], ◌∷◌, ◌+◌, ◌≤◌, length, take};
 ghost use Rattle.limits.specs.Limits.{width, capacity_limit};
 ghost use Rattle.text.specs.Pieces.{pieces_from};

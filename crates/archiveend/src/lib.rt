@@ -1,4 +1,6 @@
 // What is printed where an archive ends, written to a lent buffer: the sample, a line for each arrival that is kept, and the printed tree.
+#![tactic(auto)]
+
 ghost use Rattle.std.specs.Prelude.{◌+◌, ◌≤◌, ◌<◌};
 ghost use Rattle.limits.specs.Limits.{capacity_limit};
 ghost use Rattle.sampler.specs.Sample.{entries_in};

@@ -1,11 +1,13 @@
 // The first three lines of an archive, each given without its line feed: the names of the making's numbers, these numbers, and the names of the rows' fields.
+#![tactic(auto)]
+
 ghost use Rattle.std.specs.Prelude.{◌≡◌};
 ghost use Rattle.archivehead.specs.Head.{is_making_names, is_row_names, archive_making_by, making_of_line, making_says};
 
 use text::Number;
 
 // The making's row: channels, capacity, and the cached and the initial share in sixteenths.
-#[derive(Drop)]
+#[derive(Clone, Copy)]
 pub enum MakingLine {
     Make(u64, u64, u64, u64),
     NoMaking,

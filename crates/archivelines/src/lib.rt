@@ -1,4 +1,6 @@
 // The lines that answer a row of an archive, written to a lent buffer. What lies beyond the buffer's end is counted and not stored.
+#![tactic(auto)]
+
 ghost use Rattle.std.specs.Prelude.{◌+◌, ◌≤◌, ◌<◌, length, take};
 ghost use Rattle.limits.specs.Limits.{capacity_limit};
 ghost use Rattle.lines.specs.Lines.{Wrote};

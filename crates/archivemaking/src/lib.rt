@@ -1,4 +1,6 @@
 // The making of an archive's sampled tree by the archive's second line, in lent arrays.
+#![tactic(auto)]
+
 ghost use Rattle.treestore.specs.Arrays.{lent};
 ghost use Rattle.archivehead.specs.Head.{making_of_line};
 ghost use Rattle.archivemaking.specs.Makes.{MadeBy, room};

@@ -1,5 +1,7 @@
 // A row of an archive, read from its line: which row it is, its index, and where its rest starts; then weight, chance and words of an arrival's rest, written out or
 // named. The line is given without its line feed. Coordinates are read by `text::read_coordinates`.
+#![tactic(auto)]
+
 ghost use Rattle.std.specs.Prelude.{◌≡◌, ◌+◌, ◌-◌, ◌≤◌, length, take, drop};
 ghost use Rattle.std.proofs.lemmas.List.Edits.{sets};
 ghost use Rattle.text.specs.Pieces.{pieces_from};
@@ -13,7 +15,7 @@ use text::Number;
 const LONGEST: usize = 8191;
 
 // A row: the index of a put or an arrival, and the place where the fields of the rest start; or an arrival that names words which the stream has not.
-#[derive(Drop)]
+#[derive(Clone, Copy)]
 pub enum Line {
     Puts(u64, usize),
     Arrives(u64, usize),

@@ -1,4 +1,6 @@
 // An arrival of a sampled tree with what it is given in arrays of fixed size, carried out on the lent state, its answer as numbers; and the sample as numbers.
+#![tactic(auto)]
+
 ghost use Rattle.std.specs.Prelude.{◌≡◌, List, [], ◌∷◌, ℕ, ◌+◌, ◌*◌, ◌≤◌, length, take};
 ghost use Rattle.std.proofs.lemmas.List.Edits.{sets};
 ghost use Rattle.limits.specs.Limits.{capacity_limit};

@@ -1,4 +1,6 @@
 // The boxes of a random cut tree: their ends, growing, the sum of their sides, and what lies inside. After boundingbox.rs, and `check_strictly_contains` of nodestore.rs.
+#![tactic(auto)]
+
 ghost use Rattle.std.specs.Prelude.{◌≡◌, ◌&&◌, ◌||◌, cond, ◌+◌, ◌-◌, ◌≤◌, min, T};
 ghost use Rattle.readings.specs.Coordinate.{is_coordinate, rank};
 ghost use Rattle.limits.specs.Limits.{width};
@@ -10,14 +12,14 @@ ghost use Rattle.boundingbox.specs.Padding.{Padded};
 use limits::{CHANNELS, Row};
 
 // A box: its lower and its upper end in each channel. Channels from the tree's number on hold +0.0.
-#[derive(Drop)]
+#[derive(Clone, Copy)]
 pub struct BoundingBox {
     pub min_values: Row,
     pub max_values: Row,
 }
 
 // A box that was grown, and whether it held before what it was grown by: whether no end moved.
-#[derive(Drop)]
+#[derive(Clone, Copy)]
 pub struct Grown {
     pub bounding_box: BoundingBox,
     pub contained: bool,

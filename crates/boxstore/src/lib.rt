@@ -1,5 +1,7 @@
 // The boxes of a tree's branches in its arrays: definitions and laws of a cached box, of a box worked out from the branch's sides, and of both through an edit,
 // for the crates that work on boxes in lent rows. And the ids that a branch's row and a row of a path have.
+#![tactic(auto)]
+
 ghost use Rattle.std.specs.Prelude.{◌≡◌, [], ◌-◌, ◌≤◌, ◌<◌, get_or};
 ghost use Rattle.limits.specs.Limits.{capacity_limit, branch_limit};
 ghost use Rattle.boxstore.specs.Boxed.{side_in};

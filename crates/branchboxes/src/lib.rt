@@ -1,5 +1,7 @@
 // The box of a branch from its two sides, in lent rows: set into ends, or kept in its slot. A side whose box is at hand is read where it lies, any other worked
 // out in the ends, so that no box is handed by value.
+#![tactic(auto)]
+
 ghost use Rattle.std.specs.Prelude.{◌≡◌, false, cond, ◌||◌, [], ◌∷◌, ◌-◌, ◌≤◌, ◌<◌, leb, ltb, set};
 ghost use Rattle.limits.specs.Limits.{width, capacity_limit, branch_limit, point_limit};
 ghost use Rattle.boundingbox.specs.Ends.{least, greatest, joined};

@@ -1,4 +1,6 @@
 // The calls of a tree with what they are given in arrays of fixed size: each carried out on the lent state, and its answer as numbers.
+#![tactic(auto)]
+
 ghost use Rattle.std.specs.Prelude.{◌≡◌, List, ℕ, ◌+◌, ◌≤◌, take, Float};
 ghost use Rattle.limits.specs.Limits.{width, capacity_limit};
 ghost use Rattle.cuttree.specs.Run.{put, add, delete, query};

@@ -1,4 +1,6 @@
 // Numbers as wider ones, and numbers held to bounds. A cast asks that what is read fits, which an array's type does not tell a proof; a call of one of these asks nothing, and tells the bound.
+#![tactic(auto)]
+
 ghost use Rattle.std.specs.Prelude.{◌≡◌, ◌&&◌, ◌<◌, min, leb};
 
 // Each to `usize`. Each of these rules out the lower bits alone, and any bound that a number of the narrower type breaks.

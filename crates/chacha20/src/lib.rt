@@ -1,4 +1,6 @@
 // The ChaCha20 block function of RFC 8439, in numbers and in bytes.
+#![tactic(auto)]
+
 ghost use Rattle.std.specs.Prelude.{◌≡◌, ◌*◌, ◌<◌, length};
 ghost use Rattle.little.specs.Little.{bytes_of};
 ghost use Rattle.chacha20.specs.Block.{plus, roll, quarter_round, quarter_at, columns, diagonals, inner_blocks, added, block_of, state_of, chacha20_block};
@@ -7,7 +9,7 @@ ghost use Rattle.chacha20.specs.Block.{plus, roll, quarter_round, quarter_at, co
 pub type State = [u32; 16];
 
 // The four numbers of a quarter round.
-#[derive(Drop)]
+#[derive(Clone, Copy)]
 pub struct Quarter {
     pub a: u32,
     pub b: u32,

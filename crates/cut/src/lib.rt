@@ -1,4 +1,6 @@
 // The cut of a box by a random word (cut.rs): the channel that is cut and where, and whether the cut parts a point from the box.
+#![tactic(auto)]
+
 mod whole;
 
 ghost use Rattle.std.specs.Prelude.{◌≡◌, ◌<◌};
@@ -12,21 +14,21 @@ use boundingbox::BoundingBox;
 use limits::{CHANNELS, Row};
 
 // A cut: a channel and an f32 value, handed about as one record (document 01, 'Which form goes where').
-#[derive(Drop)]
+#[derive(Clone, Copy)]
 pub struct Cut {
     pub dimension: usize,
     pub value: f32,
 }
 
 // What a word draws for a box and a point: no cut where the box holds the point, else the cut and whether it parts the point from the box.
-#[derive(Drop)]
+#[derive(Clone, Copy)]
 pub enum Separation {
     NoCut,
     Drawn(Cut, bool),
 }
 
 // The side that is cut, and the amount before it; or no side, where none leaves nothing above zero.
-#[derive(Drop)]
+#[derive(Clone, Copy)]
 pub enum Side {
     At(usize, f64),
     Nowhere,

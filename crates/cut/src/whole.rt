@@ -22,7 +22,7 @@ type FourSums = [u32; 9];
 type Wholes = [u32; CHANNELS];
 
 // How many more channels a number lies past, and the sum of the sides of all that it does.
-#[derive(Drop)]
+#[derive(Clone, Copy)]
 struct Under {
     count: usize,
     sum: u32,

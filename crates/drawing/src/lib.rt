@@ -1,4 +1,6 @@
 // The leaf-to-root loop of `RCFTree::add`: a word for each node of the walk, and the highest cut that parts the new point from a node's box.
+#![tactic(auto)]
+
 ghost use Rattle.std.specs.Prelude.{◌≡◌, false, not, cond, [], ℕ, ◌≤◌, ◌<◌, T, get_or};
 ghost use Rattle.std.specs.Float.{binary32};
 ghost use Rattle.std.specs.Float.Ieee.{nan_bits};
@@ -20,7 +22,7 @@ use limits::{Boxes, Nodes, Path, Points, Row};
 use rowboxes::{Ends, Sizes};
 
 // The cut that is kept: the height of its node on the walk, the leaf's being 0; and the cut. From the height `top` on, every box of the walk holds the point.
-#[derive(Drop)]
+#[derive(Clone, Copy)]
 pub struct Highest {
     pub height: usize,
     pub cut: Cut,
@@ -28,7 +30,7 @@ pub struct Highest {
 }
 
 // The same on the way: numbers, each of which is picked of two without a branch, the value by its bits.
-#[derive(Drop)]
+#[derive(Clone, Copy)]
 struct Chosen {
     height: usize,
     dimension: usize,

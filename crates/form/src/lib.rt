@@ -1,4 +1,6 @@
 // The form of treelist's text (document 01, 'Printed tree'): op rows, the making's row, the names lines, and the check of the whole text.
+#![tactic(auto)]
+
 ghost use Rattle.std.specs.Prelude.{◌≡◌, cond, ◌+◌, ◌-◌, ◌≤◌, ◌<◌, length, take, drop};
 ghost use Rattle.std.proofs.Math.Option.{none};
 ghost use Rattle.text.specs.declared.Number as Number;
@@ -14,7 +16,7 @@ ghost use Rattle.form.specs.Lines.{rows_form, FirstLines};
 use text::Number;
 
 // An op row: its index, and for a put or an add the place where the fields of its rest start.
-#[derive(Drop)]
+#[derive(Clone, Copy)]
 pub enum Row {
     Put(u64, usize),
     Add(u64, usize),
@@ -23,14 +25,14 @@ pub enum Row {
 }
 
 // The making's row: channels, capacity, and the cached share in sixteenths.
-#[derive(Drop)]
+#[derive(Clone, Copy)]
 pub enum MakingRow {
     Make(u64, u64, u64),
     NoMaking,
 }
 
 // A text in form with its number of op rows, or its first bad row.
-#[derive(Drop)]
+#[derive(Clone, Copy)]
 pub enum Form {
     Good(usize),
     Bad(usize),

@@ -1,4 +1,6 @@
 // Bytes written as hexadecimal digits, read into lent bytes.
+#![tactic(auto)]
+
 ghost use Rattle.std.specs.Prelude.{◌≡◌, true, ◌+◌, ◌*◌, ◌<◌, length};
 ghost use Rattle.text.specs.Numbers.{digit_value};
 ghost use Rattle.hexbytes.specs.Hex.{are_digits, hex_bytes, read_hex};

@@ -1,6 +1,8 @@
 // The free branch numbers of a tree, handed out and taken back in the Rust's order: a port of intervalstoremanager.rs.
 // The rows are lent by the caller, and the manager of them is passed and returned by value. `change_capacity`, `used` and `get_size`
 // are left out, as no tree calls them. Nothing is required of a caller: any manager, rows and number are answered.
+#![tactic(auto)]
+
 ghost use Rattle.std.specs.Prelude.{◌≡◌, [], ◌∷◌, ◌<◌, eqb, length, get_or, set};
 ghost use Rattle.limits.specs.Limits.{branch_limit};
 ghost use Rattle.intervalstoremanager.specs.Stack.{fresh};
@@ -10,13 +12,13 @@ use casts::wide16;
 use limits::{BRANCHES, Free};
 
 // The rows in use are the first `last_in_use` that go with this: a stack of free intervals, its top the last of them.
-#[derive(Drop)]
+#[derive(Clone, Copy)]
 pub struct IntervalStoreManager {
     pub capacity: u16,
     pub last_in_use: u16,
 }
 
-#[derive(Drop)]
+#[derive(Clone, Copy)]
 pub enum Got {
     // The number handed out, and the manager after it.
     Index(u16, IntervalStoreManager),
@@ -24,7 +26,7 @@ pub enum Got {
     Empty,
 }
 
-#[derive(Drop)]
+#[derive(Clone, Copy)]
 pub enum Released {
     // The manager with the number back.
     Done(IntervalStoreManager),
@@ -33,7 +35,7 @@ pub enum Released {
 }
 
 // A row: the first and the last number of a free interval.
-#[derive(Drop)]
+#[derive(Clone, Copy)]
 struct Interval {
     start: u16,
     end: u16,

@@ -1,5 +1,7 @@
 // The leaves of the port, each by itself, for the harness to call through C: the tests on floats, narrowing, the cached part, and boxes. Nothing of the port
 // calls these. Each promises what its leaf does, and asks for nothing. A box is lent as its lower and its upper ends.
+#![tactic(auto)]
+
 ghost use Rattle.std.specs.Prelude.{◌≡◌, min};
 ghost use Rattle.limits.specs.Limits.{width};
 ghost use Rattle.readings.specs.Coordinate.{is_coordinate};

@@ -1,5 +1,7 @@
 // The lines that `treelist` prints, written to a lent buffer: numbers in decimal and in hexadecimal, a branch's line, a leaf's, a refused row's and the line
 // of names. What lies beyond the buffer's end is counted and not stored, so that a buffer of any size will do.
+#![tactic(auto)]
+
 ghost use Rattle.std.specs.Prelude.{◌≡◌, [], ◌∷◌, ◌+◌, ◌≤◌, ◌<◌, length, set};
 ghost use Rattle.lines.specs.Lines.{digit, decimal, hex, number_field, last_number_field, branch_line, leaf_line, refused_line, names_line, Wrote};
 ghost use Rattle.lines.specs.Placed.{placed};

@@ -1,4 +1,6 @@
 // The printed tree of `treelist`: a line of names, then a line for each node, branch before left before right, read from the arrays that a tree stands in.
+#![tactic(auto)]
+
 ghost use Rattle.std.specs.Prelude.{◌≡◌, ◌≤◌, ◌<◌, get_or};
 ghost use Rattle.limits.specs.Limits.{capacity_limit, branch_limit, point_limit};
 ghost use Rattle.lines.specs.Lines.{Wrote};

@@ -1,5 +1,7 @@
 // The words that an arrival names in place of writing them out: a key, and the number of the first of them in the key's stream. They stand in the two fields after its
 // weight, from a place of its row on.
+#![tactic(auto)]
+
 ghost use Rattle.std.specs.Prelude.{◌≡◌, true, ◌+◌, ◌-◌, ◌≤◌, ◌<◌, length, get_or, take, drop};
 ghost use Rattle.std.proofs.lemmas.List.Edits.{sets};
 ghost use Rattle.text.specs.Pieces.{pieces_from};

@@ -1,5 +1,7 @@
 // The rows, cuts and copies of a cut tree's nodes: the edits of a tree, written into the arrays that hold it. After nodestore.rs, its walk and its boxes left
 // to other crates.
+#![tactic(auto)]
+
 ghost use Rattle.std.specs.Prelude.{◌≡◌, Bool, cond, List, ℕ, ◌+◌, ◌-◌, ◌<◌, ◌≤◌, eqb, length, get_or, set, take, Float};
 ghost use Rattle.std.proofs.Math.Option.{none, some};
 ghost use Rattle.limits.specs.Limits.{width, capacity_limit, branch_limit, point_limit, total_limit};

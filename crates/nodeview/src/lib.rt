@@ -1,5 +1,7 @@
 // The walk report: `traverse` of randomcuttree.rs with `SmallNodeView` of nodeview.rs, for a visitor that never converges and wants no shadow box. It is
 // read from a tree's arrays and written to lent rows, a row for each node of the query's walk from the leaf to the root.
+#![tactic(auto)]
+
 ghost use Rattle.std.specs.Prelude.{◌≡◌, ℕ, ◌≤◌, ◌<◌, false, cond, ◌||◌, [], ◌∷◌, leb, ltb, length, get_or, drop, set};
 ghost use Rattle.std.specs.Float.{binary64};
 ghost use Rattle.std.specs.Float.Ieee.{to_bits};
@@ -30,7 +32,7 @@ use rowboxes::{Ends, Sizes};
 pub type Chances = [f64; CAPACITY];
 
 // What a report answers: how many rows it has written, or document 01's number.
-#[derive(Drop)]
+#[derive(Clone, Copy)]
 pub enum ReportAnswer {
     Rows(usize),
     NoReport(u8),

@@ -1,4 +1,6 @@
 // The readings table, which stands in for `PointStore`: a row of coordinates for each point index, and a mark where it is written.
+#![tactic(auto)]
+
 ghost use Rattle.std.specs.Prelude.{◌≡◌, replicate};
 ghost use Rattle.limits.specs.Limits.{width, point_limit};
 ghost use Rattle.layout.specs.Layout.{no_ends};
@@ -9,7 +11,7 @@ ghost use Rattle.pointstore.specs.Puts.{or_nought, point_refusal, put_refusal, P
 use limits::{CHANNELS, Copies, Marks, POINTS, Points, Row};
 
 // What a put answers: `Written`, or `Refused` with document 01's number.
-#[derive(Drop)]
+#[derive(Clone, Copy)]
 pub enum PutAnswer {
     Written,
     Refused(u8),

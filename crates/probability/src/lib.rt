@@ -1,4 +1,6 @@
 // The chance that a random cut of a box with a point in it parts the point from the box. After `probability_of_cut` of boundingbox.rs.
+#![tactic(auto)]
+
 ghost use Rattle.std.specs.Prelude.{◌≡◌, false, ◌+◌, ◌≤◌, max};
 ghost use Rattle.std.specs.Float.{binary64};
 ghost use Rattle.std.specs.Float.Ieee.{round};

@@ -1,4 +1,6 @@
 // A random cut tree on readings fed in (randomcuttree.rs): making, putting, adding, deleting and the queries. Its arrays are lent; the header goes in and comes back by value.
+#![tactic(auto)]
+
 ghost use Rattle.std.specs.Prelude.{◌≡◌, [], ◌<◌, get_or, replicate};
 ghost use Rattle.limits.specs.Limits.{branch_limit, point_limit, total_limit};
 ghost use Rattle.readings.specs.Number.{nought};
@@ -24,7 +26,7 @@ use treestore::Found;
 
 // The header of a tree. The arrays beside it hold the branches' rows and cuts, the leaves' copies, the free branch numbers and the cached boxes.
 // `cached` is how many branches `cache_fraction` has cached.
-#[derive(Drop)]
+#[derive(Clone, Copy)]
 pub struct RCFTree {
     pub dimensions: usize,
     pub capacity: u16,
@@ -36,35 +38,35 @@ pub struct RCFTree {
 }
 
 // What an add answers: the header after it, the leaf's point index and the words taken; or document 01's number, and the header is as it was.
-#[derive(Drop)]
+#[derive(Clone, Copy)]
 pub enum AddAnswer {
     Added(RCFTree, usize, usize),
     NotAdded(u8),
 }
 
 // What a delete answers: the header after it and the leaf's point index; or document 01's number, and the header is as it was.
-#[derive(Drop)]
+#[derive(Clone, Copy)]
 pub enum DeleteAnswer {
     Deleted(RCFTree, usize),
     NotDeleted(u8),
 }
 
 // What a making answers: the header of an empty tree, or document 01's number.
-#[derive(Drop)]
+#[derive(Clone, Copy)]
 pub enum Made {
     Tree(RCFTree),
     NotMade(u8),
 }
 
 // A leaf's copies, or document 01's number.
-#[derive(Drop)]
+#[derive(Clone, Copy)]
 pub enum CopiesAnswer {
     Copies(usize),
     NoLeaf(u8),
 }
 
 // What is told of a branch: its cut, the ids of its sides and its mass.
-#[derive(Drop)]
+#[derive(Clone, Copy)]
 pub struct BranchRow {
     pub cut: Cut,
     pub left: usize,
@@ -73,14 +75,14 @@ pub struct BranchRow {
 }
 
 // A branch's row, or document 01's number.
-#[derive(Drop)]
+#[derive(Clone, Copy)]
 pub enum BranchAnswer {
     Branch(BranchRow),
     NoBranch(u8),
 }
 
 // A branch's box, with 0 for the refusal; or document 01's number, and a box of zeros. An enum cannot hold the ends.
-#[derive(Drop)]
+#[derive(Clone, Copy)]
 pub struct BoxAnswer {
     pub refusal: u8,
     pub bounding_box: BoundingBox,

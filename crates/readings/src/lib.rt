@@ -1,4 +1,6 @@
 // The floats of document 01: which are coordinates, weights and shares, the factor of a random word, and narrowing f64 to f32.
+#![tactic(auto)]
+
 ghost use Rattle.std.specs.Prelude.{◌≡◌, ◌^◌, ◌<◌, ◌≤◌, from_bits};
 ghost use Rattle.std.specs.Float.{binary64};
 ghost use Rattle.std.specs.Float.Ieee.Nearest.{closest};

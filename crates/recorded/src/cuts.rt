@@ -24,7 +24,7 @@ const WORD: usize = 3 * ROW;
 const GIVEN: usize = WORD + 8;
 
 // What is told of a cut.
-#[derive(Drop)]
+#[derive(Clone, Copy)]
 pub struct Told {
     pub kind: usize,
     pub dimension: usize,

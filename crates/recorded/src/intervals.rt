@@ -17,14 +17,14 @@ const ROWS: u16 = 65534;
 const NONE: u16 = 65535;
 
 // What a call answers, and the manager after it.
-#[derive(Drop)]
+#[derive(Clone, Copy)]
 pub struct Called {
     pub answer: u16,
     pub manager: IntervalStoreManager,
 }
 
 // The manager after a number of the sequence, and the next place to write to.
-#[derive(Drop)]
+#[derive(Clone, Copy)]
 pub struct Reached {
     pub manager: IntervalStoreManager,
     pub place: usize,

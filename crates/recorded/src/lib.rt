@@ -1,5 +1,7 @@
 // What the port answers to recorded cases that are no whole run and no text: cut choices, sequences of interval managers, and inputs of functions of
 // floats. They are read and answered as crates/replay/RECORDED.md says.
+#![tactic(auto)]
+
 mod cuts;
 mod floats;
 mod intervals;

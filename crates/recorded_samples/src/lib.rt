@@ -1,5 +1,7 @@
 // What the port answers to a recorded sequence of a sample by itself: an initial share and a capacity, then arrivals and evictions, each answered with what
 // it does and the starting chance before it; at some places the whole heap is looked at. They are read and answered as crates/replay/RECORDED.md says.
+#![tactic(auto)]
+
 ghost use Rattle.std.specs.Prelude.{◌≡◌, List, ◌+◌, ◌*◌, ◌≤◌, ◌<◌, length};
 ghost use Rattle.limits.specs.Limits.{capacity_limit};
 ghost use Rattle.lines.specs.Lines.{Wrote};
@@ -19,7 +21,7 @@ const LOOK: u16 = 65535;
 const EVICT: u16 = 65534;
 
 // What an arrival or an eviction does: 0 nothing, 1 it starts, 2 it evicts the entry of this index and weight. And the sampler after it.
-#[derive(Drop)]
+#[derive(Clone, Copy)]
 pub struct Arrived {
     pub kind: u16,
     pub index: u16,
@@ -28,7 +30,7 @@ pub struct Arrived {
 }
 
 // The sampler after an item of the sequence, and the next place to write to.
-#[derive(Drop)]
+#[derive(Clone, Copy)]
 pub struct Reached {
     pub sampler: Sampler,
     pub place: usize,

@@ -1,4 +1,6 @@
 // Records of what the Rust answers (crates/replay/RECORDED.md): read from standard input, held to what the port answers and counted. Nothing is written.
+#![tactic(auto)]
+
 ghost use Rattle.std.specs.Prelude.{◌≡◌, ◌+◌, ◌<◌, ◌≤◌, true, false, ◌&&◌, [], length, drop, ◌==◌, nat_le, nat_lt, slice_index_or, slice_set};
 ghost use Rattle.records.specs.Agreeing.{agreeing};
 ghost use Rattle.records.specs.Records.{kinds, room, counted, Read, judgement, agreed, no_record};
@@ -30,7 +32,7 @@ pub const EMPTY: usize = 2;
 pub const MALFORMED: usize = 3;
 
 // A record: its kind, the length of what is given, the number returned and the length of what is written; and whether all of it was read, or why not.
-#[derive(Drop)]
+#[derive(Clone, Copy)]
 pub struct Record {
     pub kind: usize,
     pub size: usize,
@@ -41,7 +43,7 @@ pub struct Record {
 }
 
 // Whether the port agrees with a record, and how many bytes of the buffer are as recorded, from its start on.
-#[derive(Drop)]
+#[derive(Clone, Copy)]
 pub struct Judgement {
     pub agrees: bool,
     pub same: usize,

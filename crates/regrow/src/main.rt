@@ -1,5 +1,7 @@
 // Program `regrow`: standard input is an archive (docs/ARCHIVE_TEXT.md), of any length; standard output has the answers of its rows as they come, then the sample
 // and the tree.
+#![tactic(auto)]
+
 ghost use Rattle.std.specs.Prelude.{◌≡◌, true, ◌≤◌, ◌<◌, length};
 ghost use Rattle.treestore.specs.Arrays.{lent};
 ghost use Rattle.samplerplustree.specs.State.{SomeSampled};

@@ -1,4 +1,6 @@
 // One line of an archive: read, carried out on the lent state of a sampled tree, and answered in a lent buffer.
+#![tactic(auto)]
+
 ghost use Rattle.std.specs.Prelude.{◌≡◌, ◌+◌, ◌≤◌, ◌<◌};
 ghost use Rattle.lines.specs.Lines.{Wrote};
 ghost use Rattle.treestore.specs.Arrays.{lent};
@@ -14,7 +16,7 @@ use limits::{Boxes, Copies, Cuts, Free, Held, Marks, Nodes, Points, Weights};
 use samplerplustree::SamplerPlusTree;
 
 // A line that is carried out: the header after it, the place after its answer, and whether the lines go on. A row out of form ends all.
-#[derive(Drop)]
+#[derive(Clone, Copy)]
 pub struct Done {
     pub tree: SamplerPlusTree,
     pub end: usize,

@@ -1,4 +1,6 @@
 // Lines of an archive as they come: those of a text that are ended by a line feed, carried out one after another on the lent state of a sampled tree.
+#![tactic(auto)]
+
 ghost use Rattle.std.specs.Prelude.{◌≡◌, ◌+◌, ◌<◌, ◌≤◌, length};
 ghost use Rattle.treestore.specs.Arrays.{lent};
 ghost use Rattle.samplerplustree.specs.State.{SomeSampled};
@@ -11,7 +13,7 @@ use samplerplustree::SamplerPlusTree;
 
 // Lines that are carried out: the header after them, how many bytes of the text they are with their line feeds, the number of the row after them, how many bytes
 // their answers have, and whether the lines go on. A row out of form ends all.
-#[derive(Drop)]
+#[derive(Clone, Copy)]
 pub struct Batch {
     pub tree: SamplerPlusTree,
     pub read: usize,

@@ -1,5 +1,7 @@
 // The text of an archive as it comes: one read at a time, behind what is left of the text, which moves to its front. No contract can say what a read brings; each
 // says where it stands, and that what was left is kept.
+#![tactic(auto)]
+
 ghost use Rattle.std.specs.Prelude.{◌≡◌, ◌+◌, ◌-◌, ◌≤◌, ◌<◌, length, take, drop};
 ghost use Rattle.regrow_text.specs.Reading.{Brings, ReadsOn, Stays, Follows, Heads};
 
@@ -12,7 +14,7 @@ const HEAD: usize = 120;
 const LONGEST: usize = 8191;
 
 // What a read brought: the place after the bytes that are now in the text, the archive's end, or a failure.
-#[derive(Drop)]
+#[derive(Clone, Copy)]
 enum More {
     To(usize),
     Ended,
@@ -20,7 +22,7 @@ enum More {
 }
 
 // What is left of a text between two places, after a batch of lines: bytes that are there or have come, the archive's end, or a failure.
-#[derive(Drop)]
+#[derive(Clone, Copy)]
 pub enum Next {
     Part(usize, usize),
     Ended,
@@ -28,7 +30,7 @@ pub enum Next {
 }
 
 // The first three lines of a text, each by the place of its line feed.
-#[derive(Drop)]
+#[derive(Clone, Copy)]
 pub enum Head {
     At(usize, usize, usize),
     NotThere,

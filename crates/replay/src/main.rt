@@ -1,5 +1,7 @@
 // Replays recorded answers of the Rust (RECORDED.md): what the port returns and writes for each is held to what was recorded, and standard output says
 // for each kind how many agree. What differs, and a record that cannot be replayed, is said too.
+#![tactic(auto)]
+
 ghost use Rattle.std.specs.Prelude.{◌≡◌, ◌≤◌, length};
 ghost use Rattle.records.specs.Records.{room};
 ghost use Rattle.replay.specs.Answers.{answered};
@@ -14,7 +16,7 @@ const SAID: usize = 20;
 const FIELD: usize = 21;
 
 // How many records that differ are said, and whether the replay goes on.
-#[derive(Drop)]
+#[derive(Clone, Copy)]
 struct State {
     said: usize,
     going: bool,

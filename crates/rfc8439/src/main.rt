@@ -1,4 +1,6 @@
 // Runs the vectors of RFC 8439 (VECTORS.md): standard input has one to a line, and standard output says how many lines there are and how many hold.
+#![tactic(auto)]
+
 ghost use Rattle.std.specs.Prelude.{◌≡◌, ◌-◌, ◌≤◌, length, take, drop};
 ghost use Rattle.text.specs.Pieces.{pieces};
 ghost use Rattle.form.specs.Form.{same_bytes};
@@ -12,7 +14,7 @@ use libc::{STDIN_FILENO, STDOUT_FILENO};
 const LINE: usize = 227;
 
 // How many pieces a text has between its line feeds, and how many of them hold.
-#[derive(Drop)]
+#[derive(Clone, Copy)]
 struct Counts {
     pieces: usize,
     held: usize,

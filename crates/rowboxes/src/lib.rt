@@ -1,5 +1,7 @@
 // The boxes of a tree's branches, worked on in lent rows and only as far as the tree's own channels: what a call costs goes with these, not with the width of
 // a row.
+#![tactic(auto)]
+
 ghost use Rattle.std.specs.Prelude.{◌≡◌, ◌||◌, [], ◌∷◌, ◌+◌, ◌-◌, ◌≤◌, ◌<◌, leb, ltb, length, get_or, set};
 ghost use Rattle.limits.specs.Limits.{width, capacity_limit, branch_limit, point_limit};
 ghost use Rattle.boundingbox.specs.Ends.{channel, least, greatest, joined};

@@ -1,4 +1,6 @@
 // One op row of treelist's text, carried out on the lent state.
+#![tactic(auto)]
+
 ghost use Rattle.std.specs.Prelude.{◌≡◌};
 ghost use Rattle.std.proofs.Math.Option.{some};
 ghost use Rattle.cuttree.specs.Run.{put, add};

@@ -1,4 +1,6 @@
 // The C entry: a byte run, a making and the calls after it, carried out whole (docs/LAYOUT.md). No state outlives it. Beside it, in `words`, that of the source of words.
+#![tactic(auto)]
+
 pub mod words;
 
 ghost use Rattle.std.specs.Prelude.{◌≡◌, true, List, [], ◌∷◌, ℕ, ◌+◌, ◌*◌, ◌/◌, ◌<◌, ◌≤◌, length, replicate};

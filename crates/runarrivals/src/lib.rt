@@ -1,4 +1,6 @@
 // The arrival of a byte run (docs/LAYOUT.md): read from its place in the run and carried out on the lent state, with its answer as numbers.
+#![tactic(auto)]
+
 ghost use Rattle.std.specs.Prelude.{◌≡◌, true, ◌+◌};
 ghost use Rattle.std.specs.Float.{binary32};
 ghost use Rattle.std.specs.Float.Ieee.{of_bits};

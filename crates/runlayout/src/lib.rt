@@ -1,10 +1,12 @@
 // The layout of a byte run (docs/LAYOUT.md): the numbers in it, whether all of it is in the layout, and how much its answers take.
+#![tactic(auto)]
+
 ghost use Rattle.std.specs.Prelude.{◌≡◌, true, cond, ◌+◌, ◌*◌, ◌/◌, ◌<◌, ◌≤◌, leb, length};
 ghost use Rattle.runlayout.specs.Layout.{size, number, double, is_call, call_width, is_sampled, making_width, begins_with_making, width_at, stands_at, channels, capacity, rest_from};
 ghost use Rattle.runlayout.specs.Check.{width_of_kind, verdict};
 
 // Whether a run is in the layout, and whether as many answer numbers are lent as it needs.
-#[derive(Drop)]
+#[derive(Clone, Copy)]
 pub enum Checked {
     OutOfLayout,
     TooFew,

@@ -1,4 +1,6 @@
 // A report of a byte run (docs/LAYOUT.md): read from its place, carried out on the lent state, and its answer's numbers written to the lent bytes.
+#![tactic(auto)]
+
 ghost use Rattle.std.specs.Prelude.{◌≡◌, ◌+◌, ◌*◌, ◌≤◌, length, get_or, take};
 ghost use Rattle.std.proofs.lemmas.List.Edits.{sets};
 ghost use Rattle.limits.specs.Limits.{capacity_limit};

@@ -1,4 +1,6 @@
 // A call of a byte run (docs/LAYOUT.md), on a bare or a sampled tree: carried out on the lent state, its answer written to the lent bytes.
+#![tactic(auto)]
+
 ghost use Rattle.std.specs.Prelude.{◌≡◌, true, List, ℕ, ◌+◌, ◌*◌, ◌≤◌, length, take, Float};
 ghost use Rattle.std.specs.Float.{binary32};
 ghost use Rattle.std.specs.Float.Ieee.{of_bits};

@@ -3,6 +3,8 @@
 // `add_point` is the caller's. A slot that an eviction vacates is cleared, where the Rust leaves what stood there. Attributes, `reheap`,
 // `get_references` and `get_size` are left out, and `get_fill_fraction` stands in `startingchance`.
 // The contracts hold for every float. Entries, their slots and the heap are said in specs/Sample.antt and specs/Heap.antt.
+#![tactic(auto)]
+
 ghost use Rattle.std.specs.Prelude.{◌≡◌, false, cond, ◌||◌, List, ◌∷◌, ℕ, ◌+◌, ◌*◌, ◌<◌, ◌≤◌, eqb, get_or, replicate, Float};
 ghost use Rattle.std.specs.Float.{nan};
 ghost use Rattle.std.specs.Float.Ieee.{lt};
@@ -14,14 +16,14 @@ ghost use Rattle.sampler.specs.Sample.{Entry, above, beyond, Slots, evicted_of, 
 use limits::{CAPACITY, Held, Weights};
 
 // The first `current_size` slots of the two arrays that go with this are a heap.
-#[derive(Drop)]
+#[derive(Clone, Copy)]
 pub struct Sampler {
     pub capacity: u16,
     pub current_size: u16,
 }
 
 // The entry that went, and the sampler without it.
-#[derive(Drop)]
+#[derive(Clone, Copy)]
 pub struct Evicted {
     pub sampler: Sampler,
     pub index: u16,
@@ -29,7 +31,7 @@ pub struct Evicted {
 }
 
 // What an accepted arrival does before its point is added.
-#[derive(Drop)]
+#[derive(Clone, Copy)]
 pub enum Accepted {
     // It started: the sampler is as it was.
     Started,

@@ -1,4 +1,6 @@
 // A sampled tree (samplerplustree.rs): a random cut tree and the sample that keeps its leaves. The header goes in and comes back by value; the arrays are lent.
+#![tactic(auto)]
+
 ghost use Rattle.std.specs.Prelude.{◌≡◌, ◌<◌, length};
 ghost use Rattle.limits.specs.Limits.{capacity_limit, point_limit};
 ghost use Rattle.treestore.specs.Arrays.{lent};
@@ -20,7 +22,7 @@ use sampler::Sampler;
 use treestore::Found;
 
 // The header: the tree's, the sample's, and the initial share.
-#[derive(Drop)]
+#[derive(Clone, Copy)]
 pub struct SamplerPlusTree {
     pub tree: RCFTree,
     pub sampler: Sampler,
@@ -28,7 +30,7 @@ pub struct SamplerPlusTree {
 }
 
 // What a making answers: the header of an empty sampled tree, or document 01's number.
-#[derive(Drop)]
+#[derive(Clone, Copy)]
 pub enum MadeSampled {
     Tree(SamplerPlusTree),
     NotMade(u8),
@@ -36,7 +38,7 @@ pub enum MadeSampled {
 
 // What an arrival answers: accepted, with the header after it and the leaf's point index; the same with an eviction, and the evicted index; not accepted;
 // or document 01's number. In the last two cases the header is as it was.
-#[derive(Drop)]
+#[derive(Clone, Copy)]
 pub enum UpdateAnswer {
     Accepted(SamplerPlusTree, usize),
     Replaced(SamplerPlusTree, usize, usize),
@@ -45,7 +47,7 @@ pub enum UpdateAnswer {
 }
 
 // What an arrival is told before anything moves: document 01's number; not accepted; started; or accepted with an eviction.
-#[derive(Drop)]
+#[derive(Clone, Copy)]
 pub enum Offer {
     Refused(u8),
     Passes,
@@ -54,21 +56,21 @@ pub enum Offer {
 }
 
 // The header after an add, and the leaf's point index.
-#[derive(Drop)]
+#[derive(Clone, Copy)]
 struct AddedLeaf {
     tree: RCFTree,
     leaf: usize,
 }
 
 // The same of the sampled tree.
-#[derive(Drop)]
+#[derive(Clone, Copy)]
 struct Admitted {
     tree: SamplerPlusTree,
     leaf: usize,
 }
 
 // What remains once what an offer evicts is gone: the header, and the index that is gone, 0 where there is none.
-#[derive(Drop)]
+#[derive(Clone, Copy)]
 pub struct Remaining {
     pub tree: SamplerPlusTree,
     pub gone: usize,

@@ -1,4 +1,6 @@
 // The starting chance of an arrival (sampler.rs, samplerplustree.rs): how full the sample is, and whether a word starts an arrival.
+#![tactic(auto)]
+
 ghost use Rattle.std.specs.Prelude.{◌≡◌};
 ghost use Rattle.startingchance.specs.Chance.{fill_fraction, chance_of, starts_by};
 

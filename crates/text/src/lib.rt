@@ -1,4 +1,6 @@
 // The pieces of a text between separator bytes, and what stands in them: decimal numbers, words and coordinates (document 01, 'Printed tree').
+#![tactic(auto)]
+
 ghost use Rattle.std.specs.Prelude.{◌≡◌, ◌+◌, ◌-◌, ◌*◌, ◌≤◌, ◌<◌, ◌^◌, min, length, take, drop, set};
 ghost use Rattle.std.proofs.lemmas.List.Edits.{sets};
 ghost use Rattle.text.specs.Pieces.{bytes_before, pieces_from, next_piece, PieceEnds};
@@ -7,14 +9,14 @@ ghost use Rattle.text.specs.Coordinates.{capped, without_minus, after_minus, coo
 ghost use Rattle.text.specs.Fields.{number_in_form, number_or_zero, coordinate_in_form, coordinate_or_zero, word_in, words_from, coordinates_from};
 
 // A number or a word that is read, or none in form.
-#[derive(Drop)]
+#[derive(Clone, Copy)]
 pub enum Number {
     Is(u64),
     NoNumber,
 }
 
 // A coordinate that is read, or none in form.
-#[derive(Drop)]
+#[derive(Clone, Copy)]
 pub enum Coordinate {
     At(f32),
     NoCoordinate,

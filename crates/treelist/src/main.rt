@@ -1,4 +1,6 @@
 // Program `treelist` (document 01, 'Printed tree'): standard input is the text, standard output what it prints.
+#![tactic(auto)]
+
 use libc::{STDIN_FILENO, STDOUT_FILENO};
 use treelist_text::PRINTED;
 

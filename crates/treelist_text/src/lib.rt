@@ -1,5 +1,7 @@
 // What `treelist` prints for a text (document 01, 'Printed tree'), written to a lent buffer: the form is checked first, then the op rows are carried out
 // on a bare tree, and the tree is printed after the rows that are refused.
+#![tactic(auto)]
+
 ghost use Rattle.std.specs.Prelude.{◌≡◌, cond, List, [], ℕ, ◌+◌, ◌<◌, ◌≤◌, eqb, length, Float};
 ghost use Rattle.text.specs.Pieces.{pieces_from};
 ghost use Rattle.cuttree.specs.Run.{World};

@@ -1,5 +1,7 @@
 // A whole tree in its lent arrays: looking for a reading, and the edits that put a new value in or take a copy out, which change rows, cuts, copies, free numbers and
 // boxes together. The header is the caller's: an edit answers what it changes of it.
+#![tactic(auto)]
+
 ghost use Rattle.std.specs.Prelude.{◌≡◌, List, ℕ, ◌≤◌, ◌<◌, get_or};
 ghost use Rattle.limits.specs.Limits.{width, capacity_limit, branch_limit};
 ghost use Rattle.boxstore.specs.Grown.{SomeSides};
@@ -17,14 +19,14 @@ use limits::{Boxes, Copies, Cuts, Free, Nodes, Path, Points, Row};
 use rowboxes::Sizes;
 
 // What an edit changes of a tree's header.
-#[derive(Drop)]
+#[derive(Clone, Copy)]
 pub struct Edited {
     pub root: u16,
     pub manager: IntervalStoreManager,
 }
 
 // What a new value changes of it, and how many words it takes.
-#[derive(Drop)]
+#[derive(Clone, Copy)]
 pub struct Entered {
     pub root: u16,
     pub manager: IntervalStoreManager,
@@ -32,7 +34,7 @@ pub struct Entered {
 }
 
 // A reading's walk: how many nodes it has, the point index of the leaf that it ends in, and whether that leaf has the reading's value.
-#[derive(Drop)]
+#[derive(Clone, Copy)]
 pub struct Found {
     pub walk: usize,
     pub leaf: usize,

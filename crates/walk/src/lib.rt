@@ -1,5 +1,7 @@
 // The walk of a point through a cut tree's rows, from the root to its leaf, and whether two readings are the same. After nodestore.rs, and `is_equal` of pointstore.rs.
 // A path is lent, as the Rust's vector of node and sibling is.
+#![tactic(auto)]
+
 ghost use Rattle.std.specs.Prelude.{◌≡◌, cond, [], ◌∷◌, ℕ, ◌+◌, ◌*◌, ◌<◌, ◌≤◌, length, drop, set};
 ghost use Rattle.limits.specs.Limits.{width, capacity_limit, branch_limit};
 ghost use Rattle.boundingbox.specs.Padding.{Padded};

@@ -1,4 +1,6 @@
 // The boxes of a walk's branches, in lent rows: grown by a new point, and repaired after one is gone. After the boxes of nodestore.rs.
+#![tactic(auto)]
+
 ghost use Rattle.std.specs.Prelude.{◌≡◌, ◌≤◌, ◌<◌, min};
 ghost use Rattle.limits.specs.Limits.{width, capacity_limit, branch_limit};
 ghost use Rattle.boundingbox.specs.Contained.{strictly_contains};

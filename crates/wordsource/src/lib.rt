@@ -1,4 +1,6 @@
 // Words from a key (document 02, A.6): the stream of a key's words, filled into a lent list from any of its numbers on.
+#![tactic(auto)]
+
 ghost use Rattle.std.specs.Prelude.{◌≡◌, ◌+◌, ◌-◌, ◌*◌, ◌≤◌, ◌<◌, min, length, take, set, ◌++◌};
 ghost use Rattle.wordsource.specs.Stream.{key_bytes, word_limit, stream_words};
 ghost use Rattle.wordsource.specs.Pairs.{words_of};
@@ -14,7 +16,7 @@ const KEY: usize = 32;
 pub const LIMIT: u64 = 1 << 35;
 
 // How many words are written, or a refusal's number.
-#[derive(Drop)]
+#[derive(Clone, Copy)]
 pub enum Filled {
     Wrote(usize),
     NoWords(u8),
