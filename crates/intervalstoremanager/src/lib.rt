@@ -63,8 +63,8 @@ impl IntervalStoreManager {
     // number is free then.
     // Rules out numbers that end at `size`, and rows above the first left as they were lent.
     pub fn new(size: u16, rows: &mut Free) -> Self
-        ensures fact_1 { result ≡ record { capacity = size; last_in_use = length (fresh size) } }
-        ensures fact_2 { rows.new ≡ layout (fresh size) }
+        ensures answer { result ≡ record { capacity = size; last_in_use = length (fresh size) } }
+        ensures rows_after { rows.new ≡ layout (fresh size) }
     {
         *rows = [[0, 0]; BRANCHES];
         if size == 0 {
@@ -98,8 +98,8 @@ impl IntervalStoreManager {
     // start fits in whatever rows are lent. On the rows of a stack this is `GetOnStack`, in specs/Rows.antt.
     // Rules out the end handed out, and the row of a spent interval left uncleared.
     pub fn get(self, rows: &mut Free) -> Got
-        ensures fact_1 { result ≡ got_of self rows.old }
-        ensures fact_2 { rows.new ≡ rows_got self rows.old }
+        ensures answer { result ≡ got_of self rows.old }
+        ensures rows_after { rows.new ≡ rows_got self rows.old }
     {
         let n = wide16(self.last_in_use);
         if n == 0 {
@@ -125,8 +125,8 @@ impl IntervalStoreManager {
 
     // An interval of one number on top, where there is a row for it.
     fn push(self, rows: &mut Free, index: u16) -> Released
-        ensures fact_1 { result ≡ pushed_of self }
-        ensures fact_2 { rows.new ≡ rows_pushed self rows.old index }
+        ensures answer { result ≡ pushed_of self }
+        ensures rows_after { rows.new ≡ rows_pushed self rows.old index }
     {
         let n = wide16(self.last_in_use);
         if n < BRANCHES {
@@ -143,8 +143,8 @@ impl IntervalStoreManager {
     // `NeverFull` says when it is not refused, both in specs/Rows.antt.
     // Rules out an interval below the top joined, and a new top for a number that touches it.
     pub fn release(self, rows: &mut Free, index: u16) -> Released
-        ensures fact_1 { result ≡ released_of self rows.old index }
-        ensures fact_2 { rows.new ≡ rows_released self rows.old index }
+        ensures answer { result ≡ released_of self rows.old index }
+        ensures rows_after { rows.new ≡ rows_released self rows.old index }
     {
         let n = wide16(self.last_in_use);
         if n == 0 {

@@ -110,8 +110,8 @@ fn lift(nodes: &mut Nodes, cuts: &mut Cuts, path: &Path, k: usize, b: u16, s: u1
     requires path_len { length path.now ≡ capacity_limit }
     requires k_bound { 0 < k → field path.now (k - 1) 0 < branch_limit }
     requires climb { Climb 1 total_limit (relink (set nodes.old b no_row) path.now k b s) (take k path.now) }
-    ensures fact_1 { nodes.new ≡ mass_over lighter (take k path.now) (relink (set nodes.old b no_row) path.now k b s) }
-    ensures fact_2 { cuts.new ≡ set cuts.old b nought }
+    ensures linked { nodes.new ≡ mass_over lighter (take k path.now) (relink (set nodes.old b no_row) path.now k b s) }
+    ensures cut_after { cuts.new ≡ set cuts.old b nought }
 {
     put_cell(nodes, cuts, wide16(b), [0, 0, 0, 0], 0.0);
     relink_at(nodes, path, k, b, s);
@@ -134,8 +134,8 @@ fn insert(
     requires path_len { length path.now ≡ capacity_limit }
     requires k_bound { 0 < k → field path.now (k - 1) 0 < branch_limit }
     requires climb { Climb 0 (total_limit - 1) (relink (set nodes.old b row) path.now k old b) (take k path.now) }
-    ensures fact_1 { nodes.new ≡ mass_over heavier (take k path.now) (relink (set nodes.old b row) path.now k old b) }
-    ensures fact_2 { cuts.new ≡ set cuts.old b value }
+    ensures linked { nodes.new ≡ mass_over heavier (take k path.now) (relink (set nodes.old b row) path.now k old b) }
+    ensures cut_after { cuts.new ≡ set cuts.old b value }
 {
     put_cell(nodes, cuts, wide16(b), row, value);
     relink_at(nodes, path, k, old, b);

@@ -62,8 +62,8 @@ fn after_release(manager: IntervalStoreManager, number: u16, released: Released)
 }
 
 fn call(manager: IntervalStoreManager, number: u16, rows: &mut Free) -> Called
-    ensures fact_1 { result ≡ called manager rows.old number }
-    ensures fact_2 { rows.new ≡ rows_called manager rows.old number }
+    ensures answer { result ≡ called manager rows.old number }
+    ensures rows_after { rows.new ≡ rows_called manager rows.old number }
 {
     if number == GET {
         return after_get(manager, manager.get(rows));

@@ -193,8 +193,8 @@ pub fn judge(
     counts: &mut Counts,
 ) -> Judgement
     requires { head.kind < kinds }
-    ensures fact_1 { result ≡ judgement head.returned got expected.now answers.now }
-    ensures fact_2 { counts.new ≡ slice_set counts.old head.kind (counted (slice_index_or counts.old head.kind []) (agreed head.returned got expected.now answers.now)) }
+    ensures judged { result ≡ judgement head.returned got expected.now answers.now }
+    ensures counts_after { counts.new ≡ slice_set counts.old head.kind (counted (slice_index_or counts.old head.kind []) (agreed head.returned got expected.now answers.now)) }
 {
     let same = agreeing_bytes(expected, answers);
     let agrees = agrees(head.returned, got, same);

@@ -40,8 +40,8 @@ pub enum Accepted {
 
 fn swap_weights(weights: &mut Weights, points: &mut Held, a: usize, b: usize)
     requires { (a < capacity_limit) × (b < capacity_limit) }
-    ensures fact_1 { weights.new ≡ swapped nan weights.old a b }
-    ensures fact_2 { points.new ≡ swapped 0 points.old a b }
+    ensures weights_after { weights.new ≡ swapped nan weights.old a b }
+    ensures points_after { points.new ≡ swapped 0 points.old a b }
 {
     let tmp = points[a];
     points[a] = points[b];
@@ -93,9 +93,9 @@ impl Sampler {
     // An empty sampler, with every slot cleared.
     // Rules out slots left as they were lent, and a size that counts cleared slots.
     pub fn new(capacity: u16, weights: &mut Weights, points: &mut Held) -> Self
-        ensures fact_1 { result ≡ record { capacity = capacity; current_size = 0 } }
-        ensures fact_2 { weights.new ≡ replicate capacity_limit nought }
-        ensures fact_3 { points.new ≡ replicate capacity_limit 0 }
+        ensures made { result ≡ record { capacity = capacity; current_size = 0 } }
+        ensures weights_after { weights.new ≡ replicate capacity_limit nought }
+        ensures points_after { points.new ≡ replicate capacity_limit 0 }
     {
         *weights = [0.0; CAPACITY];
         *points = [0; CAPACITY];

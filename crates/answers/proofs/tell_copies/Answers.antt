@@ -1,0 +1,12 @@
+-- `answers::tell_copies` meets its contract. Assumes nothing.
+use borrow.Author.Rules.{rules}
+use Rattle.answers.specs.Said.{filled}
+use Rattle.answers.proofs.tell_copies.Goals as goal
+
+pub returns-in-Copies : goal.returns-in-Copies
+unfolding filled
+returns-in-Copies c = rw c.answer-1.given.1
+
+pub returns-in-NoLeaf : goal.returns-in-NoLeaf
+unfolding filled
+returns-in-NoLeaf c = rw (c.answer-in-NoLeaf-1.given.1, c.wide8.ensures.0)

@@ -1,0 +1,10 @@
+-- `archiveend::put_entry` meets its contract. Assumes nothing.
+use native.Mathlib.Omega.{arith}
+use Rattle.lines.proofs.Writes.{then}
+use Rattle.archiveend.specs.End.{entry_line}
+use borrow.Author.Rules.{rules}
+use Rattle.archiveend.proofs.put_entry.Goals as goal
+
+pub returns : goal.returns
+unfolding entry_line
+returns c = record { wrote = then (then c.put_hex-p.ensures.0 c.put_bytes-q.ensures) c.put_last.ensures.0; few = omega arith }

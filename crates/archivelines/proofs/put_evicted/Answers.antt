@@ -1,0 +1,10 @@
+-- `archivelines::put_evicted` meets its contract. Assumes nothing.
+use native.Mathlib.Omega.{arith}
+use Rattle.archivelines.specs.Answers.{evicted_line}
+use Rattle.lines.proofs.Writes.{then}
+use borrow.Author.Rules.{rules}
+use Rattle.archivelines.proofs.put_evicted.Goals as goal
+
+pub returns : goal.returns
+unfolding evicted_line
+returns c = record { wrote = then (then (then (then c.put_bytes-p1.ensures c.put_field-p2.ensures.0) c.put_bytes-p3.ensures) c.put_field-p4.ensures.0) c.put_last.ensures.0; few = omega (arith, c.put_bytes-p1.ensures.next, c.put_field-p2.ensures.1, c.put_bytes-p3.ensures.next, c.put_field-p4.ensures.1, c.put_last.ensures.1) }

@@ -1,0 +1,10 @@
+-- `archivelines::put_kept` meets its contract. Assumes nothing.
+use native.Mathlib.Omega.{arith}
+use Rattle.archivelines.specs.Answers.{kept_line}
+use Rattle.lines.proofs.Writes.{then}
+use borrow.Author.Rules.{rules}
+use Rattle.archivelines.proofs.put_kept.Goals as goal
+
+pub returns : goal.returns
+unfolding kept_line
+returns c = record { wrote = then (then c.put_bytes-p.ensures c.put_field-q.ensures.0) c.put_last.ensures.0; few = omega (arith, c.put_bytes-p.ensures.next, c.put_field-q.ensures.1, c.put_last.ensures.1) }

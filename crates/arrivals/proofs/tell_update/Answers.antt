@@ -1,0 +1,20 @@
+-- `arrivals::tell_update` meets its contract. Assumes nothing.
+use Rattle.answers.specs.Said.{filled}
+use borrow.Author.Rules.{rules}
+use Rattle.arrivals.proofs.tell_update.Goals as goal
+
+pub returns-in-Accepted : goal.returns-in-Accepted
+unfolding filled
+returns-in-Accepted c = rw c.answer-1.given.1
+
+pub returns-in-Replaced : goal.returns-in-Replaced
+unfolding filled
+returns-in-Replaced c = rw c.answer-in-Replaced-1.given.1
+
+pub returns-in-NotAccepted : goal.returns-in-NotAccepted
+unfolding filled
+returns-in-NotAccepted c = rw c.enum_told-1.given.1
+
+pub returns-in-Refused : goal.returns-in-Refused
+unfolding filled
+returns-in-Refused c = rw (c.answer-in-Refused-1.given.1, c.wide8.ensures.0)

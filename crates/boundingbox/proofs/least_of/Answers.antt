@@ -1,0 +1,11 @@
+-- `boundingbox::least_of` meets its contract: each branch is what its test selects. Assumes nothing.
+use Rattle.boundingbox.specs.Ends.{least}
+use Rattle.boundingbox.proofs.least_of.Goals as goal
+
+pub returns-then-x-y : goal.returns-then-x-y
+unfolding least
+returns-then-x-y c = rw c.if-x-y.true
+
+pub returns-else-x-y : goal.returns-else-x-y
+unfolding least
+returns-else-x-y c = rw c.if-x-y.false

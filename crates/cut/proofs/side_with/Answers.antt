@@ -1,0 +1,6 @@
+-- `side_with` meets its contract. Assumes nothing.
+use Rattle.std.proofs.Common.{rules}
+use Rattle.cut.proofs.side_with.Goals as goal
+
+pub returns : goal.returns
+returns c = rw (← c.least_of.ensures, ← c.greatest_of.ensures) c.gap.ensures

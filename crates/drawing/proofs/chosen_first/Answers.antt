@@ -1,0 +1,14 @@
+-- `chosen_first` meets its contract: the draw of the leaf's box chooses. Assumes nothing.
+use mathlib.Core.Path.{sym, ap, ◌∙◌, subst}
+use Rattle.drawing.specs.Choice.{Numbered, none_chosen, chosen_by}
+use borrow.Author.Rules.{rules}
+use Rattle.drawing.proofs.chosen_first.Goals as goal
+
+pub chosen_at-requires : goal.chosen_at-requires
+chosen_at-requires c = subst Numbered (sym c.whole_cut_and_separation-first.ensures ∙ c.first-1.given.1) c.requires.1.1.1
+
+pub returns-in-NoCut : goal.returns-in-NoCut
+returns-in-NoCut c = ap (chosen_by none_chosen 0) (sym c.enum_told-1.given.1 ∙ c.whole_cut_and_separation-first.ensures)
+
+pub returns-in-Drawn : goal.returns-in-Drawn
+returns-in-Drawn c = c.Chosen-at.ensures ∙ ap (chosen_by none_chosen 0) (sym c.first-1.given.1 ∙ c.whole_cut_and_separation-first.ensures)

@@ -1,0 +1,25 @@
+use Prim.Native.Nat.{◌-◌}
+use lib.ListN.{length}
+use borrow.Author.Rules.{rules}
+use borrow.Author.Tests.{not-true, not-false}
+use Rattle.form.proofs.Lines.{Counting, count_start, count_end, count_tail, count_bad, count_step}
+use Rattle.form.proofs.check_rows.Reads as reads
+use Rattle.form.proofs.check_rows.Lts as lts
+use Rattle.form.proofs.is_row_at.Reads as is-row-at-reads
+use Rattle.text.proofs.piece_end.Reads as piece-end-reads
+use Rattle.form.proofs.check_rows.Goals as goal
+
+pub loop-start-init : goal.loop-start-init
+loop-start-init c = count_start c.requires
+
+pub returns-then-end-at : goal.returns-then-end-at
+returns-then-end-at c = count_end c.loop-start.invariant c.piece_end-end.ensures c.if-end-bytes.true c.if-end-at.true
+
+pub returns-then-end-bytes : goal.returns-then-end-bytes
+returns-then-end-bytes c = count_tail c.loop-start.invariant c.piece_end-end.ensures c.if-end-bytes.true c.if-end-at.false
+
+pub returns-then-not-is_row_at : goal.returns-then-not-is_row_at
+returns-then-not-is_row_at c = count_bad c.loop-start.invariant c.piece_end-end.ensures c.if-end-bytes.false c.is_row_at.ensures (not-true _ c.if-not-is_row_at.true)
+
+pub loop-start-preserved : goal.loop-start-preserved
+loop-start-preserved c = count_step c.loop-start.invariant c.piece_end-end.ensures c.if-end-bytes.false c.is_row_at.ensures (not-false _ c.if-not-is_row_at.false)

@@ -1,0 +1,15 @@
+-- `put_refused` meets its contract: its line part after part. Assumes nothing.
+use native.Mathlib.Omega.{arith}
+use Rattle.lines.specs.Lines.{refused_line}
+use Rattle.lines.proofs.Writes.{then}
+use borrow.Author.Rules.{rules}
+use Rattle.lines.proofs.put_refused.Reads as reads
+use Rattle.lines.proofs.put_refused.Lts as lts
+use Rattle.lines.proofs.put_bytes.Reads as put-bytes-reads
+use Rattle.lines.proofs.put_field.Reads as put-field-reads
+use Rattle.lines.proofs.put_last.Reads as put-last-reads
+use Rattle.lines.proofs.put_refused.Goals as goal
+
+pub returns : goal.returns
+unfolding refused_line
+returns c = record { wrote = then (then c.put_bytes-p.ensures c.put_field-q.ensures.0) c.put_last.ensures.0; few = omega arith }

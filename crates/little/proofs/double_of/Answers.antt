@@ -1,0 +1,16 @@
+-- `little::double_of` meets its contract: a pattern above infinity's, but for the sign, is NaN's. Assumes nothing.
+use borrow.Author.Rules.{rules}
+use mathlib.Core.Path.{◌≡◌, refl, ◌∙◌}
+use lib.Ieee.{nan, binary64, of_bits, div}
+use Rattle.little.proofs.Patterns.{above, within}
+use Rattle.little.proofs.double_of.Goals as goal
+
+none : div binary64 (of_bits binary64 0) (of_bits binary64 0) ≡ nan
+unfolding div of_bits
+none = refl
+
+pub returns-then-bits-gt-INFINITE64 : goal.returns-then-bits-gt-INFINITE64
+returns-then-bits-gt-INFINITE64 c = none ∙ above binary64 c.args.bits c.if-bits-gt-INFINITE64.true
+
+pub float_from_bits-result : goal.float_from_bits-result
+float_from_bits-result c = within binary64 c.args.bits c.if-bits-gt-INFINITE64.false

@@ -1,0 +1,16 @@
+-- `lift` meets its contract: cell, pointer and masses are written one after the other. Assumes nothing.
+use lib.Ieee.{of_bits}
+use Rattle.layout.specs.Layout.{no_row}
+use Rattle.nodestore.specs.Rows.{lighter}
+use Rattle.nodestore.proofs.Facts.{edited}
+use borrow.Author.Rules.{rules}
+use Rattle.nodestore.proofs.lift.Goals as goal
+
+pub manage_ancestors_delete-requires : goal.manage_ancestors_delete-requires
+manage_ancestors_delete-requires c = record { n_le_capacity_limit = c.requires.1.0; path_len = c.requires.1.1.0; climb = rw (c.relink_at.ensures, c.put_cell.ensures.0, c.wide16.ensures.0) c.requires.1.1.1.1 }
+
+pub returns : goal.returns
+unfolding of_bits
+returns c =     let a = c.args in
+    let e = c.wide16.ensures.0 in
+    record { linked = edited lighter a.nodes.now a.path.now no_row a.k a.b a.s e c.put_cell.ensures.0 c.relink_at.ensures c.manage_ancestors_delete.ensures; cut_after = rw (← e) c.put_cell.ensures.1 }

@@ -1,0 +1,9 @@
+-- `row_for` meets its contract. Assumes nothing.
+use borrow.Author.Rules.{rules}
+use Rattle.nodestore.proofs.row_for.Goals as goal
+
+pub returns-then-left : goal.returns-then-left
+returns-then-left c = rw c.if-left.true
+
+pub returns : goal.returns
+returns c = rw c.if-left.false

@@ -1,0 +1,15 @@
+-- `leaf_row` meets its contract: each answer of the test is one case of the chance. Assumes nothing.
+use lib.Ieee.{of_bits}
+use borrow.Author.Rules.{rules}
+use Rattle.nodeview.proofs.leaf_row.Goals as goal
+
+pub same_point-requires : goal.same_point-requires
+same_point-requires c = record { narrow = c.requires.0; padded = (c.requires.1.0.rest, c.requires.1.1.rest) }
+
+pub returns-then-same_point : goal.returns-then-same_point
+unfolding of_bits
+returns-then-same_point c = rw (← c.same_point.ensures, c.if-same_point.true) c.Numbers-of.ensures
+
+pub returns : goal.returns
+unfolding of_bits
+returns c = rw (← c.same_point.ensures, c.if-same_point.false) c.numbers_of-2.ensures

@@ -1,0 +1,9 @@
+-- `after_get` meets its contract, by what the call gave. Assumes nothing.
+use borrow.Author.Rules.{rules}
+use Rattle.recorded.proofs.intervals.after_get.Goals as goal
+
+pub returns-in-Index : goal.returns-in-Index
+returns-in-Index c = rw c.got-1.given.1
+
+pub returns-in-Empty : goal.returns-in-Empty
+returns-in-Empty c = rw c.enum_told-1.given.1

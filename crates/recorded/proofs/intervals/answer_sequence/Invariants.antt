@@ -1,0 +1,13 @@
+use mathlib.Core.Path.{◌∙◌}
+use Prim.Native.Nat.{◌-◌}
+use native.Mathlib.Omega.{arith}
+use Rattle.lines.proofs.Writes.{long}
+use Rattle.recorded.proofs.Sequences.{sequenced_none, sequenced_start, sequenced_all, Turns, no_turns, one_turn}
+use borrow.Author.Rules.{rules}
+use Rattle.recorded.proofs.intervals.answer_sequence.Given as goal
+
+abbrev pub invariant-loop-i : goal.invariant-loop-i
+invariant-loop-i l = Turns l.given l.initial.out-1 l.initial.state l.initial.rows-1 l.out-1 l.state l.rows-1 l.i
+
+abbrev pub decreases-loop-i : goal.decreases-loop-i
+decreases-loop-i l = l.n - l.i

@@ -1,0 +1,13 @@
+-- `put_call` meets its contract: two pairs, one after the other. Assumes nothing.
+use mathlib.Core.Path.{refl}
+use native.Mathlib.Omega.{arith}
+use Rattle.lines.proofs.Writes.{then}
+use borrow.Author.Rules.{rules}
+use Rattle.recorded.proofs.intervals.put_call.Goals as goal
+
+pub returns : goal.returns
+returns c = record {
+  manager-is = refl;
+  wrote = then c.put_pair-p.ensures.0 (rw c.top_of.ensures at c.put_pair.ensures.0);
+  next = omega arith;
+}

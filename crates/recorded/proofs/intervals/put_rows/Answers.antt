@@ -1,0 +1,19 @@
+-- `put_rows` meets its contract: after k turns the first k rows stand. Assumes nothing.
+use Prim.Native.Nat.{◌-◌}
+use Rattle.limits.specs.Limits.{branch_limit}
+use Rattle.lines.proofs.Writes.{long}
+use Rattle.recorded.proofs.Rows.{Rowed, rowed_none, rowed_next, rowed_all}
+use borrow.Author.Rules.{rules}
+use Rattle.recorded.proofs.intervals.put_rows.Goals as goal
+
+pub loop-k-init : goal.loop-k-init
+loop-k-init c = rowed_none _ _ _
+
+pub loop-k-preserved : goal.loop-k-preserved
+loop-k-preserved c = rowed_next c.loop-k.invariant c.loop-k-test.true c.put_pair-p.ensures.0 c.put_pair-p.ensures.1
+
+pub shape_of-out : goal.shape_of-out
+shape_of-out c = long c.loop-k.invariant.wrote
+
+pub returns : goal.returns
+returns c = rowed_all c.loop-k.invariant c.loop-k-test.false

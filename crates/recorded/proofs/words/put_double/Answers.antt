@@ -1,0 +1,7 @@
+use native.Mathlib.Omega.{arith}
+use Rattle.lines.proofs.Writes.{then}
+use borrow.Author.Rules.{rules}
+use Rattle.recorded.proofs.words.put_double.Goals as goal
+
+pub returns : goal.returns
+returns c = record { wrote = then c.put_word-p.ensures.0 c.put_word.ensures.0; next = omega arith }

@@ -1,0 +1,7 @@
+-- `put_word` meets its contract: the word's four bytes are those written. Assumes nothing.
+use borrow.Author.Rules.{rules}
+use Rattle.recorded.proofs.Stores.{stored}
+use Rattle.recorded.proofs.words.put_word.Goals as goal
+
+pub returns : goal.returns
+returns c = stored c.args.x c.put_u32.ensures c.put_bytes.ensures

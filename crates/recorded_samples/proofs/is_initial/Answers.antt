@@ -1,0 +1,6 @@
+-- `is_initial` meets its contract, by its two tests. Assumes nothing.
+use borrow.Author.Rules.{rules}
+use Rattle.recorded_samples.proofs.is_initial.Goals as goal
+
+pub returns : goal.returns
+returns c = rw (c.is_full-full.ensures, c.starts-starts.ensures)

@@ -1,0 +1,13 @@
+-- `put_arrived` meets its contract: a pair, two words and a double, one after another. Assumes nothing.
+use mathlib.Core.Path.{refl}
+use native.Mathlib.Omega.{arith}
+use Rattle.lines.proofs.Writes.{then}
+use borrow.Author.Rules.{rules}
+use Rattle.recorded_samples.proofs.put_arrived.Goals as goal
+
+pub returns : goal.returns
+returns c = record {
+  sampler-is = refl;
+  wrote = then (then (then c.put_pair-p.ensures.0 (rw c.wide16.ensures.0 at c.put_word-q.ensures.0)) (rw (c.wide32.ensures.0, c.pattern_of.ensures) at c.put_word-s.ensures.0)) (rw (c.wide64.ensures, c.pattern_of_double.ensures) at c.put_double.ensures.0);
+  next = omega arith;
+}

@@ -1,0 +1,19 @@
+-- `put_heap` meets its contract: after k turns the first k slots stand. Assumes nothing.
+use mathlib.Core.Path.{◌∙◌}
+use Prim.Native.Nat.{◌-◌}
+use Rattle.lines.proofs.Writes.{long}
+use Rattle.recorded_samples.proofs.Heaps.{Heaped, heaped_none, heaped_next, heaped_all}
+use borrow.Author.Rules.{rules}
+use Rattle.recorded_samples.proofs.put_heap.Goals as goal
+
+pub loop-k-init : goal.loop-k-init
+loop-k-init c = heaped_none _ _ _ _ _
+
+pub loop-k-preserved : goal.loop-k-preserved
+loop-k-preserved c = heaped_next c.loop-k.invariant c.loop-k-test.true (c.wide32.ensures.0 ∙ c.pattern_of.ensures) c.wide16.ensures.0 c.put_word-p.ensures.0 c.put_word-p-in-loop-k.ensures.0 c.put_word-p.ensures.1 c.put_word-p-in-loop-k.ensures.1
+
+pub shape_of-out : goal.shape_of-out
+shape_of-out c = long c.loop-k.invariant.wrote
+
+pub returns : goal.returns
+returns c = heaped_all c.loop-k.invariant c.loop-k-test.false

@@ -1,0 +1,13 @@
+-- `rowcalls::add_row` meets its contract. Assumes nothing.
+use borrow.Author.Rules.{rules}
+use mathlib.Core.Path.{refl}
+use Rattle.limits.specs.Limits.{capacity_limit}
+use Rattle.text.specs.Pieces.{pieces_from}
+use Rattle.text.specs.Numbers.{word_of}
+use Rattle.text.specs.Fields.{number_or_zero}
+use Rattle.rowcalls.proofs.Fields.{first_fields}
+use Rattle.rowcalls.proofs.add_row.Goals as goal
+
+pub returns : goal.returns
+returns c =     let first = first_fields (λ p. number_or_zero (word_of p)) (pieces_from 32 c.args.row.now c.args.start) _ _ capacity_limit _ _ refl c.read_words-given.ensures.0 c.at_most-n.ensures c.read_words-given.ensures.1 in
+    c.add.ensures _ first

@@ -1,0 +1,79 @@
+-- `run::run_calls` meets its contract: at each turn what is left of the run leads to the same end. Assumes nothing.
+use borrow.Author.Rules.{rules}
+use mathlib.Core.Path.{◌≡◌, refl, sym, ap, ◌∙◌, subst}
+use mathlib.Core.List.{List}
+use Prim.Native.Nat.{ℕ, ◌+◌, ◌-◌, ◌≤◌, ◌<◌}
+use native.Mathlib.Omega.{arith}
+use lib.ListN.{length}
+use Rattle.treestore.specs.Arrays.{lent}
+use Rattle.runlayout.specs.Layout.{size, number, making_width}
+use Rattle.runlayout.proofs.Rest.{making_fits, making_five, making_whole, within}
+use Rattle.runsteps.specs.Standing.{kept}
+use Rattle.runsteps.specs.Steps.{room}
+use Rattle.run.specs.Running.{Running}
+use Rattle.run.proofs.Turns.{last, stands, some_standing, fits, answers_length, turn}
+use Rattle.run.proofs.run_calls.Goals as goal
+
+below : (p n m : ℕ) → p < n → n ≡ m → p < m
+below p n m h e = omega arith
+
+pub making_width-p-requires : goal.making_width-p-requires
+making_width-p-requires c =     omega (arith, making_five c.args.run.now c.requires.0)
+
+pub number_or_none-kind-requires : goal.number_or_none-kind-requires
+number_or_none-kind-requires c =     making_whole c.args.run.now c.requires.0
+
+pub loop-p-init : goal.loop-p-init
+loop-p-init c =     let e = c.making_width-p.ensures.0 in
+    (omega (arith, e, making_fits c.args.run.now c.requires.0), refl, c.number_or_none-kind.ensures.0, λ final count R. subst (λ (q : ℕ). Running c.args.run.now q 1 c.args.tree (kept (lent c.args.nodes.now c.args.cuts.now c.args.copies.now c.args.free.now c.args.boxes.now) c.args.points.now c.args.written.now c.args.weights.now c.args.held.now) c.args.answers-1.now final count) (sym e) R)
+
+pub answer_width-width-requires : goal.answer_width-width-requires
+answer_width-width-requires c = (c.requires.0, below _ _ _ c.loop-p-test.true c.type_size.ensures)
+
+pub width_at-requires : goal.width_at-requires
+width_at-requires c =     (below _ _ _ c.loop-p-test.true c.type_size.ensures, making_whole c.args.run.now c.requires.0)
+
+pub overflow_add-next : goal.overflow_add-next
+overflow_add-next c =     let h = below _ _ _ c.loop-p-test.true c.type_size.ensures in
+    omega (arith, h, c.width_at.ensures.2, c.well_formed)
+
+pub number_or_none-ahead-requires : goal.number_or_none-ahead-requires
+number_or_none-ahead-requires c =     making_whole c.args.run.now c.requires.0
+
+pub step-current-requires : goal.step-current-requires
+step-current-requires c =     let l = c.loop-p in
+    let R = l.invariant.3 _ _ c.requires.1.running in
+    let h = below _ _ _ c.loop-p-test.true c.type_size.ensures in
+    let w = c.answer_width-width in
+    ((stands c.args.run.now _ _ _ (kept (lent l.nodes l.cuts l.copies l.free l.boxes) l.points l.written l.weights l.held) _ _ _ R h, l.invariant.2), (some_standing c.args.run.now _ _ _ (kept (lent l.nodes l.cuts l.copies l.free l.boxes) l.points l.written l.weights l.held) _ _ _ R h, (w.ensures.0, fits c.args.run.now _ _ _ (kept (lent l.nodes l.cuts l.copies l.free l.boxes) l.points l.written l.weights l.held) _ _ _ R h _ w.ensures.0)))
+
+pub overflow_add-out : goal.overflow_add-out
+overflow_add-out c =     let l = c.loop-p in
+    let R = l.invariant.3 _ _ c.requires.1.running in
+    let h = below _ _ _ c.loop-p-test.true c.type_size.ensures in
+    let w = c.answer_width-width in
+    omega (arith, fits c.args.run.now _ _ _ (kept (lent l.nodes l.cuts l.copies l.free l.boxes) l.points l.written l.weights l.held) _ _ _ R h _ w.ensures.0, l.invariant.1, c.well_formed)
+
+pub loop-p-smaller : goal.loop-p-smaller
+loop-p-smaller c = let h = below _ _ _ c.loop-p-test.true c.type_size.ensures in
+    omega (arith, h, c.width_at.ensures.1)
+
+pub loop-p-preserved : goal.loop-p-preserved
+loop-p-preserved c =     let l = c.loop-p in
+    let R = l.invariant.3 _ _ c.requires.1.running in
+    let h = below _ _ _ c.loop-p-test.true c.type_size.ensures in
+    let w = c.answer_width-width in
+    let d = c.step-current.ensures.0 in
+    let g = c.width_at.ensures.0 in (
+      omega (arith, g, within c.args.run.now l.p (stands c.args.run.now _ _ _ (kept (lent l.nodes l.cuts l.copies l.free l.boxes) l.points l.written l.weights l.held) _ _ _ R h)),
+      answers_length c.args.run.now _ _ _ (kept (lent l.nodes l.cuts l.copies l.free l.boxes) l.points l.written l.weights l.held) _ _ _ R h _ w.ensures.0 (room l.words-1 l.reply-1 l.rows-1 l.answers-1) _ _ _ d refl ∙ l.invariant.1,
+      c.number_or_none-ahead.ensures.0,
+      λ final count R. turn c.args.run.now _ _ _ (kept (lent l.nodes l.cuts l.copies l.free l.boxes) l.points l.written l.weights l.held) _ _ _ (l.invariant.3 final count R) h _ w.ensures.0 (room l.words-1 l.reply-1 l.rows-1 l.answers-1) _ _ _ d refl _ (ap (λ (k : ℕ). l.p + k) g),
+    )
+
+pub shape_of-answers : goal.shape_of-answers
+shape_of-answers c = c.loop-p.invariant.1
+
+pub returns : goal.returns
+returns c = let l = c.loop-p in
+        λ final count R. last c.args.run.now _ _ _ (kept (lent l.nodes l.cuts l.copies l.free l.boxes) l.points l.written l.weights l.held) _ _ _ (l.invariant.3 final count R) (omega (arith, l.invariant.0, c.loop-p-test.false, c.type_size.ensures))

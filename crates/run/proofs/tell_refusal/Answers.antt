@@ -1,0 +1,16 @@
+-- `run::tell_refusal` meets its contract. Assumes nothing.
+use borrow.Author.Rules.{rules}
+use mathlib.Core.Path.{refl, ap, ◌∙◌}
+use mathlib.Core.List.{[], ◌∷◌}
+use Prim.Native.Nat.{ℕ}
+use lib.Seq.{sets}
+use Rattle.little.specs.Little.{bytes32}
+use Rattle.run.proofs.Given.{given-short, given-whole}
+use Rattle.run.proofs.tell_refusal.Goals as goal
+
+pub returns-then-answers-lt4 : goal.returns-then-answers-lt4
+returns-then-answers-lt4 c = given-short (c.args.refusal ∷ []) c.args.answers-1.now c.if-answers-lt4.true
+
+pub returns : goal.returns
+returns c =     let r = c.args.refusal in
+    given-whole (r ∷ []) c.args.answers-1.now _ 4 refl c.if-answers-lt4.false (c.put_u32.ensures ∙ ap (λ (x : ℕ). sets c.args.answers-1.now 0 (bytes32 x)) c.wide8.ensures.0)

@@ -1,0 +1,7 @@
+-- `runcalls::add_call` meets its contract. Assumes nothing.
+use Rattle.runcalls.proofs.Given.{add-given}
+use borrow.Author.Rules.{rules}
+use Rattle.runcalls.proofs.add_call.Goals as goal
+
+pub returns : goal.returns
+returns c =     add-given c.args.run.now _ _ _ _ _ _ _ _ _ _ _ c.number_at-index.ensures.0 _ _ c.args.words.now _ c.number_at.ensures.0 c.at_most-n.ensures c.read_words.ensures c.add.ensures

@@ -1,0 +1,14 @@
+-- `Sampler::accept_point` meets its contract, by its one test. Assumes nothing.
+use mathlib.Core.Bool.{false≢true}
+use mathlib.Core.Path.{refl, ◌∙◌, sym, ap}
+use Rattle.sampler.specs.declared.Accepted.TheVariants.{Evicting}
+use Rattle.sampler.proofs.Sampler.accept_point.Goals as goal
+
+pub returns-then-initial : goal.returns-then-initial
+returns-then-initial c = record { started = λ _. (refl, refl, refl); evicting = λ h. absurd (false≢true (sym h ∙ c.if-initial.true)) }
+
+pub evict_max-requires : goal.evict_max-requires
+evict_max-requires c = (c.requires.0 c.if-initial.false, c.requires.1)
+
+pub returns : goal.returns
+returns c = record { started = λ h. absurd (false≢true (sym c.if-initial.false ∙ h)); evicting = λ _. (ap Evicting c.evict_max.ensures.0, c.evict_max.ensures.1) }

@@ -1,0 +1,10 @@
+-- `text::after_field` meets its contract. Assumes nothing.
+use Rattle.text.proofs.Pieces.{after_none, after_one}
+use borrow.Author.Rules.{rules}
+use Rattle.text.proofs.after_field.Goals as goal
+
+pub returns-then-row-start : goal.returns-then-row-start
+returns-then-row-start c = after_none _ _ c.if-row-start.true
+
+pub returns : goal.returns
+returns c = after_one _ _ c.if-row-start.false c.piece_end-end.ensures

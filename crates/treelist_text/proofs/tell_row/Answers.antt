@@ -1,0 +1,11 @@
+-- `treelist_text::tell_row` meets its contract. Assumes nothing.
+use borrow.Author.Rules.{rules}
+use native.Mathlib.Omega.{arith}
+use Rattle.treelist_text.proofs.Telling.{told_none, told_one}
+use Rattle.treelist_text.proofs.tell_row.Goals as goal
+
+pub returns-then-refusal-eq0 : goal.returns-then-refusal-eq0
+returns-then-refusal-eq0 c = (told_none _ c.if-refusal-eq0.true, omega arith)
+
+pub returns : goal.returns
+returns c = record { wrote = told_one _ c.if-refusal-eq0.false c.Put-refused.ensures.0; few = c.Put-refused.ensures.1 }

@@ -1,0 +1,14 @@
+-- `treelist_text::treelist_output` meets its contract. Assumes nothing.
+use borrow.Author.Rules.{rules}
+use Rattle.treelist_text.proofs.Reading.{bad_output, in_form_lem}
+use Rattle.treelist_text.proofs.Sizes.{fitting}
+use Rattle.treelist_text.proofs.treelist_output.Goals as goal
+
+pub print_made-requires : goal.print_made-requires
+print_made-requires c = in_form_lem _ _ _ c.check_form.ensures c.enum_told-1.given.1
+
+pub returns-in-Bad : goal.returns-in-Bad
+returns-in-Bad c = fitting _ (bad_output _ _ _ c.check_form.ensures c.row-1.given.1 c.Put-refused.ensures.0)
+
+pub returns-in-Good : goal.returns-in-Good
+returns-in-Good c = fitting _ c.print_made.ensures

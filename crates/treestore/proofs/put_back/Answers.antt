@@ -1,0 +1,10 @@
+-- `put_back` meets its contract: the stack always has a row left. Assumes nothing.
+use Rattle.treestore.proofs.Manager.{put_back_done, put_back_full}
+use borrow.Author.Rules.{rules}
+use Rattle.treestore.proofs.put_back.Goals as goal
+
+pub returns-in-Done : goal.returns-in-Done
+returns-in-Done c = λ u m l s p o i h. put_back_done _ _ u m l s p o _ i h _ _ _ c.release-released.ensures.0 c.release-released.ensures.1 c.released-1.given.1
+
+pub returns-in-Full : goal.returns-in-Full
+returns-in-Full c = λ u m l s p o i h. put_back_full _ _ u m l s p o _ i h _ c.release-released.ensures.0 c.enum_told-1.given.1

@@ -1,0 +1,6 @@
+-- `cut_at` meets its contract. Assumes nothing.
+use borrow.Author.Rules.{rules}
+use Rattle.walk.proofs.cut_at.Goals as goal
+
+pub returns : goal.returns
+returns c = rw c.wide16.ensures.0

@@ -1,0 +1,12 @@
+-- `holds` meets its contract. Assumes nothing.
+use borrow.Author.Rules.{rules}
+use Rattle.walkboxes.proofs.holds.Goals as goal
+
+pub bounds-boxes-index : goal.bounds-boxes-index
+bounds-boxes-index c = c.requires.0.0
+
+pub strictly_holds-requires : goal.strictly_holds-requires
+strictly_holds-requires c = let p = c.requires in (p.0.1, (p.1.1.slots _ p.0.0).low.rest, p.1.0.rest)
+
+pub returns : goal.returns
+returns c = c.strictly_holds.ensures
