@@ -5,7 +5,7 @@ use borrow.Author.Rules.{rules}
 use Rattle.archivelines.proofs.put_answer.Goals as goal
 
 pub returns-then-numbers-ne0 : goal.returns-then-numbers-ne0
-returns-then-numbers-ne0 c = (answer_refused _ _ _ _ c.if-numbers-ne0.true c.Put-refused.ensures.0, omega (arith, c.Put-refused.ensures.1))
+returns-then-numbers-ne0 c = (answer_refused _ _ _ _ c.if-numbers-ne0.true c.put_refused.ensures.0, omega (arith, c.put_refused.ensures.1))
 
 pub returns-then-op-eq3 : goal.returns-then-op-eq3
 returns-then-op-eq3 c = (answer_arrival _ _ _ _ c.if-numbers-ne0.false c.if-op-eq3.true c.put_arrival.ensures.0, omega (arith, c.put_arrival.ensures.1))

@@ -12,7 +12,7 @@ use Rattle.arrivals.proofs.write_slots.Goals as goal
 
 pub put_two-requires : goal.put_two-requires
 put_two-requires c = let l = c.loop-i in
-        omega (arith, c.requires.1, c.loop-i-test.true, same_answers c.args.weights.now c.args.held.now c.args.out l.i c.args.answers-1.now l.answers-1 l.invariant.1)
+        omega (arith, c.requires.1, c.loop-i-test.true, same_answers c.args.weights.now c.args.held.now c.args.out l.i c.args.answers.now l.answers-1 l.invariant.1)
 
 pub loop-i-preserved : goal.loop-i-preserved
 loop-i-preserved c =             let l = c.loop-i in

@@ -5,4 +5,4 @@ use Rattle.chacha20.proofs.chacha20_block.Goals as goal
 
 pub returns : goal.returns
 unfolding chacha20_block
-returns c = rw (c.put_numbers.ensures, c.Block-of.ensures, c.state_of-state.ensures)
+returns c = rw (c.put_numbers.ensures, c.block_of.ensures, c.state_of-state.ensures)

@@ -12,7 +12,7 @@ loop-i-init c = (zero-le, refl)
 
 pub loop-i-preserved : goal.loop-i-preserved
 unfolding outside_sum total
-loop-i-preserved c = (omega arith, rw (add-one, c.Outside-of.ensures, c.loop-i.invariant.1))
+loop-i-preserved c = (omega arith, rw (add-one, c.outside_of-sum.ensures, c.loop-i.invariant.1))
 
 pub returns : goal.returns
 returns c = let e : c.loop-i.i ≡ width = omega arith in

@@ -11,4 +11,4 @@ pub returns-in-NoCut : goal.returns-in-NoCut
 returns-in-NoCut c = ap (chosen_by none_chosen 0) (sym c.enum_told-1.given.1 ∙ c.whole_cut_and_separation-first.ensures)
 
 pub returns-in-Drawn : goal.returns-in-Drawn
-returns-in-Drawn c = c.Chosen-at.ensures ∙ ap (chosen_by none_chosen 0) (sym c.first-1.given.1 ∙ c.whole_cut_and_separation-first.ensures)
+returns-in-Drawn c = c.chosen_at.ensures ∙ ap (chosen_by none_chosen 0) (sym c.first-1.given.1 ∙ c.whole_cut_and_separation-first.ensures)

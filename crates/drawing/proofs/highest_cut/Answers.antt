@@ -60,7 +60,7 @@ ends_above-requires c = let q = (entry c.before).pre in
 branch_ends : (c : goal.After-ends-in-loop-m-1) →
     let a = (entry c.before).args in
     let s = a.sizes.now in
-    Ends (capacity_of s) (cached_of s) (channels_of s) a.nodes.now a.points.now a.boxes.now a.path.now a.len a.leaf a.words.now a.point.now c.loop-m.m c.node_of-branch.result c.if-partly.ends-then-partly-1
+    Ends (capacity_of s) (cached_of s) (channels_of s) a.nodes.now a.points.now a.boxes.now a.path.now a.len a.leaf a.words.now a.point.now c.loop-m.m c.node_of-branch.result c.if-partly.ends
 branch_ends c =
     let q = (entry c.before).pre in
     let D = q.1.0.drawing in
@@ -94,7 +94,7 @@ pub loop-m-smaller : goal.loop-m-smaller
 loop-m-smaller c = omega (arith, c.loop-m-test.true)
 
 pub loop-m-preserved : goal.loop-m-preserved
-loop-m-preserved c = going_on _ _ _ _ _ _ _ _ _ _ _ _ _ _ c.loop-m.invariant c.loop-m-test.true _ c.node_of-branch.ensures _ (branch_ends c.before) (omega (arith, c.shared_slice_known-in-loop-m-1.given c.loop-m.m)) _ c.drawn_of-drawn.ensures _ _ c.drawn-1.given.1 _ c.Chosen-at.ensures
+loop-m-preserved c = going_on _ _ _ _ _ _ _ _ _ _ _ _ _ _ c.loop-m.invariant c.loop-m-test.true _ c.node_of-branch.ensures _ (branch_ends c.before) (omega (arith, c.shared_slice_known-in-loop-m-1.given c.loop-m.m)) _ c.drawn_of-drawn.ensures _ _ c.drawn-1.given.1 _ c.chosen_at-chosen.ensures
 
 pub highest_of-requires-2 : goal.highest_of-requires-2
 highest_of-requires-2 c = chosen_number _ _ _ _ _ _ _ _ _ _ _ _ _ _ c.loop-m.invariant (entry c.before).pre.1.0

@@ -13,10 +13,10 @@ pub returns-then-op-eq0 : goal.returns-then-op-eq0
 returns-then-op-eq0 c = put_bad _ _ _ c.if-op-eq0.true c.all_coordinates.ensures c.if-all_coordinates.false
 
 pub returns-then-all_words : goal.returns-then-all_words
-returns-then-all_words c = add_good _ _ _ c.if-op-eq1.true c.All-words.ensures c.if-all_words.true
+returns-then-all_words c = add_good _ _ _ c.if-op-eq1.true c.all_words.ensures c.if-all_words.true
 
 pub returns-then-op-eq1 : goal.returns-then-op-eq1
-returns-then-op-eq1 c = add_bad _ _ _ c.if-op-eq1.true c.All-words.ensures c.if-all_words.false
+returns-then-op-eq1 c = add_bad _ _ _ c.if-op-eq1.true c.all_words.ensures c.if-all_words.false
 
 pub returns-then-row-start : goal.returns-then-row-start
 returns-then-row-start c = delete_good _ _ _ c.if-op-eq2.true c.if-row-start.true

@@ -10,10 +10,10 @@ pub returns-then-is_beyond : goal.returns-then-is_beyond
 returns-then-is_beyond c = words_none _ c.requires c.is_beyond.ensures _ c.if-is_beyond.true
 
 pub slice_bounds-fill_from-end-2 : goal.slice_bounds-fill_from-end-2
-slice_bounds-fill_from-end-2 c = sym (length-take-le c.at_most-n.result c.args.words-1.now (omega arith))
+slice_bounds-fill_from-end-2 c = sym (length-take-le c.at_most-n.result c.args.words.now (omega arith))
 
 pub fill_from-requires : goal.fill_from-requires
-fill_from-requires c = record { named = c.requires; had = had _ c.requires c.is_beyond.ensures c.if-is_beyond.false; within = (search rules, omega (arith, length-take-le c.at_most-n.result c.args.words-1.now (omega arith))) }
+fill_from-requires c = record { named = c.requires; had = had _ c.requires c.is_beyond.ensures c.if-is_beyond.false; within = (search rules, omega (arith, length-take-le c.at_most-n.result c.args.words.now (omega arith))) }
 
 pub returns : goal.returns
 returns c = words_are _ c.requires c.is_beyond.ensures _ c.if-is_beyond.false c.at_most-n.ensures c.fill_from.ensures

@@ -9,9 +9,9 @@ put_copies-requires c = index_low c.requires.0.reached
 
 pub lift-requires : goal.lift-requires
 lift-requires c = let s = c.requires in
-    let a = fork_asks s.0.reached s.1.0 s.1.1 _ _ c.Node-at.ensures c.sibling_at-s.ensures in
+    let a = fork_asks s.0.reached s.1.0 s.1.1 _ _ c.node_at-b.ensures c.sibling_at-s.ensures in
     (a.0, (omega (arith, s.0.reached.walked.most), (s.0.reached.walked.long, a.1)))
 
 pub returns : goal.returns
 returns c = let s = c.requires in
-    λ d x t p w. rw (c.lift.ensures.0, c.lift.ensures.1, c.put_copies.ensures) (fork_arrays w s.1.0 s.1.1 _ _ c.Node-at.ensures c.sibling_at-s.ensures)
+    λ d x t p w. rw (c.lift.ensures.0, c.lift.ensures.1, c.put_copies.ensures) (fork_arrays w s.1.0 s.1.1 _ _ c.node_at-b.ensures c.sibling_at-s.ensures)

@@ -8,7 +8,7 @@ same_point-requires c = record { narrow = c.requires.0; padded = (c.requires.1.0
 
 pub returns-then-same_point : goal.returns-then-same_point
 unfolding of_bits
-returns-then-same_point c = rw (← c.same_point.ensures, c.if-same_point.true) c.Numbers-of.ensures
+returns-then-same_point c = rw (← c.same_point.ensures, c.if-same_point.true) c.numbers_of.ensures
 
 pub returns : goal.returns
 unfolding of_bits

@@ -19,7 +19,7 @@ pub node_at-leaf_id-requires : goal.node_at-leaf_id-requires
 node_at-leaf_id-requires c = let w = c.requires.0.writing.walked in omega (arith, w.count, w.most)
 
 pub mass_of-leaf_mass-requires : goal.mass_of-leaf_mass-requires
-mass_of-leaf_mass-requires c = let w = c.requires.0.writing in mass_asks w _ 0 (omega (arith, w.walked.count)) _ c.Node-at.ensures
+mass_of-leaf_mass-requires c = let w = c.requires.0.writing in mass_asks w _ 0 (omega (arith, w.walked.count)) _ c.node_at-leaf_id.ensures
 
 pub overflow_sub-len-2 : goal.overflow_sub-len-2
 overflow_sub-len-2 c = omega (arith, c.requires.0.writing.walked.count)
@@ -41,7 +41,7 @@ pub loop-m-init : goal.loop-m-init
 loop-m-init c = let p = c.requires.0 in
     let w = p.writing.walked in (
       going_starts _ _ _ _ _ _ _ _ _ c.args.rows.now p.room (omega (arith, w.count)) _
-          _ (omega (arith, w.count)) _ c.Node-at.ensures _ c.leaf_at-leaf.ensures _ c.mass_of-leaf_mass.ensures c.leaf_row.ensures _ p.writing,
+          _ (omega (arith, w.count)) _ c.node_at-leaf_id.ensures _ c.leaf_at-leaf.ensures _ c.mass_of-leaf_mass.ensures c.leaf_row.ensures _ p.writing,
       record { two = refl; low = p.point-padded; high = p.point-padded },
     )
 
@@ -125,7 +125,7 @@ loop-m-preserved c = let p = c.requires in
     let o = c.wide16-branch.ensures.0 ∙ n in
     let r = c.branch_ends.ensures in (
       going_on _ _ _ _ _ _ _ _ _ c.args.chances.now p.1 m _ _ _ g h _ (omega (arith, h)) _ o _ (λ l. branch_box _ _ _ _ _ _ _ _ _ w m g.some h _ e _ f _ s _ o _ (r.1.0 l))
-          _ n _ c.mass_of-mass.ensures _ c.chance_of-chance.ensures _ c.Numbers-of.ensures,
+          _ n _ c.mass_of-mass.ensures _ c.chance_of-chance.ensures _ c.numbers_of.ensures,
       r.1.1,
     )
 

@@ -50,7 +50,7 @@ pub narrow_size-requires : goal.narrow_size-requires
 narrow_size-requires c = low c.args.x (held c) (self_number c.args.x c.if-x.false) c.if-bits-lt-SIGN_64.true
 
 pub returns-then-bits-lt-SIGN_64 : goal.returns-then-bits-lt-SIGN_64
-returns-then-bits-lt-SIGN_64 c = c.narrow_Size.ensures ∙ plus c.args.x (held c)
+returns-then-bits-lt-SIGN_64 c = c.narrow_size.ensures ∙ plus c.args.x (held c)
 
 pub narrow_size-requires-2 : goal.narrow_size-requires-2
 narrow_size-requires-2 c = high c.args.x (held c) (self_number c.args.x c.if-x.false) c.if-bits-lt-SIGN_64.false

@@ -25,7 +25,7 @@ number_or_none-kind-requires c =     making_whole c.args.run.now c.requires.0
 
 pub loop-p-init : goal.loop-p-init
 loop-p-init c =     let e = c.making_width-p.ensures.0 in
-    (omega (arith, e, making_fits c.args.run.now c.requires.0), refl, c.number_or_none-kind.ensures.0, λ final count R. subst (λ (q : ℕ). Running c.args.run.now q 1 c.args.tree (kept (lent c.args.nodes.now c.args.cuts.now c.args.copies.now c.args.free.now c.args.boxes.now) c.args.points.now c.args.written.now c.args.weights.now c.args.held.now) c.args.answers-1.now final count) (sym e) R)
+    (omega (arith, e, making_fits c.args.run.now c.requires.0), refl, c.number_or_none-kind.ensures.0, λ final count R. subst (λ (q : ℕ). Running c.args.run.now q 1 c.args.tree (kept (lent c.args.nodes.now c.args.cuts.now c.args.copies.now c.args.free.now c.args.boxes.now) c.args.points.now c.args.written.now c.args.weights.now c.args.held.now) c.args.answers.now final count) (sym e) R)
 
 pub answer_width-width-requires : goal.answer_width-width-requires
 answer_width-width-requires c = (c.requires.0, below _ _ _ c.loop-p-test.true c.type_size.ensures)

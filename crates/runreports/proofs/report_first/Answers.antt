@@ -11,7 +11,7 @@ pub slice_bounds-traverse_in-end : goal.slice_bounds-traverse_in-end
 slice_bounds-traverse_in-end c = sym (length-take-le c.args.k c.args.coordinates.now (omega arith))
 
 pub slice_bounds-traverse_in-end-3 : goal.slice_bounds-traverse_in-end-3
-slice_bounds-traverse_in-end-3 c = sym (length-take-le c.args.n c.args.rows-1.now (omega arith))
+slice_bounds-traverse_in-end-3 c = sym (length-take-le c.args.n c.args.rows.now (omega arith))
 
 pub returns : goal.returns
 returns c =     let s = c.args in

@@ -13,10 +13,10 @@ arrival_at-next-requires c =     let q = c.requires.1.0 in
 
 pub write_reply-requires : goal.write_reply-requires
 write_reply-requires c =     let q = c.requires.1.0 in
-    let r = room c.args.words.now c.args.reply.now [] c.args.answers-1.now in
+    let r = room c.args.words.now c.args.reply.now [] c.args.answers.now in
     let d = c.arrival_at-next.ensures in
     (few c.args.run.now c.args.p c.requires.0.0 c.requires.0.1 c.args.out c.args.current (kept (lent c.args.nodes.now c.args.cuts.now c.args.copies.now c.args.free.now c.args.boxes.now) c.args.points.now c.args.written.now c.args.weights.now c.args.held.now) r _ _ _ _ _ _ [] d.0 d.1.0 q.world q.standing, c.requires.1.1)
 
 pub returns : goal.returns
 returns c =     let d = c.arrival_at-next.ensures in
-    record { done = λ rows X S. stepped c.args.run.now c.args.p c.requires.0.0 c.requires.0.1 c.args.out c.args.current (kept (lent c.args.nodes.now c.args.cuts.now c.args.copies.now c.args.free.now c.args.boxes.now) c.args.points.now c.args.written.now c.args.weights.now c.args.held.now) (room c.args.words.now c.args.reply.now rows c.args.answers-1.now) _ _ _ _ _ _ _ d.0 d.1.0 X S c.write_reply.ensures; path = d.1.1 }
+    record { done = λ rows X S. stepped c.args.run.now c.args.p c.requires.0.0 c.requires.0.1 c.args.out c.args.current (kept (lent c.args.nodes.now c.args.cuts.now c.args.copies.now c.args.free.now c.args.boxes.now) c.args.points.now c.args.written.now c.args.weights.now c.args.held.now) (room c.args.words.now c.args.reply.now rows c.args.answers.now) _ _ _ _ _ _ _ d.0 d.1.0 X S c.write_reply.ensures; path = d.1.1 }

@@ -14,7 +14,7 @@ call_at-tree-requires c =     let q = c.requires.1.0.some in
 pub write_reply-requires : goal.write_reply-requires
 write_reply-requires c =     let q = c.requires.1.0 in
     let k = kept (lent c.args.nodes.now c.args.cuts.now c.args.copies.now c.args.free.now c.args.boxes.now) c.args.points.now c.args.written.now q.weights q.held in
-    let r = room c.args.words.now c.args.reply.now [] c.args.answers-1.now in
+    let r = room c.args.words.now c.args.reply.now [] c.args.answers.now in
     let d = c.call_at-tree.ensures in
     (few c.args.run.now c.args.p c.requires.0.0 c.requires.0.1 c.args.out _ c.args.current k r _ _ _ _ _ _ [] c.requires.1.1.0 d.0 d.1 q.some.world q.some.standing, c.requires.1.1.1)
 
@@ -22,5 +22,5 @@ pub returns : goal.returns
 returns c =     let d = c.call_at-tree.ensures in
     λ weights held rows X S.
     let k = kept (lent c.args.nodes.now c.args.cuts.now c.args.copies.now c.args.free.now c.args.boxes.now) c.args.points.now c.args.written.now weights held in
-    let r = room c.args.words.now c.args.reply.now rows c.args.answers-1.now in
+    let r = room c.args.words.now c.args.reply.now rows c.args.answers.now in
     stepped c.args.run.now c.args.p c.requires.0.0 c.requires.0.1 c.args.out _ c.args.current k r _ _ _ _ _ _ _ c.requires.1.1.0 d.0 d.1 X S c.write_reply.ensures

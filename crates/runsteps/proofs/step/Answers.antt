@@ -11,7 +11,7 @@ use Rattle.runsteps.proofs.step.Goals as goal
 
 pub arrival_step-requires : goal.arrival_step-requires
 arrival_step-requires c =     let six = sym c.requires.0.1 ∙ c.if-kind-eq6.true in
-    record { arrival = (six, c.requires.0.0); state = c.requires.1.0; room = arrival_room c.args.run.now c.args.p six c.args.width c.args.out c.args.answers-1.now c.requires.1.1.0 c.requires.1.1.1 }
+    record { arrival = (six, c.requires.0.0); state = c.requires.1.0; room = arrival_room c.args.run.now c.args.p six c.args.width c.args.out c.args.answers.now c.requires.1.1.0 c.requires.1.1.1 }
 
 pub returns-then-kind-eq6 : goal.returns-then-kind-eq6
 returns-then-kind-eq6 c =     let six = sym c.requires.0.1 ∙ c.if-kind-eq6.true in
@@ -19,19 +19,19 @@ returns-then-kind-eq6 c =     let six = sym c.requires.0.1 ∙ c.if-kind-eq6.tru
 
 pub report_at-requires : goal.report_at-requires
 report_at-requires c =     let seven = sym c.requires.0.1 ∙ c.if-kind-eq7.true in
-    record { place = report_inside c.args.run.now c.args.p c.requires.0.0 seven; room = report_room c.args.run.now c.args.p c.requires.0.0 seven c.args.width c.args.out c.args.answers-1.now c.requires.1.1.0 c.requires.1.1.1; state = readable c.args.run.now c.args.p c.requires.0.0 seven c.args.current (kept (lent c.args.nodes.now c.args.cuts.now c.args.copies.now c.args.free.now c.args.boxes.now) c.args.points.now c.args.written.now c.args.weights.now c.args.held.now) c.requires.1.0 }
+    record { place = report_inside c.args.run.now c.args.p c.requires.0.0 seven; room = report_room c.args.run.now c.args.p c.requires.0.0 seven c.args.width c.args.out c.args.answers.now c.requires.1.1.0 c.requires.1.1.1; state = readable c.args.run.now c.args.p c.requires.0.0 seven c.args.current (kept (lent c.args.nodes.now c.args.cuts.now c.args.copies.now c.args.free.now c.args.boxes.now) c.args.points.now c.args.written.now c.args.weights.now c.args.held.now) c.requires.1.0 }
 
 pub returns-then-kind-eq7 : goal.returns-then-kind-eq7
 returns-then-kind-eq7 c =     let seven = sym c.requires.0.1 ∙ c.if-kind-eq7.true in
-    (reported c.args.run.now c.args.p c.requires.0.0 seven c.args.out c.args.current (kept (lent c.args.nodes.now c.args.cuts.now c.args.copies.now c.args.free.now c.args.boxes.now) c.args.points.now c.args.written.now c.args.weights.now c.args.held.now) (room c.args.words.now c.args.reply.now c.args.rows.now c.args.answers-1.now) _ _ c.report_at.ensures.0, report_works c.args.run.now c.args.p c.args.current (kept (lent c.args.nodes.now c.args.cuts.now c.args.copies.now c.args.free.now c.args.boxes.now) c.args.points.now c.args.written.now c.args.weights.now c.args.held.now) c.args.path.now c.args.chances.now _ _ seven c.report_at.ensures.1)
+    (reported c.args.run.now c.args.p c.requires.0.0 seven c.args.out c.args.current (kept (lent c.args.nodes.now c.args.cuts.now c.args.copies.now c.args.free.now c.args.boxes.now) c.args.points.now c.args.written.now c.args.weights.now c.args.held.now) (room c.args.words.now c.args.reply.now c.args.rows.now c.args.answers.now) _ _ c.report_at.ensures.0, report_works c.args.run.now c.args.p c.args.current (kept (lent c.args.nodes.now c.args.cuts.now c.args.copies.now c.args.free.now c.args.boxes.now) c.args.points.now c.args.written.now c.args.weights.now c.args.held.now) c.args.path.now c.args.chances.now _ _ seven c.report_at.ensures.1)
 
 pub write_sample-requires : goal.write_sample-requires
 write_sample-requires c =     let eleven = sym c.requires.0.1 ∙ c.if-kind-eq11.true in
-    sample_room c.args.run.now c.args.p c.requires.0.0 eleven c.args.width c.args.out c.args.answers-1.now c.args.current (kept (lent c.args.nodes.now c.args.cuts.now c.args.copies.now c.args.free.now c.args.boxes.now) c.args.points.now c.args.written.now c.args.weights.now c.args.held.now) c.requires.1.0 c.requires.1.1.0 c.requires.1.1.1
+    sample_room c.args.run.now c.args.p c.requires.0.0 eleven c.args.width c.args.out c.args.answers.now c.args.current (kept (lent c.args.nodes.now c.args.cuts.now c.args.copies.now c.args.free.now c.args.boxes.now) c.args.points.now c.args.written.now c.args.weights.now c.args.held.now) c.requires.1.0 c.requires.1.1.0 c.requires.1.1.1
 
 pub returns-then-kind-eq11 : goal.returns-then-kind-eq11
 returns-then-kind-eq11 c =     let eleven = sym c.requires.0.1 ∙ c.if-kind-eq11.true in
-    (sampled_told c.args.run.now c.args.p c.requires.0.0 eleven c.args.out c.args.current (kept (lent c.args.nodes.now c.args.cuts.now c.args.copies.now c.args.free.now c.args.boxes.now) c.args.points.now c.args.written.now c.args.weights.now c.args.held.now) (room c.args.words.now c.args.reply.now c.args.rows.now c.args.answers-1.now) _ c.write_sample.ensures, other_works c.args.run.now c.args.p c.args.current (kept (lent c.args.nodes.now c.args.cuts.now c.args.copies.now c.args.free.now c.args.boxes.now) c.args.points.now c.args.written.now c.args.weights.now c.args.held.now) c.args.path.now c.args.chances.now _ _ (λ x. c.if-kind-eq6.false (c.requires.0.1 ∙ x)) (λ x. c.if-kind-eq7.false (c.requires.0.1 ∙ x)) refl refl)
+    (sampled_told c.args.run.now c.args.p c.requires.0.0 eleven c.args.out c.args.current (kept (lent c.args.nodes.now c.args.cuts.now c.args.copies.now c.args.free.now c.args.boxes.now) c.args.points.now c.args.written.now c.args.weights.now c.args.held.now) (room c.args.words.now c.args.reply.now c.args.rows.now c.args.answers.now) _ c.write_sample.ensures, other_works c.args.run.now c.args.p c.args.current (kept (lent c.args.nodes.now c.args.cuts.now c.args.copies.now c.args.free.now c.args.boxes.now) c.args.points.now c.args.written.now c.args.weights.now c.args.held.now) c.args.path.now c.args.chances.now _ _ (λ x. c.if-kind-eq6.false (c.requires.0.1 ∙ x)) (λ x. c.if-kind-eq7.false (c.requires.0.1 ∙ x)) refl refl)
 
 pub plain_step-requires : goal.plain_step-requires
 plain_step-requires c =     let e = c.requires.0.1 in

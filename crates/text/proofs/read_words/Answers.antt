@@ -26,7 +26,7 @@ pub loop-at-smaller : goal.loop-at-smaller
 loop-at-smaller c = omega arith
 
 pub loop-at-preserved : goal.loop-at-preserved
-loop-at-preserved c = store_step c.loop-at.invariant c.loop-at-test.true c.piece_end-end.ensures c.word_at-word.ensures c.Store-word.ensures
+loop-at-preserved c = store_step c.loop-at.invariant c.loop-at-test.true c.piece_end-end.ensures c.word_at-word.ensures c.store_word.ensures
 
 pub shape_of-words : goal.shape_of-words
 shape_of-words c = c.loop-at.invariant.long

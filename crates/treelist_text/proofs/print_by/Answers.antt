@@ -14,7 +14,7 @@ run_rows-requires c = record { within = c.requires.0; ready = record {
       } }
 
 pub returns-in-NotMade : goal.returns-in-NotMade
-returns-in-NotMade c = λ os e. not_made c.new-made.ensures _ _ c.made-1.given.1 c.wide8.ensures.0 os c.Put-refused.ensures.0
+returns-in-NotMade c = λ os e. not_made c.new-made.ensures _ _ c.made-1.given.1 c.wide8.ensures.0 os c.put_refused.ensures.0
 
 pub returns-in-Tree : goal.returns-in-Tree
 returns-in-Tree c =     let m = c.new-made.ensures in

@@ -8,4 +8,4 @@ pub returns-then-refusal-eq0 : goal.returns-then-refusal-eq0
 returns-then-refusal-eq0 c = (told_none _ c.if-refusal-eq0.true, omega arith)
 
 pub returns : goal.returns
-returns c = record { wrote = told_one _ c.if-refusal-eq0.false c.Put-refused.ensures.0; few = c.Put-refused.ensures.1 }
+returns c = record { wrote = told_one _ c.if-refusal-eq0.false c.put_refused.ensures.0; few = c.put_refused.ensures.1 }

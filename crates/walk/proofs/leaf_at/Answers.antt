@@ -5,7 +5,7 @@ use borrow.Author.Rules.{rules}
 use Rattle.walk.proofs.leaf_at.Goals as goal
 
 pub overflow_sub-result : goal.overflow_sub-result
-overflow_sub-result c = omega (arith, c.wide16-2.ensures.0, c.wide16.ensures.0, c.Node-at.ensures, last_is c.requires.walked)
+overflow_sub-result c = omega (arith, c.wide16-2.ensures.0, c.wide16.ensures.0, c.node_at.ensures, last_is c.requires.walked)
 
 pub returns : goal.returns
-returns c = λ d t p w. omega (arith, c.wide16-2.ensures.0, c.wide16.ensures.0, c.Node-at.ensures, last_is w)
+returns c = λ d t p w. omega (arith, c.wide16-2.ensures.0, c.wide16.ensures.0, c.node_at.ensures, last_is w)

@@ -10,17 +10,17 @@ use Rattle.wordsource.specs.Stream.{key_bytes, stream_words}
 use Rattle.wordsource.proofs.fill.Goals as goal
 
 pub returns-then-key-ne-KEY : goal.returns-then-key-ne-KEY
-returns-then-key-ne-KEY c = other_key c.args.key.now c.args.start c.args.words-1.now c.if-key-ne-KEY.true
+returns-then-key-ne-KEY c = other_key c.args.key.now c.args.start c.args.words.now c.if-key-ne-KEY.true
 
 pub returns-then-start-ge-LIMIT : goal.returns-then-start-ge-LIMIT
 returns-then-start-ge-LIMIT c =     let e : length c.args.key.now ≡ key_bytes = omega arith in
-    start_beyond c.args.key.now c.args.start c.args.words-1.now e (omega arith)
+    start_beyond c.args.key.now c.args.start c.args.words.now e (omega arith)
 
 pub returns-then-start-count : goal.returns-then-start-count
 returns-then-start-count c =     let e : length c.args.key.now ≡ key_bytes = omega arith in
-    runs_past c.args.key.now c.args.start c.args.words-1.now e (omega arith) (omega arith)
+    runs_past c.args.key.now c.args.start c.args.words.now e (omega arith) (omega arith)
 
 pub returns : goal.returns
 returns c =     let e : length c.args.key.now ≡ key_bytes = omega arith in
-    within c.args.key.now c.args.start c.args.words-1.now e (omega arith) (omega arith) c.put_stream.new.1.1.0
-    (c.put_stream.ensures ∙ ap (λ (k : List ℕ). stream_words k c.args.start (length c.args.words-1.now)) c.key_of.ensures)
+    within c.args.key.now c.args.start c.args.words.now e (omega arith) (omega arith) c.put_stream.new.1.1.0
+    (c.put_stream.ensures ∙ ap (λ (k : List ℕ). stream_words k c.args.start (length c.args.words.now)) c.key_of.ensures)

@@ -4,7 +4,7 @@ use borrow.Author.Rules.{rules}
 use Rattle.randomcuttree.proofs.RCFTree.find.Goals as goal
 
 pub returns-then-self-eq0 : goal.returns-then-self-eq0
-returns-then-self-eq0 c = record { empty = λ z. (c.no_Walk.ensures, refl); walked = λ n. absurd (n c.if-self-eq0.true) }
+returns-then-self-eq0 c = record { empty = λ z. (c.no_walk.ensures, refl); walked = λ n. absurd (n c.if-self-eq0.true) }
 
 pub find-requires : goal.find-requires
 find-requires c = c.requires c.if-self-eq0.false

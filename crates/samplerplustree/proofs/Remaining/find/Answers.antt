@@ -11,4 +11,4 @@ pub returns-then-is_taken : goal.returns-then-is_taken
 returns-then-is_taken c = record { untaken = λ t. clash _ (sym c.is_taken.ensures ∙ c.if-is_taken.true) t; taken = λ t. c.find.ensures }
 
 pub returns : goal.returns
-returns c = record { untaken = λ t. (c.no_Walk.ensures, refl); taken = λ t. clash _ t (sym c.is_taken.ensures ∙ c.if-is_taken.false) }
+returns c = record { untaken = λ t. (c.no_walk.ensures, refl); taken = λ t. clash _ t (sym c.is_taken.ensures ∙ c.if-is_taken.false) }
