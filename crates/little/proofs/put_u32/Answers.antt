@@ -24,4 +24,4 @@ four at x e e₁ e₂ e₃ e₄ a b c d =
 
 pub returns : goal.returns
 returns c =             let args = c.args in
-    four args.at args.x args.bytes-1.now _ _ _ _ c.put_byte.ensures c.put_byte-2.ensures c.put_byte-3.ensures c.put_byte-4.ensures
+    four args.at args.x args.bytes.now _ _ _ _ c.put_byte.ensures c.put_byte-2.ensures c.put_byte-3.ensures c.put_byte-4.ensures

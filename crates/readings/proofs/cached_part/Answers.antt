@@ -1,13 +1,13 @@
 -- `readings::cached_part` meets its contract: -1.0 and 2^64 are unfolded to the values that the laws name. Assumes nothing.
-use Rattle.std.proofs.Common.{pos, sym, rules}
+use Rattle.std.proofs.Common.{pos, sym, rules, ℕ}
 use lib.Ieee.{Float, binary64, of_bits, of_int, mul, neg}
 use Rattle.readings.specs.Share.{cached_part}
 use Rattle.readings.proofs.Tests.{yes}
 use Rattle.readings.proofs.Shares.{unsigned_over, unsigned_under}
 use Rattle.readings.proofs.cached_part.Goals as goal
 
-abbrev product : goal.Start → Float
-product c = mul binary64 c.args.share (of_int binary64 (pos c.args.capacity))
+abbrev product : Float → ℕ → Float
+product share capacity = mul binary64 share (of_int binary64 (pos capacity))
 
 pub truncating_f64_to_u64-requires : goal.truncating_f64_to_u64-requires
 unfolding of_bits neg
@@ -19,8 +19,8 @@ returns-then-product-2 c = c.truncating_f64_to_u64.ensures
 
 pub returns-then-product : goal.returns-then-product
 unfolding cached_part of_bits neg
-returns-then-product c = sym (unsigned_over (product c.before) c.if-product.true c.if-product-2.false)
+returns-then-product c = sym (unsigned_over (product c.args.share c.args.capacity) c.if-product.true c.if-product-2.false)
 
 pub returns : goal.returns
 unfolding cached_part of_bits neg
-returns c = sym (unsigned_under (product c.before) c.if-product.false)
+returns c = sym (unsigned_under (product c.args.share c.args.capacity) c.if-product.false)

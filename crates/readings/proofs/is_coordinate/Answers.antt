@@ -10,9 +10,6 @@ use Rattle.readings.proofs.Numbers.{self_number}
 use Rattle.readings.proofs.CoordinateBits.{some, zeroes}
 use Rattle.readings.proofs.is_coordinate.Goals as goal
 
-held : (c : goal.Start) → T (fits binary32 c.args.x)
-held c = subst T (sym c.well_formed.0.1) tt
-
 nan_no : false ≡ is_coordinate nan
 unfolding is_coordinate
 nan_no = refl
@@ -56,13 +53,13 @@ pub float_to_bits-bits : goal.float_to_bits-bits
 float_to_bits-bits c = self_number c.args.x c.if-x.false
 
 pub returns-then-size-eq0 : goal.returns-then-size-eq0
-returns-then-size-eq0 c = at_zero c.args.x (held c) c.if-size-eq0.true
+returns-then-size-eq0 c = at_zero c.args.x (subst T (sym c.well_formed.0.1) tt) c.if-size-eq0.true
 
 pub overflow_add-zeros : goal.overflow_add-zeros
-overflow_add-zeros c = sum_fits c.args.x (held c)
+overflow_add-zeros c = sum_fits c.args.x (subst T (sym c.well_formed.0.1) tt)
 
 pub returns-then-zeros-field-lt150 : goal.returns-then-zeros-field-lt150
-returns-then-zeros-field-lt150 c = fraction c.args.x (held c) c.if-size-eq0.false (omega (arith, c.if-zeros-field-lt150.true))
+returns-then-zeros-field-lt150 c = fraction c.args.x (subst T (sym c.well_formed.0.1) tt) c.if-size-eq0.false (omega (arith, c.if-zeros-field-lt150.true))
 
 pub returns : goal.returns
-returns c = whole c.args.x (held c) c.if-size-eq0.false (omega (arith, c.if-zeros-field-lt150.false))
+returns c = whole c.args.x (subst T (sym c.well_formed.0.1) tt) c.if-size-eq0.false (omega (arith, c.if-zeros-field-lt150.false))

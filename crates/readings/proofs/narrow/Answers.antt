@@ -10,9 +10,6 @@ use Rattle.readings.proofs.Narrows.{narrowed_neg}
 use Rattle.readings.proofs.NarrowBits.{sign_set, number_size}
 use Rattle.readings.proofs.narrow.Goals as goal
 
-held : (c : goal.Start) → T (fits binary64 c.args.x)
-held c = subst T (sym c.well_formed.0.1) tt
-
 -- 0 / 0
 none : div binary32 (of_bits binary32 0) (of_bits binary32 0) ≡ narrowed nan
 unfolding div of_bits narrowed
@@ -47,13 +44,13 @@ pub float_to_bits-bits : goal.float_to_bits-bits
 float_to_bits-bits c = self_number c.args.x c.if-x.false
 
 pub narrow_size-requires : goal.narrow_size-requires
-narrow_size-requires c = low c.args.x (held c) (self_number c.args.x c.if-x.false) c.if-bits-lt-SIGN_64.true
+narrow_size-requires c = low c.args.x (subst T (sym c.well_formed.0.1) tt) (self_number c.args.x c.if-x.false) c.if-bits-lt-SIGN_64.true
 
 pub returns-then-bits-lt-SIGN_64 : goal.returns-then-bits-lt-SIGN_64
-returns-then-bits-lt-SIGN_64 c = c.narrow_size.ensures ∙ plus c.args.x (held c)
+returns-then-bits-lt-SIGN_64 c = c.narrow_size.ensures ∙ plus c.args.x (subst T (sym c.well_formed.0.1) tt)
 
 pub narrow_size-requires-2 : goal.narrow_size-requires-2
-narrow_size-requires-2 c = high c.args.x (held c) (self_number c.args.x c.if-x.false) c.if-bits-lt-SIGN_64.false
+narrow_size-requires-2 c = high c.args.x (subst T (sym c.well_formed.0.1) tt) (self_number c.args.x c.if-x.false) c.if-bits-lt-SIGN_64.false
 
 pub returns : goal.returns
-returns c = ap neg c.narrow_size-2.ensures ∙ minus c.args.x (held c) c.if-bits-lt-SIGN_64.false
+returns c = ap neg c.narrow_size-2.ensures ∙ minus c.args.x (subst T (sym c.well_formed.0.1) tt) c.if-bits-lt-SIGN_64.false

@@ -5,20 +5,20 @@ use lib.Ieee.Nearest.{closest}
 use Rattle.readings.proofs.NarrowBits.{tiny, low_range, high_range, over, kept_bounds, pattern_no_nan}
 use Rattle.readings.proofs.narrow_size.Goals as goal
 
-abbrev field : goal.Start → ℕ
-field c = c.args.bits / 4503599627370496
+abbrev field : ℕ → ℕ
+field bits = bits / 4503599627370496
 
-abbrev digits : goal.Start → ℕ
-digits c = c.args.bits % 4503599627370496 + 4503599627370496
+abbrev digits : ℕ → ℕ
+digits bits = bits % 4503599627370496 + 4503599627370496
 
-kept_le : (c : goal.Start) (r i : ℕ) → r ≡ closest (digits c) (2 ^ i) → 29 ≤ i → r ≤ 16777216
-kept_le c r i e h = subst (λ (z : ℕ). z ≤ 16777216) (sym e) (kept_bounds c.args.bits c.requires i h)
+kept_le : (bits : ℕ) → bits ≤ 9218868437227405312 → (r i : ℕ) → r ≡ closest (digits bits) (2 ^ i) → 29 ≤ i → r ≤ 16777216
+kept_le bits most r i e h = subst (λ (z : ℕ). z ≤ 16777216) (sym e) (kept_bounds bits most i h)
 
 low_kept : (c : goal.After-nearest_shift-low) → c.nearest_shift-low.result ≤ 16777216
-low_kept c = kept_le c c.nearest_shift-low.result (926 - field c) c.nearest_shift-low.ensures (omega arith)
+low_kept c = kept_le c.args.bits c.requires c.nearest_shift-low.result (926 - field c.args.bits) c.nearest_shift-low.ensures (omega arith)
 
 high_kept : (c : goal.After-nearest_shift-high) → c.nearest_shift-high.result ≤ 16777216
-high_kept c = kept_le c.before c.nearest_shift-high.result 29 c.nearest_shift-high.ensures (leb→le 29 29 tt)
+high_kept c = kept_le c.args.bits c.requires c.nearest_shift-high.result 29 c.nearest_shift-high.ensures (leb→le 29 29 tt)
 
 pub returns-then-field-lt872 : goal.returns-then-field-lt872
 returns-then-field-lt872 c = tiny c.args.bits c.requires c.if-field-lt872.true
@@ -48,4 +48,4 @@ pub float_from_bits-result-2 : goal.float_from_bits-result-2
 float_from_bits-result-2 c = let k = high_kept c in pattern_no_nan _ (omega arith)
 
 pub returns : goal.returns
-returns c =     ap (λ (k : ℕ). of_bits binary32 ((field c - 897) * 8388608 + k)) c.nearest_shift-high.ensures ∙ high_range c.args.bits c.requires c.if-field-lt897.false c.if-field-gt1150.false
+returns c =     ap (λ (k : ℕ). of_bits binary32 ((field c.args.bits - 897) * 8388608 + k)) c.nearest_shift-high.ensures ∙ high_range c.args.bits c.requires c.if-field-lt897.false c.if-field-gt1150.false

@@ -14,7 +14,7 @@ loop-j-init c = (omega arith, block_none _ _ _ (search rules))
 
 pub loop-j-preserved : goal.loop-j-preserved
 loop-j-preserved c = let at = c.loop-j in
-    (omega arith, block_turn _ _ at.j at.block-1 _ (omega arith) at.invariant.1 refl)
+    (omega arith, block_turn _ _ at.j at.block _ (omega arith) at.invariant.1 refl)
 
 pub returns : goal.returns
 returns c = let e : c.loop-j.j ≡ lanes = omega arith in

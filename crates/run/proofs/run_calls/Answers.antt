@@ -66,9 +66,9 @@ loop-p-preserved c =     let l = c.loop-p in
     let d = c.step-current.ensures.0 in
     let g = c.width_at.ensures.0 in (
       omega (arith, g, within c.args.run.now l.p (stands c.args.run.now _ _ _ (kept (lent l.nodes l.cuts l.copies l.free l.boxes) l.points l.written l.weights l.held) _ _ _ R h)),
-      answers_length c.args.run.now _ _ _ (kept (lent l.nodes l.cuts l.copies l.free l.boxes) l.points l.written l.weights l.held) _ _ _ R h _ w.ensures.0 (room l.words-1 l.reply-1 l.rows-1 l.answers-1) _ _ _ d refl ∙ l.invariant.1,
+      answers_length c.args.run.now _ _ _ (kept (lent l.nodes l.cuts l.copies l.free l.boxes) l.points l.written l.weights l.held) _ _ _ R h _ w.ensures.0 (room l.words l.reply l.rows l.answers) _ _ _ d refl ∙ l.invariant.1,
       c.number_or_none-ahead.ensures.0,
-      λ final count R. turn c.args.run.now _ _ _ (kept (lent l.nodes l.cuts l.copies l.free l.boxes) l.points l.written l.weights l.held) _ _ _ (l.invariant.3 final count R) h _ w.ensures.0 (room l.words-1 l.reply-1 l.rows-1 l.answers-1) _ _ _ d refl _ (ap (λ (k : ℕ). l.p + k) g),
+      λ final count R. turn c.args.run.now _ _ _ (kept (lent l.nodes l.cuts l.copies l.free l.boxes) l.points l.written l.weights l.held) _ _ _ (l.invariant.3 final count R) h _ w.ensures.0 (room l.words l.reply l.rows l.answers) _ _ _ d refl _ (ap (λ (k : ℕ). l.p + k) g),
     )
 
 pub shape_of-answers : goal.shape_of-answers

@@ -21,4 +21,4 @@ returns c =                     let s = c.args in
     let j = c.number_at.ensures.0 in
     let k = c.at_most-k.ensures in
     let xs = firsts_taken _ _ _ _ c.read_coordinates.ensures (omega arith) in
-    record { told = report_there _ _ _ _ _ _ _ _ _ c.at_most.ensures _ _ _ c.report_first-answer.ensures.0 s.run.now s.p s.out _ _ s.answers-1.now _ c.number_at-n.ensures.0 j k xs c.write_report.ensures; memory = memory_there _ _ _ _ _ _ _ _ _ _ _ s.run.now s.p _ _ j k xs c.report_first-answer.ensures.1 }
+    record { told = report_there _ _ _ _ _ _ _ _ _ c.at_most.ensures _ _ _ c.report_first-answer.ensures.0 s.run.now s.p s.out _ _ s.answers.now _ c.number_at-n.ensures.0 j k xs c.write_report.ensures; memory = memory_there _ _ _ _ _ _ _ _ _ _ _ s.run.now s.p _ _ j k xs c.report_first-answer.ensures.1 }

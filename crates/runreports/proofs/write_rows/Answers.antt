@@ -15,12 +15,12 @@ put_row-requires c =         omega (arith, c.requires.1, c.loop-i-test.true, sam
 
 pub loop-i-preserved : goal.loop-i-preserved
 loop-i-preserved c =         let s = c.args in
-    (omega (arith, c.loop-i-test.true), row_turn (take s.count s.rows.now) s.out c.loop-i.i s.answers-1.now c.loop-i.answers c.loop-i.invariant.1 _ _ c.row_at.ensures c.put_row.ensures)
+    (omega (arith, c.loop-i-test.true), row_turn (take s.count s.rows.now) s.out c.loop-i.i s.answers.now c.loop-i.answers c.loop-i.invariant.1 _ _ c.row_at.ensures c.put_row.ensures)
 
 pub shape_of-answers : goal.shape_of-answers
 shape_of-answers c =     let s = c.args in
-    same_answers (take s.count s.rows.now) s.out c.loop-i.i s.answers-1.now c.loop-i.answers c.loop-i.invariant.1
+    same_answers (take s.count s.rows.now) s.out c.loop-i.i s.answers.now c.loop-i.answers c.loop-i.invariant.1
 
 pub returns : goal.returns
 returns c =     let s = c.args in
-    rows_all (take s.count s.rows.now) s.out c.loop-i.i s.answers-1.now c.loop-i.answers c.loop-i.invariant.1 s.n c.loop-i.invariant.0 (omega arith)
+    rows_all (take s.count s.rows.now) s.out c.loop-i.i s.answers.now c.loop-i.answers c.loop-i.invariant.1 s.n c.loop-i.invariant.0 (omega arith)

@@ -36,16 +36,16 @@ step out i reply e₀ e e' h f g =
 
 pub put_u32-requires : goal.put_u32-requires
 put_u32-requires c =     let l = c.loop-i in
-    omega (arith, c.requires.1, c.loop-i-test.true, same c.args.out l.i c.args.reply.now c.args.answers.now l.answers-1 l.invariant.1)
+    omega (arith, c.requires.1, c.loop-i-test.true, same c.args.out l.i c.args.reply.now c.args.answers.now l.answers l.invariant.1)
 
 pub loop-i-preserved : goal.loop-i-preserved
 loop-i-preserved c =     let l = c.loop-i in
     let r = c.args.reply.now in
-    (omega (arith, c.loop-i-test.true), step c.args.out l.i r c.args.answers.now l.answers-1 _ (omega (arith, c.requires.0, c.loop-i-test.true)) l.invariant.1 c.put_u32.ensures)
+    (omega (arith, c.loop-i-test.true), step c.args.out l.i r c.args.answers.now l.answers _ (omega (arith, c.requires.0, c.loop-i-test.true)) l.invariant.1 c.put_u32.ensures)
 
 pub shape_of-answers : goal.shape_of-answers
 shape_of-answers c =     let l = c.loop-i in
-    same c.args.out l.i c.args.reply.now c.args.answers.now l.answers-1 l.invariant.1
+    same c.args.out l.i c.args.reply.now c.args.answers.now l.answers l.invariant.1
 
 pub returns : goal.returns
 returns c =     let l = c.loop-i in
