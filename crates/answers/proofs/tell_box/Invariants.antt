@@ -12,7 +12,7 @@ use borrow.Author.Rules.{rules}
 use Rattle.answers.proofs.tell_box.Given as goal
 
 abbrev pub invariant-loop-i : goal.invariant-loop-i
-invariant-loop-i l = (l.d ≡ min l.dimensions width) × Told (get_or l.initial.reply 0 0) (λ (j : ℕ). to_bits binary32 (channel l.low-1 j)) (λ (j : ℕ). to_bits binary32 (channel l.high-1 j)) l.d l.i l.reply-1
+invariant-loop-i l = (l.d ≡ min l.dimensions width) × Told (get_or l.initial.reply 0 0) (λ (j : ℕ). to_bits binary32 (channel l.low j)) (λ (j : ℕ). to_bits binary32 (channel l.high j)) l.d l.i l.reply
 
 abbrev pub decreases-loop-i : goal.decreases-loop-i
 decreases-loop-i l = l.d - l.i

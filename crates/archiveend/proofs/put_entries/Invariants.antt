@@ -7,7 +7,7 @@ use borrow.Author.Rules.{rules}
 use Rattle.archiveend.proofs.put_entries.Given as goal
 
 abbrev pub invariant-loop-i : goal.invariant-loop-i
-invariant-loop-i l = Putting l.weights l.held l.n l.initial.out l.at l.i l.p l.out-1
+invariant-loop-i l = Putting l.weights l.held l.n l.initial.out l.at l.i l.p l.out
 
 abbrev pub decreases-loop-i : goal.decreases-loop-i
 decreases-loop-i l = l.n - l.i

@@ -7,4 +7,4 @@ use Rattle.archiveend.proofs.put_entry.Goals as goal
 
 pub returns : goal.returns
 unfolding entry_line
-returns c = record { wrote = then (then c.put_hex-p.ensures.0 c.put_bytes-q.ensures) c.put_last.ensures.0; few = omega arith }
+returns c = record { wrote = then (then c.put_hex-p.ensures.wrote c.put_bytes-q.ensures) c.put_last.ensures.wrote; few = omega arith }

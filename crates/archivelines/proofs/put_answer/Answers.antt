@@ -5,13 +5,13 @@ use borrow.Author.Rules.{rules}
 use Rattle.archivelines.proofs.put_answer.Goals as goal
 
 pub returns-then-numbers-ne0 : goal.returns-then-numbers-ne0
-returns-then-numbers-ne0 c = (answer_refused _ _ _ _ c.if-numbers-ne0.true c.put_refused.ensures.0, omega (arith, c.put_refused.ensures.1))
+returns-then-numbers-ne0 c = record { wrote = answer_refused _ _ _ _ c.if-numbers-ne0.true c.put_refused.ensures.wrote; fits = omega (arith, c.put_refused.ensures.few) }
 
 pub returns-then-op-eq3 : goal.returns-then-op-eq3
-returns-then-op-eq3 c = (answer_arrival _ _ _ _ c.if-numbers-ne0.false c.if-op-eq3.true c.put_arrival.ensures.0, omega (arith, c.put_arrival.ensures.1))
+returns-then-op-eq3 c = record { wrote = answer_arrival _ _ _ _ c.if-numbers-ne0.false c.if-op-eq3.true c.put_arrival.ensures.wrote; fits = omega (arith, c.put_arrival.ensures.few) }
 
 pub returns-then-op-eq4 : goal.returns-then-op-eq4
-returns-then-op-eq4 c = (answer_report _ _ _ _ c.if-numbers-ne0.false c.if-op-eq4.true c.put_report.ensures.0, c.put_report.ensures.1)
+returns-then-op-eq4 c = record { wrote = answer_report _ _ _ _ c.if-numbers-ne0.false c.if-op-eq4.true c.put_report.ensures.wrote; fits = c.put_report.ensures.few }
 
 pub returns : goal.returns
 returns c = record { wrote = answer_none _ _ _ _ c.if-numbers-ne0.false c.if-op-eq3.false c.if-op-eq4.false; fits = omega arith }

@@ -7,4 +7,4 @@ use Rattle.archivelines.proofs.put_kept.Goals as goal
 
 pub returns : goal.returns
 unfolding kept_line
-returns c = record { wrote = then (then c.put_bytes-p.ensures c.put_field-q.ensures.0) c.put_last.ensures.0; few = omega (arith, c.put_bytes-p.ensures.next, c.put_field-q.ensures.1, c.put_last.ensures.1) }
+returns c = record { wrote = then (then c.put_bytes-p.ensures c.put_field-q.ensures.wrote) c.put_last.ensures.wrote; few = omega (arith, c.put_bytes-p.ensures.next, c.put_field-q.ensures.few, c.put_last.ensures.few) }

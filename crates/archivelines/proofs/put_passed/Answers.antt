@@ -7,4 +7,4 @@ use Rattle.archivelines.proofs.put_passed.Goals as goal
 
 pub returns : goal.returns
 unfolding passed_line
-returns c = record { wrote = then c.put_bytes-p.ensures c.put_last.ensures.0; few = omega (arith, c.put_bytes-p.ensures.next, c.put_last.ensures.1) }
+returns c = record { wrote = then c.put_bytes-p.ensures c.put_last.ensures.wrote; few = omega (arith, c.put_bytes-p.ensures.next, c.put_last.ensures.few) }

@@ -17,7 +17,7 @@ pub put_report_row-p-requires : goal.put_report_row-p-requires
 put_report_row-p-requires c = omega (arith, c.loop-i.invariant.few, c.loop-i.invariant.within, c.loop-i-test.true, c.at_most-n.ensures, c.requires)
 
 pub loop-i-preserved : goal.loop-i-preserved
-loop-i-preserved c = row_step c.loop-i.invariant c.loop-i-test.true (omega (arith, c.at_most-n.ensures)) c.put_report_row-p.ensures.0 c.put_report_row-p.ensures.1
+loop-i-preserved c = row_step c.loop-i.invariant c.loop-i-test.true (omega (arith, c.at_most-n.ensures)) c.put_report_row-p.ensures.wrote c.put_report_row-p.ensures.few
 
 pub shape_of-out : goal.shape_of-out
 shape_of-out c = long c.loop-i.invariant.wrote

@@ -8,7 +8,7 @@ pub read_chance-requires : goal.read_chance-requires
 read_chance-requires c = sym c.is_named.ensures ∙ c.if-is_named.true
 
 pub returns-then-is_named : goal.returns-then-is_named
-returns-then-is_named c = chance_named _ _ _ c.after_field-at.ensures.1 c.is_named.ensures c.if-is_named.true c.read_chance.ensures
+returns-then-is_named c = chance_named _ _ _ c.after_field-at.ensures.fields c.is_named.ensures c.if-is_named.true c.read_chance.ensures
 
 pub returns : goal.returns
-returns c = chance_written _ _ _ c.after_field-at.ensures.1 c.is_named.ensures c.if-is_named.false c.word_from.ensures
+returns c = chance_written _ _ _ c.after_field-at.ensures.fields c.is_named.ensures c.if-is_named.false c.word_from.ensures

@@ -10,7 +10,7 @@ use borrow.Author.Rules.{rules}
 use Rattle.arrivals.proofs.write_slots.Given as goal
 
 abbrev pub invariant-loop-i : goal.invariant-loop-i
-invariant-loop-i l = (l.i ≤ l.n) × (l.answers-1 ≡ sets l.initial.answers (4 * l.out) (bytes_of (entry_numbers (entries_in l.i l.weights l.held))))
+invariant-loop-i l = (l.i ≤ l.n) × (l.answers ≡ sets l.initial.answers (4 * l.out) (bytes_of (entry_numbers (entries_in l.i l.weights l.held))))
 
 abbrev pub decreases-loop-i : goal.decreases-loop-i
 decreases-loop-i l = l.n - l.i

@@ -13,7 +13,7 @@ loop-i-init c = (search rules, search rules, rw (add-zero, add-zero))
 
 pub loop-i-preserved : goal.loop-i-preserved
 loop-i-preserved c = let at = c.loop-i in
-    (omega (arith, c.loop-i-test.true), omega (arith, at.invariant.1), sum_turn _ _ at.i _ _ at.invariant.2 c.inside_one-sum.ensures.1)
+    (omega (arith, c.loop-i-test.true), omega (arith, at.invariant.1), sum_turn _ _ at.i _ _ at.invariant.2 c.inside_one-sum.ensures.told)
 
 pub returns : goal.returns
 returns c = let e : c.loop-i.i ≡ 4 = omega arith in

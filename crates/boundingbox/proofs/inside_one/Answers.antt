@@ -5,8 +5,8 @@ use Rattle.boundingbox.proofs.inside_one.Goals as goal
 
 pub returns-then-lo-p : goal.returns-then-lo-p
 unfolding inside
-returns-then-lo-p c = (search rules, rw c.if-lo-p.true)
+returns-then-lo-p c = record { few = search rules; told = rw c.if-lo-p.true }
 
 pub returns-else-lo-p : goal.returns-else-lo-p
 unfolding inside
-returns-else-lo-p c = (search rules, rw c.if-lo-p.false)
+returns-else-lo-p c = record { few = search rules; told = rw c.if-lo-p.false }

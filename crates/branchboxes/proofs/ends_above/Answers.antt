@@ -21,7 +21,7 @@ calls = (at-hand-reads.Asked, at-hand-reads.Learnt, join-reads.Asked, join-reads
 -- what is known of the two nodes
 nodes_at : (c : lts.After-at-hand2 calls reads.Pre reads.Post) → let a = c.args in
     Two (capacity_of a.sizes.now) (cached_of a.sizes.now) a.nodes.now a.points.now a.boxes.now a.below a.sibling c.at_hand-given.result c.at_hand.result
-nodes_at c = let S = c.requires.1.0 in record { left-some = S.0; right-some = S.1; left-hand = c.at_hand-given.ensures; right-hand = c.at_hand.ensures }
+nodes_at c = let S = c.requires.stands in record { left-some = S.0; right-some = S.1; left-hand = c.at_hand-given.ensures; right-hand = c.at_hand.ensures }
 
 -- the ends before they are moved out
 ends_at : (c : lts.Joined2 calls reads.Pre reads.Post) → let a = c.args in
@@ -29,29 +29,29 @@ ends_at : (c : lts.Joined2 calls reads.Pre reads.Post) → let a = c.args in
 ends_at c =
         let W = nodes_at c.before in
     ⊎_elim
-    (λ w. rw w.3 (first_set _ _ _ _ _ _ _ _ _ W c.requires.0.0 c.if-given-at_hand.false w.0.taken _ w.2.ensures.0, w.2.ensures.1))
-    (λ w. rw w.1 (first_given _ _ _ _ _ _ _ _ _ W w.0.left _ c.requires.1.1.0, c.requires.1.1.1.2))
+    (λ w. rw w.3 (first_set _ _ _ _ _ _ _ _ _ W c.requires.few.0 c.if-given-at_hand.false w.0.taken _ w.2.ensures.0, w.2.ensures.1))
+    (λ w. rw w.1 (first_given _ _ _ _ _ _ _ _ _ W w.0.left _ c.requires.given, c.requires.padded.2))
     c.if-given.branch
 
 pub join-requires : goal.join-requires
 join-requires c = let S = c.requires in
     let B = both_lie _ _ _ _ _ _ _ _ _ (nodes_at c.before) c.if-given-at_hand.true in
-    record { few = S.0; hand = search rules; padded = S.1.1.1 }
+    record { few = S.few; hand = search rules; padded = S.padded }
 
 pub returns-then-given-at_hand : goal.returns-then-given-at_hand
 returns-then-given-at_hand c = let J = c.join.ensures in
-    (hand_pair _ _ _ _ _ _ _ _ _ (nodes_at c.before) c.if-given-at_hand.true c.join.new.0 J.0, J.1)
+    record { pair = hand_pair _ _ _ _ _ _ _ _ _ (nodes_at c.before) c.if-given-at_hand.true c.join.new.0 J.joined; padded = J.padded }
 
 pub set_branch-requires : goal.set_branch-requires
 set_branch-requires c = let S = c.requires in
-    let F = rw c.if-given.true at (first_far _ _ _ _ _ _ _ _ _ (nodes_at c.before) S.0.0 c.if-given-at_hand.false) in
-    record { few = S.0; stands = F.sides; padded = S.1.1.1 }
+    let F = rw c.if-given.true at (first_far _ _ _ _ _ _ _ _ _ (nodes_at c.before) S.few.0 c.if-given-at_hand.false) in
+    record { few = S.few; stands = F.sides; padded = S.padded }
 
 pub grow_ends-requires : goal.grow_ends-requires
 grow_ends-requires c = let S = c.requires in
-    rw c.either-other.ensures (S.0, (second_some _ _ _ _ _ _ _ _ _ (nodes_at c.before), (S.1.1.1.0, S.1.1.1.1, (ends_at c.before).1)))
+    rw c.either-other.ensures (S.few, (second_some _ _ _ _ _ _ _ _ _ (nodes_at c.before), (S.padded.0, S.padded.1, (ends_at c.before).1)))
 
 pub returns : goal.returns
 returns c = let A = c.args in
-    let G = rw c.either-other.ensures at c.grow_ends.ensures.0 in
-    record { pair = grown_pair _ _ _ _ _ c.at_hand-given.result A.below A.sibling c.if-given.ends c.grow_ends.new.0 (ends_at c.before).0 G; padded = c.grow_ends.ensures.1 }
+    let G = rw c.either-other.ensures at c.grow_ends.ensures.grown in
+    record { pair = grown_pair _ _ _ _ _ c.at_hand-given.result A.below A.sibling c.if-given.ends c.grow_ends.new.0 (ends_at c.before).0 G; padded = c.grow_ends.ensures.padded }

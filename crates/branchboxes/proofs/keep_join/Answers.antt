@@ -13,44 +13,44 @@ use Rattle.branchboxes.proofs.Slots.{low_read, high_read, slot_met}
 use Rattle.branchboxes.proofs.keep_join.Goals as goal
 
 pub loop-at-init : goal.loop-at-init
-loop-at-init c = (first_step, slot_none _ _ _ _ _ c.requires.1.0.0 c.requires.1.1.1)
+loop-at-init c = (first_step, slot_none _ _ _ _ _ c.requires.hand.0 c.requires.padded.1)
 
 pub low_of-requires : goal.low_of-requires
-low_of-requires c = in_arrays _ (cached_of c.args.sizes.now) _ c.requires.0.1 (search rules)
+low_of-requires c = in_arrays _ (cached_of c.args.sizes.now) _ c.requires.few.1 (search rules)
 
 pub low_of-requires-in-loop-at : goal.low_of-requires-in-loop-at
-low_of-requires-in-loop-at c = in_arrays _ (cached_of c.args.sizes.now) _ c.requires.0.1 (search rules)
+low_of-requires-in-loop-at c = in_arrays _ (cached_of c.args.sizes.now) _ c.requires.few.1 (search rules)
 
 pub least_at-low-requires : goal.least_at-low-requires
-least_at-low-requires c = room _ _ c.loop-at.invariant.0 c.loop-at-test.true c.requires.0.2
+least_at-low-requires c = room _ _ c.loop-at.invariant.0 c.loop-at-test.true c.requires.few.2
 
 pub high_of-requires : goal.high_of-requires
-high_of-requires c = in_arrays _ (cached_of c.args.sizes.now) _ c.requires.0.1 (search rules)
+high_of-requires c = in_arrays _ (cached_of c.args.sizes.now) _ c.requires.few.1 (search rules)
 
 pub high_of-requires-in-loop-at : goal.high_of-requires-in-loop-at
-high_of-requires-in-loop-at c = in_arrays _ (cached_of c.args.sizes.now) _ c.requires.0.1 (search rules)
+high_of-requires-in-loop-at c = in_arrays _ (cached_of c.args.sizes.now) _ c.requires.few.1 (search rules)
 
 pub greatest_at-high-requires : goal.greatest_at-high-requires
-greatest_at-high-requires c = room _ _ c.loop-at.invariant.0 c.loop-at-test.true c.requires.0.2
+greatest_at-high-requires c = room _ _ c.loop-at.invariant.0 c.loop-at-test.true c.requires.few.2
 
 pub put_at-requires : goal.put_at-requires
-put_at-requires c = (room _ _ c.loop-at.invariant.0 c.loop-at-test.true c.requires.0.2, c.loop-at.invariant.1.slot.low.long)
+put_at-requires c = (room _ _ c.loop-at.invariant.0 c.loop-at-test.true c.requires.few.2, c.loop-at.invariant.1.slot.low.long)
 
 pub offset_bounds-boxes-index-in-loop-at : goal.offset_bounds-boxes-index-in-loop-at
-offset_bounds-boxes-index-in-loop-at c = omega (arith, c.requires.1.0.0)
+offset_bounds-boxes-index-in-loop-at c = omega (arith, c.requires.hand.0)
 
 pub bounds-boxes-index-in-loop-at : goal.bounds-boxes-index-in-loop-at
-bounds-boxes-index-in-loop-at c = omega (arith, c.requires.1.0.0)
+bounds-boxes-index-in-loop-at c = omega (arith, c.requires.hand.0)
 
 pub put_at-requires-in-loop-at : goal.put_at-requires-in-loop-at
 put_at-requires-in-loop-at c = let at = c.loop-at in
-        (room _ _ c.loop-at.invariant.0 c.loop-at-test.true c.requires.0.2, slot_second _ _ (λ (i : ℕ). channel [] i) (λ (i : ℕ). channel [] i) at.at c.args.index _ at.boxes [] [] _ [] c.requires.1.0.0 at.invariant.1)
+        (room _ _ c.loop-at.invariant.0 c.loop-at-test.true c.requires.few.2, slot_second _ _ (λ (i : ℕ). channel [] i) (λ (i : ℕ). channel [] i) at.at c.args.index _ at.boxes [] [] _ [] c.requires.hand.0 at.invariant.1)
 
 pub overflow_add-at : goal.overflow_add-at
-overflow_add-at c = let r = room _ _ c.loop-at.invariant.0 c.loop-at-test.true c.requires.0.2 in omega arith
+overflow_add-at c = let r = room _ _ c.loop-at.invariant.0 c.loop-at-test.true c.requires.few.2 in omega arith
 
 pub loop-at-smaller : goal.loop-at-smaller
-loop-at-smaller c = let r = room _ _ c.loop-at.invariant.0 c.loop-at-test.true c.requires.0.2 in omega arith
+loop-at-smaller c = let r = room _ _ c.loop-at.invariant.0 c.loop-at-test.true c.requires.few.2 in omega arith
 
 pub loop-at-preserved : goal.loop-at-preserved
 loop-at-preserved c = let at = c.loop-at in
@@ -62,9 +62,9 @@ loop-at-preserved c = let at = c.loop-at in
     let ha = c.high_of.ensures in
     let hb = c.high_of-in-loop-at.ensures in (
       next_step _ at.invariant.0,
-      slot_turn _ _ _ _ at.at A.index _ at.boxes _ _ _ _ c.requires.1.0.0 F
-          c.least_at-low.ensures (λ i l. ap₂ least (low_read F n A.a A.points.now _ la.0 la.1 i l) (low_read F n A.b A.points.now _ lb.0 lb.1 i l))
-          c.greatest_at-high.ensures (λ i l. ap₂ greatest (high_read F n A.a A.points.now _ ha.0 ha.1 i l) (high_read F n A.b A.points.now _ hb.0 hb.1 i l))
+      slot_turn _ _ _ _ at.at A.index _ at.boxes _ _ _ _ c.requires.hand.0 F
+          c.least_at-low.ensures (λ i l. ap₂ least (low_read F n A.a A.points.now _ la.leaf la.slot i l) (low_read F n A.b A.points.now _ lb.leaf lb.slot i l))
+          c.greatest_at-high.ensures (λ i l. ap₂ greatest (high_read F n A.a A.points.now _ ha.leaf ha.slot i l) (high_read F n A.b A.points.now _ hb.leaf hb.slot i l))
           c.put_at.ensures c.put_at-in-loop-at.ensures,
     )
 
@@ -73,5 +73,5 @@ returns c = let at = c.loop-at in
         let A = c.args in
     let n = capacity_of A.sizes.now in
     let k = cached_of A.sizes.now in
-    let P = c.requires.1.1 in
-    slot_met (channels_of A.sizes.now) n A.a A.b A.index at.at A.points.now A.boxes.now P.0 P.1 (in_arrays n k A.a c.requires.0.1 c.requires.1.0.1) (in_arrays n k A.b c.requires.0.1 c.requires.1.0.2) c.requires.1.0.0 c.loop-at-test.false at.boxes at.invariant.1
+    let P = c.requires.padded in
+    let it = slot_met (channels_of A.sizes.now) n A.a A.b A.index at.at A.points.now A.boxes.now P.0 P.1 (in_arrays n k A.a c.requires.few.1 c.requires.hand.1) (in_arrays n k A.b c.requires.few.1 c.requires.hand.2) c.requires.hand.0 c.loop-at-test.false at.boxes at.invariant.1 in record { kept = it.0; padded = it.1 }

@@ -6,7 +6,7 @@ use Rattle.cut.specs.Draw.{outside_sum}
 use Rattle.cut.proofs.outside_sum.Given as goal
 
 abbrev pub invariant-loop-i : goal.invariant-loop-i
-invariant-loop-i l = (l.i ≤ width) × (l.sum ≡ outside_sum l.low-1 l.high-1 l.point l.i)
+invariant-loop-i l = (l.i ≤ width) × (l.sum ≡ outside_sum l.low l.high l.point l.i)
 
 abbrev pub decreases-loop-i : goal.decreases-loop-i
 decreases-loop-i l = width - l.i

@@ -9,16 +9,16 @@ use borrow.Author.Rules.{rules}
 use Rattle.drawing.proofs.drawn_of.Goals as goal
 
 pub offset_bounds-boxes-branch : goal.offset_bounds-boxes-branch
-offset_bounds-boxes-branch c = omega (arith, c.requires.0 c.if-partly.false)
+offset_bounds-boxes-branch c = omega (arith, c.requires.slot c.if-partly.false)
 
 pub bounds-boxes-branch : goal.bounds-boxes-branch
-bounds-boxes-branch c = c.requires.0 c.if-partly.false
+bounds-boxes-branch c = c.requires.slot c.if-partly.false
 
 pub offset_bounds-boxes-branch-else-partly-2 : goal.offset_bounds-boxes-branch-else-partly-2
-offset_bounds-boxes-branch-else-partly-2 c = omega (arith, c.requires.0 c.if-partly-2.false)
+offset_bounds-boxes-branch-else-partly-2 c = omega (arith, c.requires.slot c.if-partly-2.false)
 
 pub bounds-boxes-branch-else-partly-2 : goal.bounds-boxes-branch-else-partly-2
-bounds-boxes-branch-else-partly-2 c = c.requires.0 c.if-partly-2.false
+bounds-boxes-branch-else-partly-2 c = c.requires.slot c.if-partly-2.false
 
 low_is : (c : goal.Joined-partly) → c.if-partly.low.now ≡ get_or (ends_for c.args.partly c.args.branch c.args.ends.now c.args.boxes.now) 0 []
 low_is c = ⊎_elim (λ w. ap (λ r. r.now) w.2 ∙ rw w.0.taken) (λ w. ap (λ r. r.now) w.2 ∙ rw w.0.left) c.if-partly.branch

@@ -11,16 +11,16 @@ use Rattle.drawing.proofs.Going.{Going, Ends, leaf_box, readings, padded_rows, i
 use Rattle.drawing.proofs.highest_cut.Goals as goal
 
 pub bounds-words-0 : goal.bounds-words-0
-bounds-words-0 c = let D = c.requires.1.0.drawing in omega (arith, D.count, D.enough)
+bounds-words-0 c = let D = c.requires.walked.drawing in omega (arith, D.count, D.enough)
 
 pub chosen_first-chosen-requires : goal.chosen_first-chosen-requires
 chosen_first-chosen-requires c = let q = c.requires in
-    let B = leaf_box _ _ _ _ _ _ _ _ _ _ _ q.1.0 q.1.1.1 in
-    (q.1.0.drawing.leaf-small, (readings _ _ _ _ _ _ _ _ _ _ _ 0 _ B q.1.0, (padded_rows _ _ _ _ _ _ _ _ _ _ _ 0 _ B q.0.2 q.1.1.0, is_numbered _ _ _ _ _ _ _ _ _ _ _ 0 _ B _ refl q.1.0 (omega (arith, c.shared_slice_known-2-1.given 0)))))
+    let B = leaf_box _ _ _ _ _ _ _ _ _ _ _ q.walked q.padded.1 in
+    record { row = q.walked.drawing.leaf-small; readings = readings _ _ _ _ _ _ _ _ _ _ _ 0 _ B q.walked; padded = padded_rows _ _ _ _ _ _ _ _ _ _ _ 0 _ B q.few.2 q.padded.0; number = is_numbered _ _ _ _ _ _ _ _ _ _ _ 0 _ B _ refl q.walked (omega (arith, c.shared_slice_known-2-1.given 0)) }
 
 pub loop-m-init : goal.loop-m-init
 loop-m-init c = let q = c.requires in
-    going_starts _ _ _ _ _ _ _ _ _ _ _ q.1.0 q.1.1.0 q.1.1.1 (omega (arith, c.shared_slice_known-2-1.given 0)) _ c.chosen_first-chosen.ensures
+    going_starts _ _ _ _ _ _ _ _ _ _ _ q.walked q.padded.0 q.padded.1 (omega (arith, c.shared_slice_known-2-1.given 0)) _ c.chosen_first-chosen.ensures
 
 -- the entry, from the loop's test
 abbrev entry : goal.At-loop-m → goal.Start
@@ -76,7 +76,7 @@ bounds-words-m c = omega (arith, c.loop-m-test.true, (entry c.before).pre.1.0.dr
 pub drawn_of-drawn-requires : goal.drawn_of-drawn-requires
 drawn_of-drawn-requires c = let q = (entry c.before).pre in
     let K = (branch_ends c.before).here in
-    (λ _. in_slots _ _ _ _ _ _ _ _ _ _ _ _ _ _ c.loop-m.invariant c.loop-m-test.true _ c.node_of-branch.ensures q.1.0 q.0.0, (readings _ _ _ _ _ _ _ _ _ _ _ _ _ K q.1.0, padded_rows _ _ _ _ _ _ _ _ _ _ _ _ _ K q.0.2 q.1.1.0))
+    record { slot = λ _. in_slots _ _ _ _ _ _ _ _ _ _ _ _ _ _ c.loop-m.invariant c.loop-m-test.true _ c.node_of-branch.ensures q.1.0 q.0.0; readings = readings _ _ _ _ _ _ _ _ _ _ _ _ _ K q.1.0; padded = padded_rows _ _ _ _ _ _ _ _ _ _ _ _ _ K q.0.2 q.1.1.0 }
 
 pub highest_of-requires : goal.highest_of-requires
 highest_of-requires c = chosen_number _ _ _ _ _ _ _ _ _ _ _ _ _ _ c.loop-m.invariant (entry c.before).pre.1.0

@@ -10,7 +10,7 @@ use Rattle.drawing.proofs.Going.{Going, Ends, leaf_box, readings, padded_rows, i
 use Rattle.drawing.proofs.highest_cut.Given as goal
 
 abbrev pub invariant-loop-m : goal.invariant-loop-m
-invariant-loop-m l = Going (capacity_of l.sizes) (cached_of l.sizes) (channels_of l.sizes) l.nodes l.points l.boxes l.path l.len l.leaf l.words l.point l.m l.ends-then-partly-1 l.chosen
+invariant-loop-m l = Going (capacity_of l.sizes) (cached_of l.sizes) (channels_of l.sizes) l.nodes l.points l.boxes l.path l.len l.leaf l.words l.point l.m l.ends l.chosen
 
 abbrev pub decreases-loop-m : goal.decreases-loop-m
 decreases-loop-m l = l.len - l.m

@@ -8,7 +8,7 @@ use Rattle.lines.proofs.put_byte.Reads as put-byte-reads
 use Rattle.lines.proofs.put_bytes.Given as goal
 
 abbrev pub invariant-loop-i : goal.invariant-loop-i
-invariant-loop-i l = Copying l.initial.out l.at l.bytes l.out-1 l.p l.i
+invariant-loop-i l = Copying l.initial.out l.at l.bytes l.out l.p l.i
 
 abbrev pub decreases-loop-i : goal.decreases-loop-i
 decreases-loop-i l = length l.bytes - l.i

@@ -10,4 +10,4 @@ use Rattle.lines.proofs.put_decimal.Reads as put-decimal-reads
 use Rattle.lines.proofs.put_field.Goals as goal
 
 pub returns : goal.returns
-returns c = record { wrote = then (as_written _ _ _ _ _ c.put_decimal-count.ensures.0) c.put_byte.ensures; few = omega arith }
+returns c = record { wrote = then (as_written _ _ _ _ _ c.put_decimal-count.ensures.placed) c.put_byte.ensures; few = omega arith }

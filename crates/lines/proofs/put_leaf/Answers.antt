@@ -12,4 +12,4 @@ use Rattle.lines.proofs.put_leaf.Goals as goal
 
 pub returns : goal.returns
 unfolding leaf_line
-returns c = record { wrote = then (then c.put_field-p.ensures.0 c.put_bytes-q.ensures) c.put_last.ensures.0; few = omega arith }
+returns c = record { wrote = then (then c.put_field-p.ensures.wrote c.put_bytes-q.ensures) c.put_last.ensures.wrote; few = omega arith }

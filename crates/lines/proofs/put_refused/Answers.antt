@@ -12,4 +12,4 @@ use Rattle.lines.proofs.put_refused.Goals as goal
 
 pub returns : goal.returns
 unfolding refused_line
-returns c = record { wrote = then (then c.put_bytes-p.ensures c.put_field-q.ensures.0) c.put_last.ensures.0; few = omega arith }
+returns c = record { wrote = then (then c.put_bytes-p.ensures c.put_field-q.ensures.wrote) c.put_last.ensures.wrote; few = omega arith }

@@ -11,7 +11,7 @@ pub returns-then-tree-eq0 : goal.returns-then-tree-eq0
 returns-then-tree-eq0 c = none_printed _ _ _ _ c.if-tree-eq0.true c.put_names-below.ensures
 
 pub print_node-requires : goal.print_node-requires
-print_node-requires c = rw (c.wide16.ensures.0, c.wide16-2.ensures.0) (some_listed _ _ _ _ c.if-tree-eq0.false c.requires.0 c.requires.1 c.put_names-below.ensures)
+print_node-requires c = rw (c.wide16.ensures.0, c.wide16-2.ensures.0) (some_listed _ _ _ _ c.if-tree-eq0.false c.requires.near c.requires.stands c.put_names-below.ensures)
 
 pub returns : goal.returns
 returns c = some_printed _ _ _ _ c.if-tree-eq0.false c.put_names-below.ensures (rw (c.wide16.ensures.0, c.wide16-2.ensures.0) at c.print_node.ensures)

@@ -5,4 +5,4 @@ use borrow.Author.Rules.{rules}
 use Rattle.namedwords.proofs.read_first.Goals as goal
 
 pub returns : goal.returns
-returns c = c.word_from.ensures ∙ first_is _ _ _ c.after_field-at.ensures.1
+returns c = c.word_from.ensures ∙ first_is _ _ _ c.after_field-at.ensures.fields

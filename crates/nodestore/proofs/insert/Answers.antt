@@ -5,7 +5,7 @@ use borrow.Author.Rules.{rules}
 use Rattle.nodestore.proofs.insert.Goals as goal
 
 pub manage_ancestors_add-requires : goal.manage_ancestors_add-requires
-manage_ancestors_add-requires c = record { n_le_capacity_limit = c.requires.1.0; path_len = c.requires.1.1.0; climb = rw (c.relink_at.ensures, c.put_cell.ensures.0, c.wide16.ensures.0) c.requires.1.1.1.1 }
+manage_ancestors_add-requires c = record { n_le_capacity_limit = c.requires.k_le_capacity_limit; path_len = c.requires.path_len; climb = rw (c.relink_at.ensures, c.put_cell.ensures.0, c.wide16.ensures.0) c.requires.climb }
 
 pub returns : goal.returns
 returns c =     let a = c.args in

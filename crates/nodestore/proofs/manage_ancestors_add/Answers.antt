@@ -15,10 +15,10 @@ here : (c : goal.After-wide16) → Turn heavier 0 (total_limit - 1) c.args.nodes
 here c =
         let l = c.loop-k in
     let m = c.loop-k-test.true in
-    turn heavier _ c.args.path.now _ c.requires.0 c.requires.1.0 c.requires.1.1 l.nodes l.k (l.k - 1) c.wide16.result l.invariant.1 (omega arith) (omega (arith, l.invariant.0)) c.wide16.ensures.0
+    turn heavier _ c.args.path.now _ c.requires.n_le_capacity_limit c.requires.path_len c.requires.climb l.nodes l.k (l.k - 1) c.wide16.result l.invariant.1 (omega arith) (omega (arith, l.invariant.0)) c.wide16.ensures.0
 
 pub loop-k-init : goal.loop-k-init
-loop-k-init c = (search rules, begin heavier _ c.args.path.now _ c.requires.0 c.requires.1.0)
+loop-k-init c = (search rules, begin heavier _ c.args.path.now _ c.requires.n_le_capacity_limit c.requires.path_len)
 
 pub heavier_by_one-requires : goal.heavier_by_one-requires
 heavier_by_one-requires c = let t = here c in record { i_lt_branch_limit = t.small; i_bound = t.at_most }

@@ -15,10 +15,10 @@ here : (c : goal.After-wide16) → Turn lighter 1 total_limit c.args.nodes.now c
 here c =
         let l = c.loop-k in
     let m = c.loop-k-test.true in
-    turn lighter _ c.args.path.now _ c.requires.0 c.requires.1.0 c.requires.1.1 l.nodes l.k (l.k - 1) c.wide16.result l.invariant.1 (omega arith) (omega (arith, l.invariant.0)) c.wide16.ensures.0
+    turn lighter _ c.args.path.now _ c.requires.n_le_capacity_limit c.requires.path_len c.requires.climb l.nodes l.k (l.k - 1) c.wide16.result l.invariant.1 (omega arith) (omega (arith, l.invariant.0)) c.wide16.ensures.0
 
 pub loop-k-init : goal.loop-k-init
-loop-k-init c = (search rules, begin lighter _ c.args.path.now _ c.requires.0 c.requires.1.0)
+loop-k-init c = (search rules, begin lighter _ c.args.path.now _ c.requires.n_le_capacity_limit c.requires.path_len)
 
 pub lighter_by_one-requires : goal.lighter_by_one-requires
 lighter_by_one-requires c = let t = here c in record { i_lt_branch_limit = t.small; bound = t.at_least }

@@ -5,7 +5,7 @@ use borrow.Author.Rules.{rules}
 use Rattle.nodestore.proofs.mass_of.Goals as goal
 
 pub bounds-nodes-wide16 : goal.bounds-nodes-wide16
-bounds-nodes-wide16 c = omega (arith, c.wide16.ensures.0, c.requires.0 c.if-node-capacity.true)
+bounds-nodes-wide16 c = omega (arith, c.wide16.ensures.0, c.requires.node_lt_branch_limit c.if-node-capacity.true)
 
 pub returns-then-node-capacity : goal.returns-then-node-capacity
 returns-then-node-capacity c = rw (lt-ltb _ _ c.if-node-capacity.true, ← c.wide16.ensures.0)

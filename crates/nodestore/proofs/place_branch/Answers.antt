@@ -5,10 +5,10 @@ use borrow.Author.Rules.{rules}
 use Rattle.nodestore.proofs.place_branch.Goals as goal
 
 pub mass_of-m-requires : goal.mass_of-m-requires
-mass_of-m-requires c = mass_asks c.requires.graft _ c.node_at-old.ensures
+mass_of-m-requires c = let it = mass_asks c.requires.graft _ c.node_at-old.ensures in record { node_lt_branch_limit = it.0; capacity_bound = it.1 }
 
 pub row_for-row-requires : goal.row_for-row-requires
-row_for-row-requires c = (omega (arith, c.mass_of-m.ensures, mass_low c.requires.graft _ c.node_at-old.ensures), omega (arith, c.requires.graft.channel-is, c.requires.graft.channel-small))
+row_for-row-requires c = record { mass_bound = omega (arith, c.mass_of-m.ensures, mass_low c.requires.graft _ c.node_at-old.ensures); dimension_lt_width = omega (arith, c.requires.graft.channel-is, c.requires.graft.channel-small) }
 
 pub insert-requires : goal.insert-requires
 insert-requires c = let s = c.requires.graft in
@@ -16,5 +16,5 @@ insert-requires c = let s = c.requires.graft in
     (s.small, (omega (arith, place_low s), (s.walked.long, a)))
 
 pub returns : goal.returns
-returns c = λ d n t p h x w. rw (c.insert.ensures.0, c.insert.ensures.1, c.put_copies.ensures)
+returns c = λ d n t p h x w. rw (c.insert.ensures.linked, c.insert.ensures.cut_after, c.put_copies.ensures)
     (placed_arrays w _ _ _ c.node_at-old.ensures c.mass_of-m.ensures (rw c.leaf_id.ensures at c.row_for-row.ensures))

@@ -8,7 +8,7 @@ pub returns-then-k-eq0 : goal.returns-then-k-eq0
 returns-then-k-eq0 c = rw (eq-eqb _ _ c.if-k-eq0.true)
 
 pub replace_node-requires : goal.replace_node-requires
-replace_node-requires c = omega (arith, c.wide16.ensures.0, c.requires.1 (omega arith))
+replace_node-requires c = omega (arith, c.wide16.ensures.0, c.requires.k_bound (omega arith))
 
 pub returns : goal.returns
 returns c = rw (ne_eqb _ _ c.if-k-eq0.false, ← c.wide16.ensures.0) c.replace_node.ensures

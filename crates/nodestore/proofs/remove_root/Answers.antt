@@ -5,4 +5,4 @@ use borrow.Author.Rules.{rules}
 use Rattle.nodestore.proofs.remove_root.Goals as goal
 
 pub returns : goal.returns
-returns c = record { put = c.put_copies.ensures; arrays = λ d x nodes cuts path t p w. rw c.put_copies.ensures (lone_arrays w c.requires.1 refl) }
+returns c = record { put = c.put_copies.ensures; arrays = λ d x nodes cuts path t p w. rw c.put_copies.ensures (lone_arrays w c.requires.index_value refl) }

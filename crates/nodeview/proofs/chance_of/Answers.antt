@@ -11,7 +11,7 @@ returns-then-branch-cached c = sym (cond_true _ _ _ (lt-ltb _ _ c.if-branch-cach
 pub whole_probability_of_cut-requires : goal.whole_probability_of_cut-requires
 whole_probability_of_cut-requires c = let q = c.requires in
     let h = c.if-branch-cached.false in
-    record { readings = q.0 h; padded = q.1 h }
+    record { readings = q.readings h; padded = q.padded h }
 
 pub returns : goal.returns
 returns c = c.whole_probability_of_cut.ensures ∙ sym (cond_false _ _ _ (le-ltb _ _ c.if-branch-cached.false))

@@ -7,7 +7,7 @@ use borrow.Author.Rules.{rules}
 use Rattle.nodeview.proofs.keep_chance.Goals as goal
 
 pub returns-then-cached-branch : goal.returns-then-cached-branch
-returns-then-cached-branch c = (search rules, sym (cond_false _ _ _ (le-ltb _ _ c.if-cached-branch.true)))
+returns-then-cached-branch c = record { whole = search rules; kept = sym (cond_false _ _ _ (le-ltb _ _ c.if-cached-branch.true)) }
 
 pub whole_probability_of_cut-requires : goal.whole_probability_of_cut-requires
 whole_probability_of_cut-requires c = let q = c.requires.1 in

@@ -4,7 +4,7 @@ use borrow.Author.Rules.{rules}
 use Rattle.nodeview.proofs.leaf_row.Goals as goal
 
 pub same_point-requires : goal.same_point-requires
-same_point-requires c = record { narrow = c.requires.0; padded = (c.requires.1.0.rest, c.requires.1.1.rest) }
+same_point-requires c = record { narrow = c.requires.narrow; padded = (c.requires.padded.0.rest, c.requires.padded.1.rest) }
 
 pub returns-then-same_point : goal.returns-then-same_point
 unfolding of_bits

@@ -7,12 +7,12 @@ use borrow.Author.Rules.{rules}
 use Rattle.nodeview.proofs.walk_down.Goals as goal
 
 pub loop-node-init : goal.loop-node-init
-loop-node-init c = walking_starts _ _ _ _ _ _ _ _ _ _ c.requires.0 c.requires.1 c.args.path.now c.begin.ensures.0 c.begin.ensures.1
+loop-node-init c = walking_starts _ _ _ _ _ _ _ _ _ _ c.requires.few c.requires.stands c.args.path.now c.begin.ensures.whole c.begin.ensures.root
 
 pub step_at-s-requires : goal.step_at-s-requires
 step_at-s-requires c = let g = c.loop-node.invariant in
     let t = this _ _ _ _ _ _ _ _ _ _ _ _ _ _ g c.loop-node-test.true in
-    (omega (arith, c.wide16-i.ensures.0, g.few, t.small), rw c.wide16-i.ensures.0 t.chan)
+    record { i_lt_branch_limit = omega (arith, c.wide16-i.ensures.0, g.few, t.small); i_bound = rw c.wide16-i.ensures.0 t.chan }
 
 pub offset_bounds-path-n : goal.offset_bounds-path-n
 offset_bounds-path-n c = let g = c.loop-node.invariant in omega (arith, (this _ _ _ _ _ _ _ _ _ _ _ _ _ _ g c.loop-node-test.true).room, g.few)
@@ -38,7 +38,7 @@ loop-node-smaller c = let g = c.loop-node.invariant in omega (arith, (this _ _ _
 pub loop-node-preserved : goal.loop-node-preserved
 loop-node-preserved c = let e = c.wide16-i.ensures.0 in
     let k = c.keep_chance.ensures in
-    walking_on _ _ _ _ _ _ _ _ _ _ _ _ _ _ c.loop-node.invariant c.loop-node-test.true _ (rw e at c.step_at-s.ensures) _ k.0 (rw e at k.1)
+    walking_on _ _ _ _ _ _ _ _ _ _ _ _ _ _ c.loop-node.invariant c.loop-node-test.true _ (rw e at c.step_at-s.ensures) _ k.whole (rw e at k.kept)
 
 pub returns : goal.returns
-returns c = walking_ends _ _ _ _ _ _ _ _ _ _ _ _ _ _ c.loop-node.invariant c.loop-node-test.false c.args.path.now c.begin.ensures.1
+returns c = let it = walking_ends _ _ _ _ _ _ _ _ _ _ _ _ _ _ c.loop-node.invariant c.loop-node-test.false c.args.path.now c.begin.ensures.root in record { walked = it.0; rest = it.1.0; chances = it.1.1.0; others = it.1.1.1 }

@@ -9,7 +9,7 @@ use borrow.Author.Rules.{rules}
 use Rattle.nodeview.proofs.write_rows.Given as goal
 
 abbrev pub invariant-loop-m : goal.invariant-loop-m
-invariant-loop-m l = Going l.capacity l.cached l.nodes l.copies l.points l.boxes l.path l.len l.point l.m (box_of l.ends-in-loop-m-1) l.initial.rows l.rows × PaddedEnds l.dimensions l.ends-in-loop-m-1
+invariant-loop-m l = Going l.capacity l.cached l.nodes l.copies l.points l.boxes l.path l.len l.point l.m (box_of l.ends) l.initial.rows l.rows × PaddedEnds l.dimensions l.ends
 
 abbrev pub decreases-loop-m : goal.decreases-loop-m
 decreases-loop-m l = l.len - l.m

@@ -7,8 +7,8 @@ use Rattle.probability.proofs.Integers.{all_fits, by_integers}
 use Rattle.probability.proofs.part_or_rounded.Goals as goal
 
 pub part_of-requires : goal.part_of-requires
-part_of-requires c = let s = c.requires.1 in (omega (arith, s.0, s.1), rw s.1 (all_fits width _ _ _ c.requires.0))
+part_of-requires c = let s = c.requires.sums in (omega (arith, s.0, s.1), rw s.1 (all_fits width _ _ _ c.requires.readings))
 
 pub returns-then-part-le-EXACT : goal.returns-then-part-le-EXACT
-returns-then-part-le-EXACT c = let s = c.requires.1 in
-    c.part_of.ensures ∙ rw (s.0, s.1) (by_integers width _ _ _ c.requires.0 (rw s.0 at c.if-part-le-EXACT.true))
+returns-then-part-le-EXACT c = let s = c.requires.sums in
+    c.part_of.ensures ∙ rw (s.0, s.1) (by_integers width _ _ _ c.requires.readings (rw s.0 at c.if-part-le-EXACT.true))

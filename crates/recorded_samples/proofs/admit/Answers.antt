@@ -7,4 +7,4 @@ pub add_point-after-requires : goal.add_point-after-requires
 add_point-after-requires c = room_left_lem _ _ c.accept_point-accepted.ensures c.left_of-left.ensures c.requires
 
 pub returns : goal.returns
-returns c = record { answer = admitted _ _ c.accept_point-accepted.ensures c.left_of-left.ensures c.requires c.add_point-after.ensures.0; slots = admitted_kept _ _ c.accept_point-accepted.ensures c.left_of-left.ensures c.requires _ _ c.add_point-after.ensures.1 c.add_point-after.ensures.0 }
+returns c = record { answer = admitted _ _ c.accept_point-accepted.ensures c.left_of-left.ensures c.requires c.add_point-after.ensures.answer; slots = admitted_kept _ _ c.accept_point-accepted.ensures c.left_of-left.ensures c.requires _ _ c.add_point-after.ensures.slots c.add_point-after.ensures.answer }

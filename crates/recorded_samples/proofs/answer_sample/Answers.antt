@@ -12,7 +12,7 @@ pub returns-then-wide16-gt-CAPACITY : goal.returns-then-wide16-gt-CAPACITY
 returns-then-wide16-gt-CAPACITY c = sequenced_large _ c.if-n-eq0.false c.wide16.ensures.0 c.u16_at-capacity.ensures c.if-wide16-gt-CAPACITY.true
 
 pub loop-i-init : goal.loop-i-init
-loop-i-init c = sequenced_start _ c.if-n-eq0.false c.wide16.ensures.0 c.u16_at-capacity.ensures c.if-wide16-gt-CAPACITY.false c.new-sampler.ensures.0 c.new-sampler.ensures.1.0 c.new-sampler.ensures.1.1
+loop-i-init c = sequenced_start _ c.if-n-eq0.false c.wide16.ensures.0 c.u16_at-capacity.ensures c.if-wide16-gt-CAPACITY.false c.new-sampler.ensures.made c.new-sampler.ensures.weights_after c.new-sampler.ensures.points_after
 
 pub turn-state-requires : goal.turn-state-requires
 turn-state-requires c = (omega (arith, c.loop-i.invariant.few), c.loop-i.invariant.fits, rw c.loop-i.invariant.capacity-is c.loop-i.invariant.room)

@@ -6,7 +6,7 @@ use borrow.Author.Rules.{rules}
 use Rattle.recorded_samples.proofs.answer_sample.Given as goal
 
 abbrev pub invariant-loop-i : goal.invariant-loop-i
-invariant-loop-i l = Sequenced l.given l.initial.out l.out-1 l.state l.weights-1 l.points-1 l.i
+invariant-loop-i l = Sequenced l.given l.initial.out l.out l.state l.weights l.points l.i
 
 abbrev pub decreases-loop-i : goal.decreases-loop-i
 decreases-loop-i l = l.n - l.i

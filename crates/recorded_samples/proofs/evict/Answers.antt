@@ -9,4 +9,4 @@ unfolding of_bits
 returns-then-sampler-eq0 c = λ ks at. evicts_none _ c.requires.0 c.requires.1 c.if-sampler-eq0.true ks at
 
 pub returns : goal.returns
-returns c = λ ks at. evicts_some _ c.requires.0 c.requires.1 c.if-sampler-eq0.false c.evict_max-evicted.ensures.0 c.evict_max-evicted.ensures.1 ks at
+returns c = λ ks at. evicts_some _ c.requires.0 c.requires.1 c.if-sampler-eq0.false c.evict_max-evicted.ensures.answer c.evict_max-evicted.ensures.slots ks at

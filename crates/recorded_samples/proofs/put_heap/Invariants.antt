@@ -6,7 +6,7 @@ use borrow.Author.Rules.{rules}
 use Rattle.recorded_samples.proofs.put_heap.Given as goal
 
 abbrev pub invariant-loop-k : goal.invariant-loop-k
-invariant-loop-k l = Heaped l.size l.weights l.points l.initial.out l.out-1 l.at l.p l.k
+invariant-loop-k l = Heaped l.size l.weights l.points l.initial.out l.out l.at l.p l.k
 
 abbrev pub decreases-loop-k : goal.decreases-loop-k
 decreases-loop-k l = l.size - l.k

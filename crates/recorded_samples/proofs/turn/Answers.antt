@@ -4,7 +4,7 @@ use borrow.Author.Rules.{rules}
 use Rattle.recorded_samples.proofs.turn.Goals as goal
 
 pub returns-then-index-eq-LOOK : goal.returns-then-index-eq-LOOK
-returns-then-index-eq-LOOK c = λ ks at. turn_look _ _ _ _ _ _ c.requires.1 c.requires.2 at c.if-index-eq-LOOK.true c.wide16.ensures.0 c.put_heap.ensures
+returns-then-index-eq-LOOK c = λ ks at. turn_look _ _ _ _ _ _ c.requires.1 c.requires.2 at c.if-index-eq-LOOK.true c.wide16.ensures.0 (c.put_heap.ensures.wrote, c.put_heap.ensures.next)
 
 pub returns-then-index-eq-EVICT : goal.returns-then-index-eq-EVICT
 returns-then-index-eq-EVICT c = λ ks at. turn_evict _ _ _ _ _ _ c.requires.1 c.requires.2 at c.chance_of-chance.ensures c.if-index-eq-EVICT.true (c.evict.ensures ks at) c.put_arrived.ensures

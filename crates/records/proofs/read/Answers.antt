@@ -5,10 +5,10 @@ use borrow.Author.Tests.{not-false}
 use Rattle.records.proofs.read.Goals as goal
 
 pub returns-then-came-lt-HEAD : goal.returns-then-came-lt-HEAD
-returns-then-came-lt-HEAD c = not_read _ _ c.none.ensures
+returns-then-came-lt-HEAD c = let it = not_read _ _ c.none.ensures in record { whole = it.0; none = it.1 }
 
 pub returns-then-not-is_head : goal.returns-then-not-is_head
-returns-then-not-is_head c = not_read _ _ c.none-then-not-is_head.ensures
+returns-then-not-is_head c = let it = not_read _ _ c.none-then-not-is_head.ensures in record { whole = it.0; none = it.1 }
 
 pub read_bytes-first-requires : goal.read_bytes-first-requires
 read_bytes-first-requires c = let f = fits c.head_of-head.result _ c.is_head.ensures (not-false _ c.if-not-is_head.false) in omega (arith, f.1.0, f.1.1)
@@ -23,7 +23,7 @@ pub overflow_add-head : goal.overflow_add-head
 overflow_add-head c = let f = fits c.head_of-head.result _ c.is_head.ensures (not-false _ c.if-not-is_head.false) in omega (arith, f.1.0, f.1.1)
 
 pub returns-then-first-second : goal.returns-then-first-second
-returns-then-first-second c = not_read _ _ c.none-then-first-second.ensures
+returns-then-first-second c = let it = not_read _ _ c.none-then-first-second.ensures in record { whole = it.0; none = it.1 }
 
 pub returns : goal.returns
-returns c = let f = fits c.head_of-head.result _ c.is_head.ensures (not-false _ c.if-not-is_head.false) in record { whole = λ _. record { kind = f.0; size = f.1.0; count = f.1.1; given-long = omega (arith, c.read_bytes-first.auto.0); given-beyond = c.read_bytes-first.ensures.1; expected-beyond = c.read_bytes-second.ensures.1 }; none = λ h. absurd (true≢false (sym c.head_of-head.ensures ∙ h)) }
+returns c = let f = fits c.head_of-head.result _ c.is_head.ensures (not-false _ c.if-not-is_head.false) in record { whole = λ _. record { kind = f.0; size = f.1.0; count = f.1.1; given-long = omega (arith, c.read_bytes-first.auto.0); given-beyond = c.read_bytes-first.ensures.beyond; expected-beyond = c.read_bytes-second.ensures.beyond }; none = λ h. absurd (true≢false (sym c.head_of-head.ensures ∙ h)) }

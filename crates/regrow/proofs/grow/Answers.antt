@@ -15,7 +15,7 @@ use borrow.Author.Rules.{rules}
 use Rattle.regrow.proofs.grow.Goals as goal
 
 pub loop-turns-init : goal.loop-turns-init
-loop-turns-init c = (c.requires.0.0, c.requires.0.1, refl, refl, omega arith, λ d c X S. made S)
+loop-turns-init c = (c.requires.near.0, c.requires.near.1, refl, refl, omega arith, λ d c X S. made S)
 
 pub slice_bounds-carry_lines-count : goal.slice_bounds-carry_lines-count
 slice_bounds-carry_lines-count c = c.loop-turns.invariant.0
@@ -28,10 +28,10 @@ slice_bounds-carry_lines-end c = c.loop-turns.invariant.1
 
 pub carry_lines-batch-requires : goal.carry_lines-batch-requires
 carry_lines-batch-requires c = let l = c.loop-turns in
-        ((simp (length-take, length-drop) (omega (arith, l.invariant.0, l.invariant.1, l.invariant.2, l.invariant.4, c.requires.0.3)), omega (arith, l.invariant.3, c.requires.0.4)), some_sampled (l.invariant.5 _ _ _ c.requires.1.state))
+        record { near = (simp (length-take, length-drop) (omega (arith, l.invariant.0, l.invariant.1, l.invariant.2, l.invariant.4, c.requires.near.3)), omega (arith, l.invariant.3, c.requires.near.4)); stands = some_sampled (l.invariant.5 _ _ _ c.requires.stands.state) }
 
 pub slice_bounds-tell-end-in-loop-turns : goal.slice_bounds-tell-end-in-loop-turns
-slice_bounds-tell-end-in-loop-turns c = sym (length-take-le _ _ (omega (arith, c.carry_lines-batch.ensures.1.2)))
+slice_bounds-tell-end-in-loop-turns c = sym (length-take-le _ _ (omega (arith, c.carry_lines-batch.ensures.fits.2)))
 
 pub tell-requires : goal.tell-requires
 tell-requires c = tt
@@ -47,11 +47,11 @@ returns-then-not-tell c = tt
 
 pub follow-requires : goal.follow-requires
 follow-requires c = let l = c.loop-turns in
-    (omega (arith, l.invariant.0, simp (length-take, length-drop) at c.carry_lines-batch.ensures.1.0), l.invariant.1, omega (arith, l.invariant.2, c.requires.0.2))
+    (omega (arith, l.invariant.0, simp (length-take, length-drop) at c.carry_lines-batch.ensures.fits.0), l.invariant.1, omega (arith, l.invariant.2, c.requires.near.2))
 
 pub finish-requires : goal.finish-requires
-finish-requires c = let G = c.loop-turns.invariant.5 _ _ _ c.requires.1.state in
-    some_end (some_sampled (grown_on G (c.carry_lines-batch.ensures.0 _ _ _ G.state) (c.tell.ensures (not-false _ c.if-not-tell.false))))
+finish-requires c = let G = c.loop-turns.invariant.5 _ _ _ c.requires.stands.state in
+    some_end (some_sampled (grown_on G (c.carry_lines-batch.ensures.carries _ _ _ G.state) (c.tell.ensures (not-false _ c.if-not-tell.false))))
 
 pub shape_of-text-in-Ended : goal.shape_of-text-in-Ended
 shape_of-text-in-Ended c = c.follow.auto.0 ∙ c.loop-turns.invariant.2
@@ -83,15 +83,15 @@ loop-turns-smaller c = omega (arith, c.loop-turns-test.true)
 pub loop-turns-preserved : goal.loop-turns-preserved
 loop-turns-preserved c = let l = c.loop-turns in
     let y = c.carry_lines-batch in
-    let w = part c.follow.ensures.1 c.start-1.given.1 in
-    let r = simp (length-take, length-drop) at y.ensures.1.0 in (
+    let w = part c.follow.ensures.follows c.start-1.given.1 in
+    let r = simp (length-take, length-drop) at y.ensures.fits.0 in (
       omega (arith, w.more),
       w.most,
       c.follow.auto.0 ∙ l.invariant.2,
       y.auto.1.1.1.1.1.1.1.1.1.1.1.1.1.0 ∙ l.invariant.3,
-      omega (arith, l.invariant.0, l.invariant.1, l.invariant.2, l.invariant.4, r, y.ensures.1.1, c.requires.0.3, c.loop-turns-test.true),
+      omega (arith, l.invariant.0, l.invariant.1, l.invariant.2, l.invariant.4, r, y.ensures.fits.1, c.requires.near.3, c.loop-turns-test.true),
       λ d s X S. let G = l.invariant.5 d s X S in
-          grown_on G (y.ensures.0 d s _ G.state) (c.tell.ensures (not-false _ c.if-not-tell.false)),
+          grown_on G (y.ensures.carries d s _ G.state) (c.tell.ensures (not-false _ c.if-not-tell.false)),
     )
 
 pub refuse-requires-2 : goal.refuse-requires-2

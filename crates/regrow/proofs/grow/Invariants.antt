@@ -14,7 +14,7 @@ use borrow.Author.Rules.{rules}
 use Rattle.regrow.proofs.grow.Given as goal
 
 abbrev pub invariant-loop-turns : goal.invariant-loop-turns
-invariant-loop-turns l = (l.from ≤ l.to) × (l.to ≤ length l.text-1) × (length l.text-1 ≡ length l.initial.text) × (length l.out-1 ≡ length l.initial.out) × (l.number + 65536 * l.turns ≤ 72057594037927937)
+invariant-loop-turns l = (l.from ≤ l.to) × (l.to ≤ length l.text) × (length l.text ≡ length l.initial.text) × (length l.out ≡ length l.initial.out) × (l.number + 65536 * l.turns ≤ 72057594037927937)
     × ((d : ℕ) (s : Float) (X : Sampled (whole d)) → SampledState d s X l.initial.current (lent l.initial.nodes l.initial.cuts l.initial.copies l.initial.free l.initial.boxes) l.initial.points l.initial.written l.initial.weights l.initial.held
     → Grown d s X l.number l.current (lent l.nodes l.cuts l.copies l.free l.boxes) l.points l.written l.weights l.held)
 

@@ -4,4 +4,4 @@ use borrow.Author.Rules.{rules}
 use Rattle.regrow_line.proofs.write_answer.Goals as goal
 
 pub returns : goal.returns
-returns c = record { wrote = by_op _ _ _ c.op_of.ensures c.put_answer.ensures.0; fits = c.put_answer.ensures.1 }
+returns c = record { wrote = by_op _ _ _ c.op_of.ensures c.put_answer.ensures.wrote; fits = c.put_answer.ensures.fits }

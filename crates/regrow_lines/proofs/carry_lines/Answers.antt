@@ -18,7 +18,7 @@ pub loop-out-init : goal.loop-out-init
 loop-out-init c = (omega arith, omega arith, omega arith, refl, λ d s X S. begin S _ _ _ _)
 
 pub overflow_add-end : goal.overflow_add-end
-overflow_add-end c = omega (arith, c.loop-out.invariant.2, c.requires.0.1)
+overflow_add-end c = omega (arith, c.loop-out.invariant.2, c.requires.near.1)
 
 pub shape_of-out-then-out-end : goal.shape_of-out-then-out-end
 shape_of-out-then-out-end c = c.loop-out.invariant.3
@@ -39,18 +39,18 @@ returns-then-stop-text c = let l = c.loop-out in
 
 pub carry_line-done-requires : goal.carry_line-done-requires
 carry_line-done-requires c = let l = c.loop-out in
-    (omega (arith, l.invariant.2, c.requires.0.1), some_state (l.invariant.4 _ _ _ c.requires.1.state))
+    record { near = omega (arith, l.invariant.2, c.requires.near.1); stands = some_state (l.invariant.4 _ _ _ c.requires.stands.state) }
 
 pub overflow_add-next : goal.overflow_add-next
-overflow_add-next c = omega (arith, c.loop-out.invariant.0, c.loop-out.invariant.1, c.requires.0.0)
+overflow_add-next c = omega (arith, c.loop-out.invariant.0, c.loop-out.invariant.1, c.requires.near.0)
 
 pub overflow_add-at : goal.overflow_add-at
-overflow_add-at c = omega (arith, c.piece_end-stop.ensures.most, c.requires.0.0)
+overflow_add-at c = omega (arith, c.piece_end-stop.ensures.most, c.requires.near.0)
 
 pub shape_of-out-then-not-done : goal.shape_of-out-then-not-done
 shape_of-out-then-not-done c = let l = c.loop-out in
-    let R = l.invariant.4 _ _ _ c.requires.1.state in
-    long (c.carry_line-done.ensures.0 _ _ _ R.so_far.state).wrote ∙ l.invariant.3
+    let R = l.invariant.4 _ _ _ c.requires.stands.state in
+    long (c.carry_line-done.ensures.carries _ _ _ R.so_far.state).wrote ∙ l.invariant.3
 
 pub returns-then-not-done : goal.returns-then-not-done
 returns-then-not-done c = let l = c.loop-out in
@@ -58,8 +58,8 @@ returns-then-not-done c = let l = c.loop-out in
     let y = c.carry_line-done in
     rw c.so_far-then-not-done.ensures (
       λ d s X S. let R = l.invariant.4 d s X S in
-          ends R _ l.invariant.0 x c.if-stop-text.false (omega (arith, c.if-out-end.false, l.invariant.3)) y.result _ _ _ _ _ _ _ (y.ensures.0 d s _ R.so_far.state) (not-true _ c.if-not-done.true),
-      (omega (arith, x.most, c.if-stop-text.false), omega (arith, l.invariant.1, x.from), omega (arith, y.ensures.1, c.if-out-end.false, l.invariant.3)),
+          ends R _ l.invariant.0 x c.if-stop-text.false (omega (arith, c.if-out-end.false, l.invariant.3)) y.result _ _ _ _ _ _ _ (y.ensures.carries d s _ R.so_far.state) (not-true _ c.if-not-done.true),
+      (omega (arith, x.most, c.if-stop-text.false), omega (arith, l.invariant.1, x.from), omega (arith, y.ensures.fits, c.if-out-end.false, l.invariant.3)),
     )
 
 pub loop-out-smaller : goal.loop-out-smaller
@@ -71,8 +71,8 @@ loop-out-preserved c = let l = c.loop-out in
     let y = c.carry_line-done in (
       omega (arith, x.most, c.if-stop-text.false),
       omega (arith, l.invariant.1, x.from),
-      omega (arith, y.ensures.1, c.if-out-end.false, l.invariant.3),
-      long (y.ensures.0 _ _ _ (l.invariant.4 _ _ _ c.requires.1.state).so_far.state).wrote ∙ l.invariant.3,
+      omega (arith, y.ensures.fits, c.if-out-end.false, l.invariant.3),
+      long (y.ensures.carries _ _ _ (l.invariant.4 _ _ _ c.requires.stands.state).so_far.state).wrote ∙ l.invariant.3,
       λ d s X S. let R = l.invariant.4 d s X S in
-          turn R _ l.invariant.0 x c.if-stop-text.false (omega (arith, c.if-out-end.false, l.invariant.3)) y.result _ _ _ _ _ _ _ (y.ensures.0 d s _ R.so_far.state) (not-false _ c.if-not-done.false),
+          turn R _ l.invariant.0 x c.if-stop-text.false (omega (arith, c.if-out-end.false, l.invariant.3)) y.result _ _ _ _ _ _ _ (y.ensures.carries d s _ R.so_far.state) (not-false _ c.if-not-done.false),
     )

@@ -14,9 +14,9 @@ use borrow.Author.Rules.{rules}
 use Rattle.regrow_lines.proofs.carry_lines.Given as goal
 
 abbrev pub invariant-loop-out : goal.invariant-loop-out
-invariant-loop-out l = (l.at ≤ length l.text) × (l.next ≤ l.number + l.at) × (l.end ≤ length l.initial.out) × (length l.out-1 ≡ length l.initial.out)
+invariant-loop-out l = (l.at ≤ length l.text) × (l.next ≤ l.number + l.at) × (l.end ≤ length l.initial.out) × (length l.out ≡ length l.initial.out)
     × ((d : ℕ) (s : Float) (X : Sampled (whole d)) → SampledState d s X l.initial.current (lent l.initial.nodes l.initial.cuts l.initial.copies l.initial.free l.initial.boxes) l.initial.points l.initial.written l.initial.weights l.initial.held
-    → Carrying d s X l.text l.number l.initial.rows l.initial.out l.current (lent l.nodes l.cuts l.copies l.free l.boxes) l.points l.written l.weights l.held l.rows l.out-1 l.at l.next l.end)
+    → Carrying d s X l.text l.number l.initial.rows l.initial.out l.current (lent l.nodes l.cuts l.copies l.free l.boxes) l.points l.written l.weights l.held l.rows l.out l.at l.next l.end)
 
 abbrev pub decreases-loop-out : goal.decreases-loop-out
 decreases-loop-out l = length l.text - l.at

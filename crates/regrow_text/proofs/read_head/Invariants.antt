@@ -8,7 +8,7 @@ use borrow.Author.Rules.{rules}
 use Rattle.regrow_text.proofs.read_head.Given as goal
 
 abbrev pub invariant-loop-to : goal.invariant-loop-to
-invariant-loop-to l = (l.to ≤ length l.text-1) × (length l.text-1 ≡ length l.initial.text)
+invariant-loop-to l = (l.to ≤ length l.text) × (length l.text ≡ length l.initial.text)
 
 abbrev pub decreases-loop-to : goal.decreases-loop-to
 decreases-loop-to l = 121 - l.to

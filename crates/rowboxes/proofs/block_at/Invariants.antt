@@ -9,7 +9,7 @@ use Rattle.rowboxes.proofs.Rows.{block_none, block_turn}
 use Rattle.rowboxes.proofs.block_at.Given as goal
 
 abbrev pub invariant-loop-j : goal.invariant-loop-j
-invariant-loop-j l = (l.j ≤ lanes) × BlockTo l.j (λ (i : ℕ). channel l.row i) l.at l.block-1
+invariant-loop-j l = (l.j ≤ lanes) × BlockTo l.j (λ (i : ℕ). channel l.row i) l.at l.block
 
 abbrev pub decreases-loop-j : goal.decreases-loop-j
 decreases-loop-j l = lanes - l.j

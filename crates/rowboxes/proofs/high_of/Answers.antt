@@ -11,7 +11,7 @@ pub bounds-points-index : goal.bounds-points-index
 bounds-points-index c = let h = c.requires.0 c.if-capacity-node.true in omega arith
 
 pub returns-then-capacity-node : goal.returns-then-capacity-node
-returns-then-capacity-node c = (λ _. refl, λ h. absurd (omega (arith, c.if-capacity-node.true)))
+returns-then-capacity-node c = record { leaf = λ _. refl; slot = λ h. absurd (omega (arith, c.if-capacity-node.true)) }
 
 pub offset_bounds-boxes-node : goal.offset_bounds-boxes-node
 offset_bounds-boxes-node c = let h = c.requires.1 c.if-capacity-node.false in omega arith

@@ -12,37 +12,37 @@ use Rattle.rowboxes.proofs.Rows.{FilledEnds, ends_none, ends_turn, second_long, 
 use Rattle.rowboxes.proofs.join.Goals as goal
 
 pub loop-at-init : goal.loop-at-init
-loop-at-init c = (first_step, ends_none _ _ _ _ c.requires.1.1.2)
+loop-at-init c = (first_step, ends_none _ _ _ _ c.requires.padded.2)
 
 pub low_of-requires : goal.low_of-requires
-low_of-requires c = in_arrays _ (cached_of c.args.sizes.now) _ c.requires.0.1 c.requires.1.0.0
+low_of-requires c = in_arrays _ (cached_of c.args.sizes.now) _ c.requires.few.1 c.requires.hand.0
 
 pub low_of-requires-in-loop-at : goal.low_of-requires-in-loop-at
-low_of-requires-in-loop-at c = in_arrays _ (cached_of c.args.sizes.now) _ c.requires.0.1 c.requires.1.0.1
+low_of-requires-in-loop-at c = in_arrays _ (cached_of c.args.sizes.now) _ c.requires.few.1 c.requires.hand.1
 
 pub least_at-low-requires : goal.least_at-low-requires
-least_at-low-requires c = room _ _ c.loop-at.invariant.0 c.loop-at-test.true c.requires.0.2
+least_at-low-requires c = room _ _ c.loop-at.invariant.0 c.loop-at-test.true c.requires.few.2
 
 pub high_of-requires : goal.high_of-requires
-high_of-requires c = in_arrays _ (cached_of c.args.sizes.now) _ c.requires.0.1 c.requires.1.0.0
+high_of-requires c = in_arrays _ (cached_of c.args.sizes.now) _ c.requires.few.1 c.requires.hand.0
 
 pub high_of-requires-in-loop-at : goal.high_of-requires-in-loop-at
-high_of-requires-in-loop-at c = in_arrays _ (cached_of c.args.sizes.now) _ c.requires.0.1 c.requires.1.0.1
+high_of-requires-in-loop-at c = in_arrays _ (cached_of c.args.sizes.now) _ c.requires.few.1 c.requires.hand.1
 
 pub greatest_at-high-requires : goal.greatest_at-high-requires
-greatest_at-high-requires c = room _ _ c.loop-at.invariant.0 c.loop-at-test.true c.requires.0.2
+greatest_at-high-requires c = room _ _ c.loop-at.invariant.0 c.loop-at-test.true c.requires.few.2
 
 pub put_at-requires : goal.put_at-requires
-put_at-requires c = (room _ _ c.loop-at.invariant.0 c.loop-at-test.true c.requires.0.2, c.loop-at.invariant.1.low.long)
+put_at-requires c = (room _ _ c.loop-at.invariant.0 c.loop-at-test.true c.requires.few.2, c.loop-at.invariant.1.low.long)
 
 pub put_at-requires-in-loop-at : goal.put_at-requires-in-loop-at
-put_at-requires-in-loop-at c = let at = c.loop-at in (room _ _ c.loop-at.invariant.0 c.loop-at-test.true c.requires.0.2, second_long at.ends at.invariant.1.two at.invariant.1.high.long _)
+put_at-requires-in-loop-at c = let at = c.loop-at in (room _ _ c.loop-at.invariant.0 c.loop-at-test.true c.requires.few.2, second_long at.ends at.invariant.1.two at.invariant.1.high.long _)
 
 pub overflow_add-at : goal.overflow_add-at
-overflow_add-at c = let r = room _ _ c.loop-at.invariant.0 c.loop-at-test.true c.requires.0.2 in omega arith
+overflow_add-at c = let r = room _ _ c.loop-at.invariant.0 c.loop-at-test.true c.requires.few.2 in omega arith
 
 pub loop-at-smaller : goal.loop-at-smaller
-loop-at-smaller c = let r = room _ _ c.loop-at.invariant.0 c.loop-at-test.true c.requires.0.2 in omega arith
+loop-at-smaller c = let r = room _ _ c.loop-at.invariant.0 c.loop-at-test.true c.requires.few.2 in omega arith
 
 pub loop-at-preserved : goal.loop-at-preserved
 loop-at-preserved c = let at = c.loop-at in
@@ -55,8 +55,8 @@ loop-at-preserved c = let at = c.loop-at in
     let hb = c.high_of-in-loop-at.ensures in (
       next_step _ at.invariant.0,
       ends_turn _ _ _ _ at.at _ at.ends _ _ _ _ F
-          c.least_at-low.ensures (λ i l. ap₂ (λ (x y : List Float). least (channel x i) (channel y i)) (by_hand n A.a _ _ _ la.0 la.1) (by_hand n A.b _ _ _ lb.0 lb.1))
-          c.greatest_at-high.ensures (λ i l. ap₂ (λ (x y : List Float). greatest (channel x i) (channel y i)) (by_hand n A.a _ _ _ ha.0 ha.1) (by_hand n A.b _ _ _ hb.0 hb.1))
+          c.least_at-low.ensures (λ i l. ap₂ (λ (x y : List Float). least (channel x i) (channel y i)) (by_hand n A.a _ _ _ la.leaf la.slot) (by_hand n A.b _ _ _ lb.leaf lb.slot))
+          c.greatest_at-high.ensures (λ i l. ap₂ (λ (x y : List Float). greatest (channel x i) (channel y i)) (by_hand n A.a _ _ _ ha.leaf ha.slot) (by_hand n A.b _ _ _ hb.leaf hb.slot))
           c.put_at.ensures c.put_at-in-loop-at.ensures,
     )
 
@@ -66,9 +66,9 @@ returns c = let F = c.loop-at.invariant.1 in
     let n = capacity_of A.sizes.now in
     let k = cached_of A.sizes.now in
     let d = channels_of A.sizes.now in
-    let P = c.requires.1.1 in
-    let u : InArrays n A.a = in_arrays n k A.a c.requires.0.1 c.requires.1.0.0 in
-    let v : InArrays n A.b = in_arrays n k A.b c.requires.0.1 c.requires.1.0.1 in
+    let P = c.requires.padded in
+    let u : InArrays n A.a = in_arrays n k A.a c.requires.few.1 c.requires.hand.0 in
+    let v : InArrays n A.b = in_arrays n k A.b c.requires.few.1 c.requires.hand.1 in
     let la = hand_padded d n A.a _ _ (λ l. P.0 _ (u.0 l)) (λ l. (P.1.slots _ (u.1 l)).low) in
     let lb = hand_padded d n A.b _ _ (λ l. P.0 _ (v.0 l)) (λ l. (P.1.slots _ (v.1 l)).low) in
     let ha = hand_padded d n A.a _ _ (λ l. P.0 _ (u.0 l)) (λ l. (P.1.slots _ (u.1 l)).high) in

@@ -12,25 +12,25 @@ use Rattle.rowboxes.proofs.Rows.{FilledEnds, ends_none, ends_turn, second_long, 
 use Rattle.rowboxes.proofs.widen.Goals as goal
 
 pub loop-at-init : goal.loop-at-init
-loop-at-init c = (first_step, ends_none _ _ _ _ c.requires.1.0)
+loop-at-init c = (first_step, ends_none _ _ _ _ c.requires.padded.0)
 
 pub least_at-low-requires : goal.least_at-low-requires
-least_at-low-requires c = room _ _ c.loop-at.invariant.0 c.loop-at-test.true c.requires.0
+least_at-low-requires c = room _ _ c.loop-at.invariant.0 c.loop-at-test.true c.requires.few
 
 pub greatest_at-high-requires : goal.greatest_at-high-requires
-greatest_at-high-requires c = room _ _ c.loop-at.invariant.0 c.loop-at-test.true c.requires.0
+greatest_at-high-requires c = room _ _ c.loop-at.invariant.0 c.loop-at-test.true c.requires.few
 
 pub put_at-requires : goal.put_at-requires
-put_at-requires c = (room _ _ c.loop-at.invariant.0 c.loop-at-test.true c.requires.0, c.loop-at.invariant.1.low.long)
+put_at-requires c = (room _ _ c.loop-at.invariant.0 c.loop-at-test.true c.requires.few, c.loop-at.invariant.1.low.long)
 
 pub put_at-requires-in-loop-at : goal.put_at-requires-in-loop-at
-put_at-requires-in-loop-at c = let at = c.loop-at in (room _ _ c.loop-at.invariant.0 c.loop-at-test.true c.requires.0, second_long at.ends at.invariant.1.two at.invariant.1.high.long _)
+put_at-requires-in-loop-at c = let at = c.loop-at in (room _ _ c.loop-at.invariant.0 c.loop-at-test.true c.requires.few, second_long at.ends at.invariant.1.two at.invariant.1.high.long _)
 
 pub overflow_add-at : goal.overflow_add-at
-overflow_add-at c = let r = room _ _ c.loop-at.invariant.0 c.loop-at-test.true c.requires.0 in omega arith
+overflow_add-at c = let r = room _ _ c.loop-at.invariant.0 c.loop-at-test.true c.requires.few in omega arith
 
 pub loop-at-smaller : goal.loop-at-smaller
-loop-at-smaller c = let r = room _ _ c.loop-at.invariant.0 c.loop-at-test.true c.requires.0 in omega arith
+loop-at-smaller c = let r = room _ _ c.loop-at.invariant.0 c.loop-at-test.true c.requires.few in omega arith
 
 pub loop-at-preserved : goal.loop-at-preserved
 loop-at-preserved c = let at = c.loop-at in
@@ -40,5 +40,5 @@ loop-at-preserved c = let at = c.loop-at in
 
 pub returns : goal.returns
 returns c = let F = c.loop-at.invariant.1 in
-    let P = c.requires.1 in
+    let P = c.requires.padded in
     pair_of _ _ _ F.two (fill_joined least nought_least _ _ _ _ _ c.loop-at-test.false P.0.low P.1 F.low) (fill_joined greatest nought_greatest _ _ _ _ _ c.loop-at-test.false P.0.high P.2 F.high)

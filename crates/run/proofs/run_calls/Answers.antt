@@ -18,38 +18,38 @@ below : (p n m : ℕ) → p < n → n ≡ m → p < m
 below p n m h e = omega arith
 
 pub making_width-p-requires : goal.making_width-p-requires
-making_width-p-requires c =     omega (arith, making_five c.args.run.now c.requires.0)
+making_width-p-requires c =     omega (arith, making_five c.args.run.now c.requires.making)
 
 pub number_or_none-kind-requires : goal.number_or_none-kind-requires
-number_or_none-kind-requires c =     making_whole c.args.run.now c.requires.0
+number_or_none-kind-requires c =     making_whole c.args.run.now c.requires.making
 
 pub loop-p-init : goal.loop-p-init
 loop-p-init c =     let e = c.making_width-p.ensures.0 in
-    (omega (arith, e, making_fits c.args.run.now c.requires.0), refl, c.number_or_none-kind.ensures.0, λ final count R. subst (λ (q : ℕ). Running c.args.run.now q 1 c.args.tree (kept (lent c.args.nodes.now c.args.cuts.now c.args.copies.now c.args.free.now c.args.boxes.now) c.args.points.now c.args.written.now c.args.weights.now c.args.held.now) c.args.answers.now final count) (sym e) R)
+    (omega (arith, e, making_fits c.args.run.now c.requires.making), refl, c.number_or_none-kind.ensures.0, λ final count R. subst (λ (q : ℕ). Running c.args.run.now q 1 c.args.tree (kept (lent c.args.nodes.now c.args.cuts.now c.args.copies.now c.args.free.now c.args.boxes.now) c.args.points.now c.args.written.now c.args.weights.now c.args.held.now) c.args.answers.now final count) (sym e) R)
 
 pub answer_width-width-requires : goal.answer_width-width-requires
-answer_width-width-requires c = (c.requires.0, below _ _ _ c.loop-p-test.true c.type_size.ensures)
+answer_width-width-requires c = (c.requires.making, below _ _ _ c.loop-p-test.true c.type_size.ensures)
 
 pub width_at-requires : goal.width_at-requires
-width_at-requires c =     (below _ _ _ c.loop-p-test.true c.type_size.ensures, making_whole c.args.run.now c.requires.0)
+width_at-requires c =     (below _ _ _ c.loop-p-test.true c.type_size.ensures, making_whole c.args.run.now c.requires.making)
 
 pub overflow_add-next : goal.overflow_add-next
 overflow_add-next c =     let h = below _ _ _ c.loop-p-test.true c.type_size.ensures in
     omega (arith, h, c.width_at.ensures.2, c.well_formed)
 
 pub number_or_none-ahead-requires : goal.number_or_none-ahead-requires
-number_or_none-ahead-requires c =     making_whole c.args.run.now c.requires.0
+number_or_none-ahead-requires c =     making_whole c.args.run.now c.requires.making
 
 pub step-current-requires : goal.step-current-requires
 step-current-requires c =     let l = c.loop-p in
-    let R = l.invariant.3 _ _ c.requires.1.running in
+    let R = l.invariant.3 _ _ c.requires.ready.running in
     let h = below _ _ _ c.loop-p-test.true c.type_size.ensures in
     let w = c.answer_width-width in
-    ((stands c.args.run.now _ _ _ (kept (lent l.nodes l.cuts l.copies l.free l.boxes) l.points l.written l.weights l.held) _ _ _ R h, l.invariant.2), (some_standing c.args.run.now _ _ _ (kept (lent l.nodes l.cuts l.copies l.free l.boxes) l.points l.written l.weights l.held) _ _ _ R h, (w.ensures.0, fits c.args.run.now _ _ _ (kept (lent l.nodes l.cuts l.copies l.free l.boxes) l.points l.written l.weights l.held) _ _ _ R h _ w.ensures.0)))
+    record { stands = (stands c.args.run.now _ _ _ (kept (lent l.nodes l.cuts l.copies l.free l.boxes) l.points l.written l.weights l.held) _ _ _ R h, l.invariant.2); state = some_standing c.args.run.now _ _ _ (kept (lent l.nodes l.cuts l.copies l.free l.boxes) l.points l.written l.weights l.held) _ _ _ R h; room = (w.ensures.0, fits c.args.run.now _ _ _ (kept (lent l.nodes l.cuts l.copies l.free l.boxes) l.points l.written l.weights l.held) _ _ _ R h _ w.ensures.0) }
 
 pub overflow_add-out : goal.overflow_add-out
 overflow_add-out c =     let l = c.loop-p in
-    let R = l.invariant.3 _ _ c.requires.1.running in
+    let R = l.invariant.3 _ _ c.requires.ready.running in
     let h = below _ _ _ c.loop-p-test.true c.type_size.ensures in
     let w = c.answer_width-width in
     omega (arith, fits c.args.run.now _ _ _ (kept (lent l.nodes l.cuts l.copies l.free l.boxes) l.points l.written l.weights l.held) _ _ _ R h _ w.ensures.0, l.invariant.1, c.well_formed)
@@ -60,10 +60,10 @@ loop-p-smaller c = let h = below _ _ _ c.loop-p-test.true c.type_size.ensures in
 
 pub loop-p-preserved : goal.loop-p-preserved
 loop-p-preserved c =     let l = c.loop-p in
-    let R = l.invariant.3 _ _ c.requires.1.running in
+    let R = l.invariant.3 _ _ c.requires.ready.running in
     let h = below _ _ _ c.loop-p-test.true c.type_size.ensures in
     let w = c.answer_width-width in
-    let d = c.step-current.ensures.0 in
+    let d = c.step-current.ensures.told in
     let g = c.width_at.ensures.0 in (
       omega (arith, g, within c.args.run.now l.p (stands c.args.run.now _ _ _ (kept (lent l.nodes l.cuts l.copies l.free l.boxes) l.points l.written l.weights l.held) _ _ _ R h)),
       answers_length c.args.run.now _ _ _ (kept (lent l.nodes l.cuts l.copies l.free l.boxes) l.points l.written l.weights l.held) _ _ _ R h _ w.ensures.0 (room l.words l.reply l.rows l.answers) _ _ _ d refl ∙ l.invariant.1,

@@ -4,4 +4,4 @@ use borrow.Author.Rules.{rules}
 use Rattle.runcalls.proofs.add_call.Goals as goal
 
 pub returns : goal.returns
-returns c =     add-given c.args.run.now _ _ _ _ _ _ _ _ _ _ _ c.number_at-index.ensures.0 _ _ c.args.words.now _ c.number_at.ensures.0 c.at_most-n.ensures c.read_words.ensures c.add.ensures
+returns c = let it = add-given c.args.run.now _ _ _ _ _ _ _ _ _ _ _ c.number_at-index.ensures.0 _ _ c.args.words.now _ c.number_at.ensures.0 c.at_most-n.ensures (c.read_words.ensures.all, c.read_words.ensures.first) c.add.ensures in record { done = it.0; words = it.1 }

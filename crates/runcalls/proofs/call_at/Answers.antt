@@ -5,40 +5,40 @@ use Rattle.runcalls.proofs.Places.{put_inside, add_inside, any_inside, words_rea
 use Rattle.runcalls.proofs.call_at.Goals as goal
 
 pub number_at-kind-requires : goal.number_at-kind-requires
-number_at-kind-requires c = omega (arith, any_inside c.args.run.now _ c.requires.0.0 c.requires.0.1)
+number_at-kind-requires c = omega (arith, any_inside c.args.run.now _ c.requires.plain.0 c.requires.plain.1)
 
 pub put_call-requires : goal.put_call-requires
-put_call-requires c = put_inside c.args.run.now _ c.requires.0.0 c.requires.0.1 _ c.number_at-kind.ensures.0 c.if-kind-eq3.true
+put_call-requires c = put_inside c.args.run.now _ c.requires.plain.0 c.requires.plain.1 _ c.number_at-kind.ensures.0 c.if-kind-eq3.true
 
 pub returns-then-kind-eq3 : goal.returns-then-kind-eq3
 returns-then-kind-eq3 c =     let e = c.number_at-kind.ensures.0 in
     let f = c.if-kind-eq3.true in
-    (put_there c.args.run.now _ _ _ _ _ _ _ _ _ _ _ e f (c.put_call.ensures _ refl), words_kept c.args.run.now c.args.p _ e _ (λ x. omega (arith, f, x)))
+    record { done = put_there c.args.run.now _ _ _ _ _ _ _ _ _ _ _ e f (c.put_call.ensures _ refl); words = words_kept c.args.run.now c.args.p _ e _ (λ x. omega (arith, f, x)) }
 
 pub add_call-requires : goal.add_call-requires
-add_call-requires c = (add_inside c.args.run.now _ c.requires.0.0 c.requires.0.1 _ c.number_at-kind.ensures.0 c.if-kind-eq4.true, c.requires.1)
+add_call-requires c = (add_inside c.args.run.now _ c.requires.plain.0 c.requires.plain.1 _ c.number_at-kind.ensures.0 c.if-kind-eq4.true, c.requires.state)
 
 pub returns-then-kind-eq4 : goal.returns-then-kind-eq4
 returns-then-kind-eq4 c =     let e = c.number_at-kind.ensures.0 in
     let g = c.if-kind-eq4.true in
-    (add_there c.args.run.now _ _ _ _ _ _ _ _ _ _ _ e c.if-kind-eq3.false g c.add_call.ensures.0, c.add_call.ensures.1 ∙ words_read_lem c.args.run.now c.args.p _ e c.args.words.now g)
+    record { done = add_there c.args.run.now _ _ _ _ _ _ _ _ _ _ _ e c.if-kind-eq3.false g c.add_call.ensures.done; words = c.add_call.ensures.words ∙ words_read_lem c.args.run.now c.args.p _ e c.args.words.now g }
 
 pub delete_call-requires : goal.delete_call-requires
-delete_call-requires c = (any_inside c.args.run.now _ c.requires.0.0 c.requires.0.1, c.requires.1)
+delete_call-requires c = (any_inside c.args.run.now _ c.requires.plain.0 c.requires.plain.1, c.requires.state)
 
 pub returns-then-kind-eq5 : goal.returns-then-kind-eq5
 returns-then-kind-eq5 c =     let e = c.number_at-kind.ensures.0 in
     let g = c.if-kind-eq4.false in
-    (delete_there c.args.run.now _ _ _ _ _ _ _ _ _ _ _ e c.if-kind-eq3.false g c.if-kind-eq5.true c.delete_call.ensures, words_kept c.args.run.now c.args.p _ e _ g)
+    record { done = delete_there c.args.run.now _ _ _ _ _ _ _ _ _ _ _ e c.if-kind-eq3.false g c.if-kind-eq5.true c.delete_call.ensures; words = words_kept c.args.run.now c.args.p _ e _ g }
 
 pub overflow_add-p : goal.overflow_add-p
-overflow_add-p c = omega (arith, any_inside c.args.run.now _ c.requires.0.0 c.requires.0.1)
+overflow_add-p c = omega (arith, any_inside c.args.run.now _ c.requires.plain.0 c.requires.plain.1)
 
 pub number_at-id-requires : goal.number_at-id-requires
-number_at-id-requires c = omega (arith, any_inside c.args.run.now _ c.requires.0.0 c.requires.0.1)
+number_at-id-requires c = omega (arith, any_inside c.args.run.now _ c.requires.plain.0 c.requires.plain.1)
 
 pub query-requires : goal.query-requires
-query-requires c = readable _ _ _ _ c.requires.1
+query-requires c = readable _ _ _ _ c.requires.state
 
 pub returns : goal.returns
 returns c =     let e = c.number_at-kind.ensures.0 in

@@ -7,4 +7,4 @@ use Rattle.runcalls.proofs.put_call.Goals as goal
 
 pub returns : goal.returns
 returns c =         let s = c.args in
-    λ a e. put-given s.run.now _ _ _ _ _ _ _ _ _ _ _ c.number_at-index.ensures.0 _ _ _ c.number_at.ensures.0 c.at_most-n.ensures (firsts_taken _ _ _ _ c.read_coordinates.ensures (omega arith)) (λ xs. c.put.ensures.1 a xs e)
+    λ a e. put-given s.run.now _ _ _ _ _ _ _ _ _ _ _ c.number_at-index.ensures.0 _ _ _ c.number_at.ensures.0 c.at_most-n.ensures (firsts_taken _ _ _ _ c.read_coordinates.ensures (omega arith)) (λ xs. c.put.ensures.does a xs e)

@@ -15,4 +15,4 @@ slice_bounds-traverse_in-end-3 c = sym (length-take-le c.args.n c.args.rows.now 
 
 pub returns : goal.returns
 returns c =     let s = c.args in
-    record { told = first_told _ _ _ _ _ _ (take s.k s.coordinates.now) s.n s.rows.now _ _ _ (omega arith) refl c.traverse_in.ensures.0; memory = c.traverse_in.ensures.1 }
+    record { told = first_told _ _ _ _ _ _ (take s.k s.coordinates.now) s.n s.rows.now _ _ _ (omega arith) refl c.traverse_in.ensures.told; memory = c.traverse_in.ensures.memory }

@@ -10,7 +10,7 @@ use borrow.Author.Rules.{rules}
 use Rattle.runreports.proofs.write_rows.Given as goal
 
 abbrev pub invariant-loop-i : goal.invariant-loop-i
-invariant-loop-i l = (l.i ≤ l.n) × (l.answers-1 ≡ sets l.initial.answers (4 * l.out) (bytes_of (lent_numbers (up_to l.i (take l.count l.rows)))))
+invariant-loop-i l = (l.i ≤ l.n) × (l.answers ≡ sets l.initial.answers (4 * l.out) (bytes_of (lent_numbers (up_to l.i (take l.count l.rows)))))
 
 abbrev pub decreases-loop-i : goal.decreases-loop-i
 decreases-loop-i l = l.n - l.i

@@ -10,7 +10,7 @@ use Rattle.little.proofs.Stored.{sets_append, length_bytes, bytes_append}
 use Rattle.runsteps.proofs.write_reply.Given as goal
 
 abbrev pub invariant-loop-i : goal.invariant-loop-i
-invariant-loop-i l = (l.i ≤ l.n) × (l.answers-1 ≡ sets l.initial.answers (4 * l.out) (bytes_of (take l.i l.reply)))
+invariant-loop-i l = (l.i ≤ l.n) × (l.answers ≡ sets l.initial.answers (4 * l.out) (bytes_of (take l.i l.reply)))
 
 abbrev pub decreases-loop-i : goal.decreases-loop-i
 decreases-loop-i l = l.n - l.i

@@ -32,7 +32,7 @@ returns-then-left-size c = let a = c.args in
     let right = 2 * a.current + 2 in
     let next : left + 1 ≡ right = omega arith in
     let m = added (tests a.weights.now a.current) left _ c.more.ensures in
-    ((omega arith, omega (arith, m.0)), λ ks ws ps points at. rw (at.size, lt-ltb right a.size (omega arith), ← weight_at at right (omega arith), ← weight_at at left (omega arith), ← next) m.1)
+    record { range = (omega arith, omega (arith, m.0)); is = λ ks ws ps points at. rw (at.size, lt-ltb right a.size (omega arith), ← weight_at at right (omega arith), ← weight_at at left (omega arith), ← next) m.1 }
 
 pub returns : goal.returns
 unfolding heavier

@@ -22,7 +22,7 @@ loop-current-preserved c = let s = c.loop-current in
       omega arith,
       λ ks ws ps at.
           let w = s.invariant.1 ks ws ps at in
-          rw (c.swap_weights.ensures.0, c.swap_weights.ensures.1)
+          rw (c.swap_weights.ensures.weights_after, c.swap_weights.ensures.points_after)
           (way_goes _ _ w j (omega arith) (omega arith) (omega arith)
           (rw (lt-ltb 0 s.current (omega arith)) (compared w.slots s.current j (omega arith) (omega arith) ∙ c.if-weights-tmp.true)) refl),
     )

@@ -14,7 +14,7 @@ use Rattle.text.proofs.coordinate_at.Reads as coordinate-at-reads
 use Rattle.text.proofs.read_coordinates.Given as goal
 
 abbrev pub invariant-loop-at : goal.invariant-loop-at
-invariant-loop-at l = Storing (λ (p : List ℕ). coordinate_or_zero (coordinate_of p)) l.row l.start l.initial.coordinates l.coordinates-1 l.at l.n
+invariant-loop-at l = Storing (λ (p : List ℕ). coordinate_or_zero (coordinate_of p)) l.row l.start l.initial.coordinates l.coordinates l.at l.n
 
 abbrev pub decreases-loop-at : goal.decreases-loop-at
 decreases-loop-at l = length l.row + 1 - l.at

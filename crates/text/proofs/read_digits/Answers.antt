@@ -18,10 +18,10 @@ pub returns-then-base-d : goal.returns-then-base-d
 returns-then-base-d c = digit_bad c.loop-i.invariant c.loop-i-test.true c.digit_value-d.ensures c.if-base-d.true
 
 pub overflow_mul-v : goal.overflow_mul-v
-overflow_mul-v c = let g = fit (digit_step c.loop-i.invariant c.loop-i-test.true c.digit_value-d.ensures c.if-base-d.false) c.requires.0 c.requires.1 in record { fits = omega arith }
+overflow_mul-v c = let g = fit (digit_step c.loop-i.invariant c.loop-i-test.true c.digit_value-d.ensures c.if-base-d.false) c.requires.base_nonzero c.requires.field_bound in record { fits = omega arith }
 
 pub overflow_add-v : goal.overflow_add-v
-overflow_add-v c = let g = fit (digit_step c.loop-i.invariant c.loop-i-test.true c.digit_value-d.ensures c.if-base-d.false) c.requires.0 c.requires.1 in record { fits = omega arith }
+overflow_add-v c = let g = fit (digit_step c.loop-i.invariant c.loop-i-test.true c.digit_value-d.ensures c.if-base-d.false) c.requires.base_nonzero c.requires.field_bound in record { fits = omega arith }
 
 pub overflow_add-i : goal.overflow_add-i
 overflow_add-i c = omega arith

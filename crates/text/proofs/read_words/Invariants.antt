@@ -14,7 +14,7 @@ use Rattle.text.proofs.word_at.Reads as word-at-reads
 use Rattle.text.proofs.read_words.Given as goal
 
 abbrev pub invariant-loop-at : goal.invariant-loop-at
-invariant-loop-at l = Storing (λ (p : List ℕ). number_or_zero (word_of p)) l.row l.start l.initial.words l.words-1 l.at l.n
+invariant-loop-at l = Storing (λ (p : List ℕ). number_or_zero (word_of p)) l.row l.start l.initial.words l.words l.at l.n
 
 abbrev pub decreases-loop-at : goal.decreases-loop-at
 decreases-loop-at l = length l.row + 1 - l.at

@@ -4,17 +4,17 @@ use Rattle.treelist_text.proofs.Makes.{not_made, begun, is_made}
 use Rattle.treelist_text.proofs.print_by.Goals as goal
 
 pub run_rows-requires : goal.run_rows-requires
-run_rows-requires c = record { within = c.requires.0; ready = record {
+run_rows-requires c = record { within = c.requires.within; ready = record {
         channels = _;
         capacity = _;
         share = _;
         world = _;
         ops = _;
-        standing = begun c.new-made.ensures _ c.made-in-Tree-1.given.1 c.args.text.now _ _ _ c.no_points-points.ensures c.no_marks-written.ensures _ c.requires.1.rest;
+        standing = begun c.new-made.ensures _ c.made-in-Tree-1.given.1 c.args.text.now _ _ _ c.no_points-points.ensures c.no_marks-written.ensures _ c.requires.rows.rest;
       } }
 
 pub returns-in-NotMade : goal.returns-in-NotMade
-returns-in-NotMade c = λ os e. not_made c.new-made.ensures _ _ c.made-1.given.1 c.wide8.ensures.0 os c.put_refused.ensures.0
+returns-in-NotMade c = λ os e. not_made c.new-made.ensures _ _ c.made-1.given.1 c.wide8.ensures.0 os c.put_refused.ensures.wrote
 
 pub returns-in-Tree : goal.returns-in-Tree
 returns-in-Tree c =     let m = c.new-made.ensures in

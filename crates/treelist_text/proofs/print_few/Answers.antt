@@ -13,4 +13,4 @@ returns-then-channels-le-LISTED c = let a = c.args in
 pub returns : goal.returns
 returns c = let a = c.args in
     let h : 8 < a.channels = omega arith in
-    λ os e. listed_not a.channels a.capacity a.share os h c.put_refused.ensures.0
+    λ os e. listed_not a.channels a.capacity a.share os h c.put_refused.ensures.wrote

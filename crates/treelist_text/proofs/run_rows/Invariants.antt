@@ -17,7 +17,7 @@ use Rattle.treelist_text.proofs.run_rows.Given as goal
 
 abbrev pub invariant-loop-reply : goal.invariant-loop-reply
 invariant-loop-reply l = (l.at ≤ length l.text) × (l.row ≤ l.at) × (l.p ≤ 50 * l.row)
-    × ((d c : ℕ) (s : Float) (W : World (whole d)) (os : List Op) → Standing d c s W os l.text l.start 0 l.initial.current (lent l.initial.nodes l.initial.cuts l.initial.copies l.initial.free l.initial.boxes) l.initial.points l.initial.written → Running d c s l.initial.out (output_from d c W 0 os) l.text l.at l.row l.current (lent l.nodes l.cuts l.copies l.free l.boxes) l.points l.written l.p l.out-1)
+    × ((d c : ℕ) (s : Float) (W : World (whole d)) (os : List Op) → Standing d c s W os l.text l.start 0 l.initial.current (lent l.initial.nodes l.initial.cuts l.initial.copies l.initial.free l.initial.boxes) l.initial.points l.initial.written → Running d c s l.initial.out (output_from d c W 0 os) l.text l.at l.row l.current (lent l.nodes l.cuts l.copies l.free l.boxes) l.points l.written l.p l.out)
 
 abbrev pub decreases-loop-reply : goal.decreases-loop-reply
 decreases-loop-reply l = length l.text - l.at

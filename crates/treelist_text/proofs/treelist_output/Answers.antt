@@ -8,7 +8,7 @@ pub print_made-requires : goal.print_made-requires
 print_made-requires c = in_form_lem _ _ _ c.check_form.ensures c.enum_told-1.given.1
 
 pub returns-in-Bad : goal.returns-in-Bad
-returns-in-Bad c = fitting _ (bad_output _ _ _ c.check_form.ensures c.row-1.given.1 c.put_refused.ensures.0)
+returns-in-Bad c = let it = fitting _ (bad_output _ _ _ c.check_form.ensures c.row-1.given.1 c.put_refused.ensures.wrote) in record { wrote = it.0; fits = it.1 }
 
 pub returns-in-Good : goal.returns-in-Good
-returns-in-Good c = fitting _ c.print_made.ensures
+returns-in-Good c = let it = fitting _ c.print_made.ensures in record { wrote = it.0; fits = it.1 }

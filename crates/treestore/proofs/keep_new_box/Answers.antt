@@ -5,4 +5,4 @@ use borrow.Author.Rules.{rules}
 use Rattle.treestore.proofs.keep_new_box.Goals as goal
 
 pub returns-else-index-sizes : goal.returns-else-index-sizes
-returns-else-index-sizes c = ((λ d l u _ _ _ _. sym (written_other _ _ _ _ c.if-index-sizes.false)), c.requires.1.1.1)
+returns-else-index-sizes c = record { kept = (λ d l u _ _ _ _. sym (written_other _ _ _ _ c.if-index-sizes.false)); padded = c.requires.padded.1 }

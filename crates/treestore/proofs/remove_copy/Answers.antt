@@ -23,7 +23,7 @@ pub overflow_sub-result : goal.overflow_sub-result
 overflow_sub-result c = omega (arith, c.requires.walking.some-room)
 
 pub returns-then-n-lt2 : goal.returns-then-n-lt2
-returns-then-n-lt2 c = λ t u p G held. alone G _ c.if-copies-leaf-gt1.false c.if-n-lt2.true (c.remove_root.ensures.1 _ _ _ _ _ _ _ (one_row G c.if-n-lt2.true))
+returns-then-n-lt2 c = λ t u p G held. alone G _ c.if-copies-leaf-gt1.false c.if-n-lt2.true (c.remove_root.ensures.arrays _ _ _ _ _ _ _ (one_row G c.if-n-lt2.true))
 
 pub remove_last-requires : goal.remove_last-requires
 remove_last-requires c = record { held = c.requires; last = c.if-copies-leaf-gt1.false; below = c.if-n-lt2.false }

@@ -38,4 +38,4 @@ returns-else-a-i c = let a = c.args in
 
 pub returns : goal.returns
 returns c =     let e : c.loop-i.i ≡ c.args.dimensions = omega arith in
-    sym (same_padded _ _ _ c.requires.0 c.requires.1.0 c.requires.1.1 ∙ rw e at c.loop-i.invariant.1)
+    sym (same_padded _ _ _ c.requires.narrow c.requires.padded.0 c.requires.padded.1 ∙ rw e at c.loop-i.invariant.1)

@@ -21,11 +21,11 @@ here c =
     turn _ _ _ _ _ _ _ _ _ _ w.0 w.3.walks.point-is (w.4 _ _ _ w.3.walks) c.loop-node-test.true
 
 pub loop-node-init : goal.loop-node-init
-loop-node-init c = (search rules, search rules, refl, c.requires.1, λ d t p w. rw c.begin.ensures.1 (start _ _ _ _ d p _ c.args.path.now t c.begin.ensures.0 w))
+loop-node-init c = (search rules, search rules, refl, c.requires.some_walks, λ d t p w. rw c.begin.ensures.root (start _ _ _ _ d p _ c.args.path.now t c.begin.ensures.whole w))
 
 pub step_at-s-requires : goal.step_at-s-requires
 step_at-s-requires c = let t = here c.before in
-    (omega (arith, c.wide16.ensures.0, c.loop-node.invariant.0, t.small), rw c.wide16.ensures.0 t.chan)
+    record { i_lt_branch_limit = omega (arith, c.wide16.ensures.0, c.loop-node.invariant.0, t.small); i_bound = rw c.wide16.ensures.0 t.chan }
 
 pub offset_bounds-path-n : goal.offset_bounds-path-n
 offset_bounds-path-n c = let t = here c.before in omega (arith, t.room, c.loop-node.invariant.0)
@@ -51,4 +51,4 @@ loop-node-preserved c = let w = c.loop-node.invariant in
 
 pub returns : goal.returns
 returns c = let w = c.loop-node.invariant in
-    record { walked = (λ d t p g. arrived _ _ _ _ d p t _ _ _ w.0 (w.4 d t p g) c.loop-node-test.false); rest = w.2 ∙ ap (drop c.loop-node.n) c.begin.ensures.1 ∙ drop-set-lt _ _ 0 _ w.1 }
+    record { walked = (λ d t p g. arrived _ _ _ _ d p t _ _ _ w.0 (w.4 d t p g) c.loop-node-test.false); rest = w.2 ∙ ap (drop c.loop-node.n) c.begin.ensures.root ∙ drop-set-lt _ _ 0 _ w.1 }

@@ -6,10 +6,10 @@ use borrow.Author.Rules.{rules}
 use Rattle.walk.proofs.step_at.Goals as goal
 
 pub offset_bounds-point-d : goal.offset_bounds-point-d
-offset_bounds-point-d c = let e = ap (λ (x : Cut). x.dimension) c.cut_at-cut.ensures in omega (arith, e, c.requires.1)
+offset_bounds-point-d c = let e = ap (λ (x : Cut). x.dimension) c.cut_at-cut.ensures in omega (arith, e, c.requires.i_bound)
 
 pub bounds-point-d : goal.bounds-point-d
-bounds-point-d c = let e = ap (λ (x : Cut). x.dimension) c.cut_at-cut.ensures in omega (arith, e, c.requires.1)
+bounds-point-d c = let e = ap (λ (x : Cut). x.dimension) c.cut_at-cut.ensures in omega (arith, e, c.requires.i_bound)
 
 pub returns : goal.returns
 returns c = rw c.cut_at-cut.ensures at c.in_turn.ensures

@@ -9,30 +9,27 @@ use Rattle.walkboxes.proofs.check_contains_and_rebuild_box.Goals as goal
 
 pub returns-then-sizes-index : goal.returns-then-sizes-index
 returns-then-sizes-index c = let h = c.if-sizes-index.true in
-    (record { answer = rw (le-ltb _ _ h); kept = λ _. refl; moved = λ _ d l u a b p q. sym (written_other _ _ _ _ h) }, c.requires.1.1.2)
+    record { rebuilt = record { answer = rw (le-ltb _ _ h); kept = λ _. refl; moved = λ _ d l u a b p q. sym (written_other _ _ _ _ h) }; padded = c.requires.padded.2 }
 
 pub holds-requires : goal.holds-requires
 holds-requires c = let p = c.requires in
-    record { few = (small _ _ c.if-sizes-index.false p.0.1, p.0.2); padded = (p.1.1.0, p.1.1.2) }
+    record { few = (small _ _ c.if-sizes-index.false p.few.1, p.few.2); padded = (p.padded.0, p.padded.2) }
 
 pub returns-then-holds : goal.returns-then-holds
-returns-then-holds c = (
-  record {
+returns-then-holds c = record { rebuilt = record {
     answer = rw (lt-ltb _ _ c.if-sizes-index.false) (sym c.if-holds.true ∙ c.holds.ensures);
     kept = λ _. refl;
     moved = λ x. absurd (true≢false x);
-  },
-  c.requires.1.1.2,
-)
+  }; padded = c.requires.padded.2 }
 
 pub rebuild_box-requires : goal.rebuild_box-requires
 rebuild_box-requires c = let p = c.requires in
     let h = c.if-sizes-index.false in
-    record { few = p.0; stands = (h, p.1.0 h); padded = (p.1.1.1, p.1.1.2) }
+    record { few = p.few; stands = (h, p.stands h); padded = (p.padded.1, p.padded.2) }
 
 pub returns : goal.returns
 returns c = let E = c.rebuild_box.ensures in record { rebuilt = record {
         answer = rw (lt-ltb _ _ c.if-sizes-index.false) (sym c.if-holds.false ∙ c.holds.ensures);
         kept = λ x. absurd (false≢true x);
-        moved = λ _. E.0;
-      }; padded = E.1 }
+        moved = λ _. E.kept;
+      }; padded = E.padded }

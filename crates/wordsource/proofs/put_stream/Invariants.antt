@@ -13,7 +13,7 @@ use Rattle.wordsource.proofs.Turns.{block_more}
 use Rattle.wordsource.proofs.put_stream.Given as goal
 
 abbrev pub invariant-loop-i : goal.invariant-loop-i
-invariant-loop-i l = (l.i ≤ length l.initial.words) × (length l.words-1 ≡ length l.initial.words) × (take l.i l.words-1 ≡ stream_words l.key l.start l.i)
+invariant-loop-i l = (l.i ≤ length l.initial.words) × (length l.words ≡ length l.initial.words) × (take l.i l.words ≡ stream_words l.key l.start l.i)
 
 abbrev pub decreases-loop-i : goal.decreases-loop-i
 decreases-loop-i l = length l.initial.words - l.i

@@ -9,7 +9,7 @@ use Rattle.boundingbox.specs.Sides.{range_sum, total}
 use Rattle.boundingbox.proofs.BoundingBox.get_range_sum.Given as goal
 
 abbrev pub invariant-loop-channel : goal.invariant-loop-channel
-invariant-loop-channel l = (l.channel ≤ width) × (l.sum ≡ range_sum l.lower-1 l.upper-1 l.channel)
+invariant-loop-channel l = (l.channel ≤ width) × (l.sum ≡ range_sum l.lower l.upper l.channel)
 
 abbrev pub decreases-loop-channel : goal.decreases-loop-channel
 decreases-loop-channel l = width - l.channel

@@ -8,7 +8,7 @@ use Rattle.boundingbox.proofs.Every.{every_among}
 use Rattle.boundingbox.proofs.BoundingBox.strictly_contains.Given as goal
 
 abbrev pub invariant-loop-i : goal.invariant-loop-i
-invariant-loop-i l = (l.i ≤ width) × (l.held ≡ strictly_contains l.lower-1 l.upper-1 l.point (min l.dimensions l.i))
+invariant-loop-i l = (l.i ≤ width) × (l.held ≡ strictly_contains l.lower l.upper l.point (min l.dimensions l.i))
 
 abbrev pub decreases-loop-i : goal.decreases-loop-i
 decreases-loop-i l = width - l.i

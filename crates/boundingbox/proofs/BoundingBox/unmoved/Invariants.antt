@@ -8,7 +8,7 @@ use Rattle.boundingbox.proofs.Every.{every_next}
 use Rattle.boundingbox.proofs.BoundingBox.unmoved.Given as goal
 
 abbrev pub invariant-loop-i : goal.invariant-loop-i
-invariant-loop-i l = (l.i ≤ width) × (l.held ≡ contains l.lower-1 l.upper-1 l.minvalues l.maxvalues l.i)
+invariant-loop-i l = (l.i ≤ width) × (l.held ≡ contains l.lower l.upper l.minvalues l.maxvalues l.i)
 
 abbrev pub decreases-loop-i : goal.decreases-loop-i
 decreases-loop-i l = width - l.i

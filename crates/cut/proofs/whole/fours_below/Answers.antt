@@ -8,7 +8,7 @@ abbrev p : goal.Start → ℕ → Bool
 p c j = ltb (get_or c.args.t1 (j + 1) 0) c.args.bound
 
 pub returns-then-dimensions-le8 : goal.returns-then-dimensions-le8
-returns-then-dimensions-le8 c = rw (fours_few _ c.if-dimensions-le8.true) (count_one (p c.before) _ c.whole_below-one.ensures.1)
+returns-then-dimensions-le8 c = rw (fours_few _ c.if-dimensions-le8.true) (count_one (p c.before) _ c.whole_below-one.ensures.told)
 
 pub overflow_add-three : goal.overflow_add-three
 overflow_add-three c = omega arith
@@ -17,7 +17,7 @@ pub overflow_add-three-2 : goal.overflow_add-three-2
 overflow_add-three-2 c = omega arith
 
 pub returns-then-dimensions-le16 : goal.returns-then-dimensions-le16
-returns-then-dimensions-le16 c = rw (fours_some _ (omega arith) c.if-dimensions-le16.true) (count_two_more (p c.before) 1 _ _ _ (count_one (p c.before) _ c.whole_below-one.ensures.1) c.whole_below.ensures.1 c.whole_below-2.ensures.1)
+returns-then-dimensions-le16 c = rw (fours_some _ (omega arith) c.if-dimensions-le16.true) (count_two_more (p c.before) 1 _ _ _ (count_one (p c.before) _ c.whole_below-one.ensures.told) c.whole_below.ensures.told c.whole_below-2.ensures.told)
 
 pub overflow_add-five : goal.overflow_add-five
 overflow_add-five c = omega arith
@@ -32,4 +32,4 @@ pub overflow_add-result-2 : goal.overflow_add-result-2
 overflow_add-result-2 c = omega arith
 
 pub returns : goal.returns
-returns c = rw (fours_all c.args.dimensions (omega arith)) (count_two_more (p c.before) 5 _ _ _ (count_two_more (p c.before) 3 _ _ _ (count_two_more (p c.before) 1 _ _ _ (count_one (p c.before) _ c.whole_below-one.ensures.1) c.whole_below.ensures.1 c.whole_below-2.ensures.1) c.whole_below-3.ensures.1 c.whole_below-4.ensures.1) c.whole_below-5.ensures.1 c.whole_below-6.ensures.1)
+returns c = rw (fours_all c.args.dimensions (omega arith)) (count_two_more (p c.before) 5 _ _ _ (count_two_more (p c.before) 3 _ _ _ (count_two_more (p c.before) 1 _ _ _ (count_one (p c.before) _ c.whole_below-one.ensures.told) c.whole_below.ensures.told c.whole_below-2.ensures.told) c.whole_below-3.ensures.told c.whole_below-4.ensures.told) c.whole_below-5.ensures.told c.whole_below-6.ensures.told)

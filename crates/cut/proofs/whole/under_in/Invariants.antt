@@ -4,7 +4,7 @@ use Rattle.cut.proofs.Sums.{small_sum, Passed, passed_none, next_fits, passed_ne
 use Rattle.cut.proofs.whole.under_in.Given as goal
 
 abbrev pub invariant-loop-i : goal.invariant-loop-i
-invariant-loop-i l = (l.i ≤ 4) × Passed (side_in l.sides) l.at l.bound l.i l.sum-1 l.before l.count
+invariant-loop-i l = (l.i ≤ 4) × Passed (side_in l.sides) l.at l.bound l.i l.sum l.before l.count
 
 abbrev pub decreases-loop-i : goal.decreases-loop-i
 decreases-loop-i l = 4 - l.i

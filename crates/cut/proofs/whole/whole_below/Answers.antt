@@ -4,7 +4,7 @@ use Rattle.cut.proofs.Sums.{bit_one, bit_none}
 use Rattle.cut.proofs.whole.whole_below.Goals as goal
 
 pub returns-then-x-bound : goal.returns-then-x-bound
-returns-then-x-bound c = (search rules, bit_one c.args.x c.args.bound (omega arith))
+returns-then-x-bound c = record { few = search rules; told = bit_one c.args.x c.args.bound (omega arith) }
 
 pub returns-else-x-bound : goal.returns-else-x-bound
-returns-else-x-bound c = (search rules, bit_none c.args.x c.args.bound (omega arith))
+returns-else-x-bound c = record { few = search rules; told = bit_none c.args.x c.args.bound (omega arith) }

@@ -13,7 +13,7 @@ use Rattle.intervalstoremanager.proofs.IntervalStoreManager.release.Goals as goa
 pub returns-then-n-eq0 : goal.returns-then-n-eq0
 unfolding released_of rows_released
 returns-then-n-eq0 c = let w = c.wide16-n in
-    rw (c.push.ensures.0, c.push.ensures.1, ← w.ensures.0, le-ltb 0 w.result (omega arith)) (refl, refl)
+    rw (c.push.ensures.answer, c.push.ensures.rows_after, ← w.ensures.0, le-ltb 0 w.result (omega arith)) (refl, refl)
 
 pub returns-then-n-gt-BRANCHES : goal.returns-then-n-gt-BRANCHES
 unfolding released_of rows_released
@@ -45,4 +45,4 @@ returns c = let m = c.args.self in
     let i = c.args.index in
     let apart = ne_eqb top.result.start (i + 1) (λ e. omega arith) in
     let beyond = ne_eqb (top.result.end + 1) i (λ e. omega arith) in
-    rw (c.push-2.ensures.0, c.push-2.ensures.1, is_topped m (omega arith) (omega arith), ← w.ensures.0, ← top.ensures.0, ← top.ensures.1, apart, beyond) (refl, refl)
+    rw (c.push-2.ensures.answer, c.push-2.ensures.rows_after, is_topped m (omega arith) (omega arith), ← w.ensures.0, ← top.ensures.0, ← top.ensures.1, apart, beyond) (refl, refl)

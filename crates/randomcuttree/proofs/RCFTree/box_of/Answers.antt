@@ -19,4 +19,4 @@ set_branch-requires c = let S = some_sides _ _ _ _ _ (omega arith) (λ e. c.if-f
     rw c.wide16.ensures.0 (S.few, (S.sides, (S.table, S.slots, no_ends_lem _)))
 
 pub returns : goal.returns
-returns c = box_told _ _ _ _ _ (omega arith) (λ e. c.if-field_at-eq0.false (c.field_at.ensures ∙ e)) _ (rw c.wide16.ensures.0 at c.set_branch.ensures.0)
+returns c = box_told _ _ _ _ _ (omega arith) (λ e. c.if-field_at-eq0.false (c.field_at.ensures ∙ e)) _ (rw c.wide16.ensures.0 at c.set_branch.ensures.sides)

@@ -30,5 +30,5 @@ overflow_sub-result c = let w = in_bounds 2 capacity_limit c.args.capacity (sym 
 
 pub returns : goal.returns
 returns c = made _ _ _ _ (sym c.within.ensures ∙ not-false _ c.if-not-within.false) (sym c.within-2.ensures ∙ not-false _ c.if-not-within-2.false) (sym c.is_share.ensures ∙ not-false _ c.if-not-is_share.false) _ _
-    (rw (c.at_most-cached.ensures, c.cached_part-part.ensures, c.new-manager.ensures.0) refl)
-    (let e = c.clear.ensures in rw (e.0, e.1.0, e.1.1.0, c.new-manager.ensures.1, e.1.1.1) refl)
+    (rw (c.at_most-cached.ensures, c.cached_part-part.ensures, c.new-manager.ensures.answer) refl)
+    (let e = c.clear.ensures in rw (e.rows, e.values, e.counts, c.new-manager.ensures.rows_after, e.ends) refl)

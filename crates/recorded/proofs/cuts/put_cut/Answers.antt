@@ -5,4 +5,4 @@ use borrow.Author.Rules.{rules}
 use Rattle.recorded.proofs.cuts.put_cut.Goals as goal
 
 pub returns : goal.returns
-returns c = record { wrote = told_three _ c.told_of-told.ensures c.put_word-p.ensures.0 c.put_word-q.ensures.0 c.put_word.ensures.0; next = omega arith }
+returns c = record { wrote = told_three _ c.told_of-told.ensures c.put_word-p.ensures.wrote c.put_word-q.ensures.wrote c.put_word.ensures.wrote; next = omega arith }

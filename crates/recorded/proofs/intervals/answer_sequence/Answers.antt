@@ -26,5 +26,5 @@ pub shape_of-out : goal.shape_of-out
 shape_of-out c = c.loop-i.invariant.same ∙ long c.put_call-state.ensures.wrote
 
 pub returns : goal.returns
-returns c = let start = sequenced_start _ c.if-n-eq0.false c.u16_at.ensures c.new-manager.ensures.0 c.new-manager.ensures.1 c.get_capacity.ensures c.put_call-state.ensures in
+returns c = let start = sequenced_start _ c.if-n-eq0.false c.u16_at.ensures c.new-manager.ensures.answer c.new-manager.ensures.rows_after c.get_capacity.ensures c.put_call-state.ensures in
     sequenced_all _ (c.loop-i.invariant.follows _ start) c.loop-i-test.false

@@ -7,7 +7,7 @@ use borrow.Author.Rules.{rules}
 use Rattle.recorded.proofs.intervals.answer_sequence.Given as goal
 
 abbrev pub invariant-loop-i : goal.invariant-loop-i
-invariant-loop-i l = Turns l.given l.initial.out l.initial.state l.initial.rows l.out-1 l.state l.rows-1 l.i
+invariant-loop-i l = Turns l.given l.initial.out l.initial.state l.initial.rows l.out l.state l.rows l.i
 
 abbrev pub decreases-loop-i : goal.decreases-loop-i
 decreases-loop-i l = l.n - l.i

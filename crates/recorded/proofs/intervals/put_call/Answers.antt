@@ -8,6 +8,6 @@ use Rattle.recorded.proofs.intervals.put_call.Goals as goal
 pub returns : goal.returns
 returns c = record {
   manager-is = refl;
-  wrote = then c.put_pair-p.ensures.0 (rw c.top_of.ensures at c.put_pair.ensures.0);
+  wrote = then c.put_pair-p.ensures.wrote (rw c.top_of.ensures at c.put_pair.ensures.wrote);
   next = omega arith;
 }

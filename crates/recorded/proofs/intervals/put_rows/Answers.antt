@@ -10,10 +10,10 @@ pub loop-k-init : goal.loop-k-init
 loop-k-init c = rowed_none _ _ _
 
 pub loop-k-preserved : goal.loop-k-preserved
-loop-k-preserved c = rowed_next c.loop-k.invariant c.loop-k-test.true c.put_pair-p.ensures.0 c.put_pair-p.ensures.1
+loop-k-preserved c = rowed_next c.loop-k.invariant c.loop-k-test.true c.put_pair-p.ensures.wrote c.put_pair-p.ensures.next
 
 pub shape_of-out : goal.shape_of-out
 shape_of-out c = long c.loop-k.invariant.wrote
 
 pub returns : goal.returns
-returns c = rowed_all c.loop-k.invariant c.loop-k-test.false
+returns c = let it = rowed_all c.loop-k.invariant c.loop-k-test.false in record { wrote = it.0; next = it.1 }

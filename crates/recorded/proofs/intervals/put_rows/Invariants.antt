@@ -6,7 +6,7 @@ use borrow.Author.Rules.{rules}
 use Rattle.recorded.proofs.intervals.put_rows.Given as goal
 
 abbrev pub invariant-loop-k : goal.invariant-loop-k
-invariant-loop-k l = Rowed l.rows l.initial.out l.out-1 l.at l.p l.k
+invariant-loop-k l = Rowed l.rows l.initial.out l.out l.at l.p l.k
 
 abbrev pub decreases-loop-k : goal.decreases-loop-k
 decreases-loop-k l = branch_limit - l.k

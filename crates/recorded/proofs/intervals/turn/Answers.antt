@@ -4,7 +4,7 @@ use borrow.Author.Rules.{rules}
 use Rattle.recorded.proofs.intervals.turn.Goals as goal
 
 pub returns-then-number-eq-ROWS : goal.returns-then-number-eq-ROWS
-returns-then-number-eq-ROWS c = turn_look _ _ _ c.if-number-eq-ROWS.true c.put_rows.ensures
+returns-then-number-eq-ROWS c = turn_look _ _ _ c.if-number-eq-ROWS.true (c.put_rows.ensures.wrote, c.put_rows.ensures.next)
 
 pub returns : goal.returns
-returns c = turn_call _ _ _ c.if-number-eq-ROWS.false c.call.ensures.0 c.call.ensures.1 c.put_call.ensures
+returns c = turn_call _ _ _ c.if-number-eq-ROWS.false c.call.ensures.answer c.call.ensures.rows_after c.put_call.ensures

@@ -4,4 +4,4 @@ use borrow.Author.Rules.{rules}
 use Rattle.recorded.proofs.words.put_double.Goals as goal
 
 pub returns : goal.returns
-returns c = record { wrote = then c.put_word-p.ensures.0 c.put_word.ensures.0; next = omega arith }
+returns c = record { wrote = then c.put_word-p.ensures.wrote c.put_word.ensures.wrote; next = omega arith }

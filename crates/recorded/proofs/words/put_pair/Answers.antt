@@ -3,4 +3,4 @@ use borrow.Author.Rules.{rules}
 use Rattle.recorded.proofs.words.put_pair.Goals as goal
 
 pub returns : goal.returns
-returns c = record { wrote = rw (c.wide16.ensures.0, c.wide16-2.ensures.0) at c.put_word.ensures.0; next = c.put_word.ensures.1 }
+returns c = record { wrote = rw (c.wide16.ensures.0, c.wide16-2.ensures.0) at c.put_word.ensures.wrote; next = c.put_word.ensures.next }

@@ -8,7 +8,7 @@ pub returns-then-initial : goal.returns-then-initial
 returns-then-initial c = record { started = λ _. (refl, refl, refl); evicting = λ h. absurd (false≢true (sym h ∙ c.if-initial.true)) }
 
 pub evict_max-requires : goal.evict_max-requires
-evict_max-requires c = (c.requires.0 c.if-initial.false, c.requires.1)
+evict_max-requires c = (c.requires.current_size_nonzero c.if-initial.false, c.requires.current_size_bound)
 
 pub returns : goal.returns
-returns c = record { started = λ h. absurd (false≢true (sym c.if-initial.false ∙ h)); evicting = λ _. (ap Evicting c.evict_max.ensures.0, c.evict_max.ensures.1) }
+returns c = record { started = λ h. absurd (false≢true (sym c.if-initial.false ∙ h)); evicting = λ _. (ap Evicting c.evict_max.ensures.answer, c.evict_max.ensures.slots) }

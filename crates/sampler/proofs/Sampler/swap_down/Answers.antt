@@ -25,8 +25,8 @@ loop-current-preserved c = let s = c.loop-current in
       omega arith,
       λ ks ws ps at.
           let w = s.invariant.1 ks ws ps at in
-          let is = m.ensures.1 w.entries ws ps _ w.slots in
-          rw (c.swap_weights.ensures.0, c.swap_weights.ensures.1)
+          let is = m.ensures.is w.entries ws ps _ w.slots in
+          rw (c.swap_weights.ensures.weights_after, c.swap_weights.ensures.points_after)
           (way_goes _ _ w m.result (omega arith) (omega arith) (omega arith)
           (rw (w.slots.size, lt-ltb (2 * s.current + 1) n (omega arith), ← is) (compared w.slots m.result s.current (omega arith) (omega arith) ∙ c.if-weights-max_index.true)) (rw is)),
     )
@@ -45,4 +45,4 @@ returns-else-weights-max_index c = let s = c.loop-current in
     λ ks ws ps at.
     let w = s.invariant.1 ks ws ps at in
     way_ends _ _ w
-    (rw (w.slots.size, lt-ltb (2 * s.current + 1) n (omega arith), ← m.ensures.1 w.entries ws ps _ w.slots) (compared w.slots m.result s.current (omega arith) (omega arith) ∙ c.if-weights-max_index.false))
+    (rw (w.slots.size, lt-ltb (2 * s.current + 1) n (omega arith), ← m.ensures.is w.entries ws ps _ w.slots) (compared w.slots m.result s.current (omega arith) (omega arith) ∙ c.if-weights-max_index.false))

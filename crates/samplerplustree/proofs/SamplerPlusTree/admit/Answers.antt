@@ -10,4 +10,4 @@ pub add_point-sampler-requires : goal.add_point-sampler-requires
 add_point-sampler-requires c = c.requires.1
 
 pub returns : goal.returns
-returns c = admit_done c.args.self _ _ _ _ c.args.index c.args.weight c.args.words.now _ _ _ _ _ c.requires.1 c.add_leaf-added.ensures.1 c.add_point-sampler.ensures.0 c.add_point-sampler.ensures.1
+returns c = admit_done c.args.self _ _ _ _ c.args.index c.args.weight c.args.words.now _ _ _ _ _ c.requires.1 c.add_leaf-added.ensures.adds c.add_point-sampler.ensures.answer c.add_point-sampler.ensures.slots

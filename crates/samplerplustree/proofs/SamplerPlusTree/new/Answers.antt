@@ -12,4 +12,4 @@ pub returns-in-NotMade : goal.returns-in-NotMade
 returns-in-NotMade c = tree_refused _ _ _ _ _ _ _ (sym c.is_share.ensures ∙ not-false _ c.if-not-is_share.false) _ _ c.new.ensures _ c.n-1.given.1
 
 pub returns-in-Tree : goal.returns-in-Tree
-returns-in-Tree c = made _ _ _ _ _ _ _ (sym c.is_share.ensures ∙ not-false _ c.if-not-is_share.false) _ _ c.new.ensures _ c.tree-1.given.1 _ _ _ c.new-sampler.ensures.0 c.new-sampler.ensures.1.0 c.new-sampler.ensures.1.1
+returns-in-Tree c = made _ _ _ _ _ _ _ (sym c.is_share.ensures ∙ not-false _ c.if-not-is_share.false) _ _ c.new.ensures _ c.tree-1.given.1 _ _ _ c.new-sampler.ensures.made c.new-sampler.ensures.weights_after c.new-sampler.ensures.points_after
