@@ -5,8 +5,8 @@ use Rattle.answers.proofs.tell_add.Goals as goal
 
 pub returns-in-Added : goal.returns-in-Added
 unfolding filled
-returns-in-Added c = rw c.answer-1.given.1
+returns-in-Added c = rw c.in-Added.is
 
 pub returns-in-NotAdded : goal.returns-in-NotAdded
 unfolding filled
-returns-in-NotAdded c = rw (c.answer-in-NotAdded-1.given.1, c.wide8.ensures.0)
+returns-in-NotAdded c = rw (c.in-NotAdded.is, c.wide8.ensures.0)

@@ -5,8 +5,8 @@ use Rattle.answers.proofs.tell_branch.Goals as goal
 
 pub returns-in-Branch : goal.returns-in-Branch
 unfolding filled
-returns-in-Branch c = rw (c.answer-1.given.1, c.wide32.ensures.0, c.pattern_of.ensures)
+returns-in-Branch c = rw (c.in-Branch.is, c.wide32.ensures.0, c.pattern_of.ensures)
 
 pub returns-in-NoBranch : goal.returns-in-NoBranch
 unfolding filled
-returns-in-NoBranch c = rw (c.answer-in-NoBranch-1.given.1, c.wide8.ensures.0)
+returns-in-NoBranch c = rw (c.in-NoBranch.is, c.wide8.ensures.0)

@@ -5,8 +5,8 @@ use Rattle.answers.proofs.tell_copies.Goals as goal
 
 pub returns-in-Copies : goal.returns-in-Copies
 unfolding filled
-returns-in-Copies c = rw c.answer-1.given.1
+returns-in-Copies c = rw c.in-Copies.is
 
 pub returns-in-NoLeaf : goal.returns-in-NoLeaf
 unfolding filled
-returns-in-NoLeaf c = rw (c.answer-in-NoLeaf-1.given.1, c.wide8.ensures.0)
+returns-in-NoLeaf c = rw (c.in-NoLeaf.is, c.wide8.ensures.0)

@@ -5,8 +5,8 @@ use Rattle.answers.proofs.tell_delete.Goals as goal
 
 pub returns-in-Deleted : goal.returns-in-Deleted
 unfolding filled
-returns-in-Deleted c = rw c.answer-1.given.1
+returns-in-Deleted c = rw c.in-Deleted.is
 
 pub returns-in-NotDeleted : goal.returns-in-NotDeleted
 unfolding filled
-returns-in-NotDeleted c = rw (c.answer-in-NotDeleted-1.given.1, c.wide8.ensures.0)
+returns-in-NotDeleted c = rw (c.in-NotDeleted.is, c.wide8.ensures.0)

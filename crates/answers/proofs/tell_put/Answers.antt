@@ -5,8 +5,8 @@ use Rattle.answers.proofs.tell_put.Goals as goal
 
 pub returns-in-Written : goal.returns-in-Written
 unfolding filled
-returns-in-Written c = rw c.enum_told-1.given.1
+returns-in-Written c = rw c.in-Written.is
 
 pub returns-in-Refused : goal.returns-in-Refused
 unfolding filled
-returns-in-Refused c = rw (c.answer-1.given.1, c.wide8.ensures.0)
+returns-in-Refused c = rw (c.in-Refused.is, c.wide8.ensures.0)

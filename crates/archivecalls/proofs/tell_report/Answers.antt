@@ -5,8 +5,8 @@ use Rattle.archivecalls.proofs.tell_report.Goals as goal
 
 pub returns-in-Rows : goal.returns-in-Rows
 unfolding filled
-returns-in-Rows c = rw c.answer-1.given.1
+returns-in-Rows c = rw c.in-Rows.is
 
 pub returns-in-NoReport : goal.returns-in-NoReport
 unfolding filled
-returns-in-NoReport c = rw (c.answer-in-NoReport-1.given.1, c.wide8.ensures.0)
+returns-in-NoReport c = rw (c.in-NoReport.is, c.wide8.ensures.0)

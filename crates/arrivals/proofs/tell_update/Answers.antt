@@ -5,16 +5,16 @@ use Rattle.arrivals.proofs.tell_update.Goals as goal
 
 pub returns-in-Accepted : goal.returns-in-Accepted
 unfolding filled
-returns-in-Accepted c = rw c.answer-1.given.1
+returns-in-Accepted c = rw c.in-Accepted.is
 
 pub returns-in-Replaced : goal.returns-in-Replaced
 unfolding filled
-returns-in-Replaced c = rw c.answer-in-Replaced-1.given.1
+returns-in-Replaced c = rw c.in-Replaced.is
 
 pub returns-in-NotAccepted : goal.returns-in-NotAccepted
 unfolding filled
-returns-in-NotAccepted c = rw c.enum_told-1.given.1
+returns-in-NotAccepted c = rw c.in-NotAccepted.is
 
 pub returns-in-Refused : goal.returns-in-Refused
 unfolding filled
-returns-in-Refused c = rw (c.answer-in-Refused-1.given.1, c.wide8.ensures.0)
+returns-in-Refused c = rw (c.in-Refused.is, c.wide8.ensures.0)

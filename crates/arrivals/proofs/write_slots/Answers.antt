@@ -10,6 +10,10 @@ use Rattle.arrivals.proofs.Sample.{same_answers, slot_turn}
 use borrow.Author.Rules.{rules}
 use Rattle.arrivals.proofs.write_slots.Goals as goal
 
+pub loop-i-init : goal.loop-i-init
+unfolding entries_in
+loop-i-init c = search rules
+
 pub put_two-requires : goal.put_two-requires
 put_two-requires c = let l = c.loop-i in
         omega (arith, c.requires.1, c.loop-i-test.true, same_answers c.args.weights.now c.args.held.now c.args.out l.i c.args.answers.now l.answers l.invariant.1)

@@ -49,7 +49,7 @@ set_branch-requires c = let S = c.requires in
 
 pub grow_ends-requires : goal.grow_ends-requires
 grow_ends-requires c = let S = c.requires in
-    rw c.either-other.ensures (S.few, (second_some _ _ _ _ _ _ _ _ _ (nodes_at c.before), (S.padded.0, S.padded.1, (ends_at c.before).1)))
+    rw c.either-other.ensures (record { few = S.few; stands = second_some _ _ _ _ _ _ _ _ _ (nodes_at c.before); padded = (S.padded.0, S.padded.1, (ends_at c.before).1) })
 
 pub returns : goal.returns
 returns c = let A = c.args in

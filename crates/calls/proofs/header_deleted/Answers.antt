@@ -3,7 +3,7 @@ use borrow.Author.Rules.{rules}
 use Rattle.calls.proofs.header_deleted.Goals as goal
 
 pub returns-in-Deleted : goal.returns-in-Deleted
-returns-in-Deleted c = rw c.answer-1.given.1
+returns-in-Deleted c = rw c.in-Deleted.is
 
 pub returns-in-NotDeleted : goal.returns-in-NotDeleted
-returns-in-NotDeleted c = rw c.enum_told-1.given.1
+returns-in-NotDeleted c = rw c.in-NotDeleted.is

@@ -3,6 +3,10 @@ use Rattle.std.proofs.Common.{◌≡◌, ℕ, ◌-◌, ◌≤◌, ap, ◌∙◌,
 use Rattle.chacha20.specs.Block.{inner_blocks}
 use Rattle.chacha20.proofs.twenty_rounds.Goals as goal
 
+pub loop-n-init : goal.loop-n-init
+unfolding inner_blocks
+loop-n-init c = search rules
+
 pub loop-n-preserved : goal.loop-n-preserved
 unfolding inner_blocks
 loop-n-preserved c = (omega arith, rw (add-one, c.diagonal_rounds.ensures, c.column_rounds.ensures, c.loop-n.invariant.1))

@@ -5,10 +5,10 @@ use borrow.Author.Rules.{rules}
 use Rattle.drawing.proofs.chosen_first.Goals as goal
 
 pub chosen_at-requires : goal.chosen_at-requires
-chosen_at-requires c = subst Numbered (sym c.whole_cut_and_separation-first.ensures ∙ c.first-1.given.1) c.requires.number
+chosen_at-requires c = subst Numbered (sym c.whole_cut_and_separation-first.ensures ∙ c.in-Drawn.is) c.requires.number
 
 pub returns-in-NoCut : goal.returns-in-NoCut
-returns-in-NoCut c = ap (chosen_by none_chosen 0) (sym c.enum_told-1.given.1 ∙ c.whole_cut_and_separation-first.ensures)
+returns-in-NoCut c = ap (chosen_by none_chosen 0) (sym c.in-NoCut.is ∙ c.whole_cut_and_separation-first.ensures)
 
 pub returns-in-Drawn : goal.returns-in-Drawn
-returns-in-Drawn c = c.chosen_at.ensures ∙ ap (chosen_by none_chosen 0) (sym c.first-1.given.1 ∙ c.whole_cut_and_separation-first.ensures)
+returns-in-Drawn c = c.chosen_at.ensures ∙ ap (chosen_by none_chosen 0) (sym c.in-Drawn.is ∙ c.whole_cut_and_separation-first.ensures)

@@ -82,10 +82,10 @@ pub highest_of-requires : goal.highest_of-requires
 highest_of-requires c = chosen_number _ _ _ _ _ _ _ _ _ _ _ _ _ _ c.loop-m.invariant (entry c.before).pre.1.0
 
 pub returns-in-NoCut : goal.returns-in-NoCut
-returns-in-NoCut c = rw c.highest_of.ensures (kept_there _ _ _ _ _ _ _ _ _ _ _ _ _ _ c.loop-m.invariant c.loop-m-test.true _ c.node_of-branch.ensures _ (branch_ends c.before) (omega (arith, c.shared_slice_known-in-loop-m-1.given c.loop-m.m)) _ c.drawn_of-drawn.ensures c.enum_told-1.given.1)
+returns-in-NoCut c = rw c.highest_of.ensures (kept_there _ _ _ _ _ _ _ _ _ _ _ _ _ _ c.loop-m.invariant c.loop-m-test.true _ c.node_of-branch.ensures _ (branch_ends c.before) (omega (arith, c.shared_slice_known-in-loop-m-1.given c.loop-m.m)) _ c.drawn_of-drawn.ensures c.in-NoCut.is)
 
 pub chosen_at-chosen-requires : goal.chosen_at-chosen-requires
-chosen_at-chosen-requires c = subst Numbered c.drawn-1.given.1 (is_numbered _ _ _ _ _ _ _ _ _ _ _ _ _ (branch_ends c.before).here _ c.drawn_of-drawn.ensures (entry c.before).pre.1.0 (omega (arith, c.shared_slice_known-in-loop-m-1.given c.loop-m.m)))
+chosen_at-chosen-requires c = subst Numbered c.in-Drawn.is (is_numbered _ _ _ _ _ _ _ _ _ _ _ _ _ (branch_ends c.before).here _ c.drawn_of-drawn.ensures (entry c.before).pre.1.0 (omega (arith, c.shared_slice_known-in-loop-m-1.given c.loop-m.m)))
 
 pub overflow_add-m : goal.overflow_add-m
 overflow_add-m c = omega (arith, c.loop-m-test.true, (entry c.before).pre.1.0.drawing.most)
@@ -94,7 +94,7 @@ pub loop-m-smaller : goal.loop-m-smaller
 loop-m-smaller c = omega (arith, c.loop-m-test.true)
 
 pub loop-m-preserved : goal.loop-m-preserved
-loop-m-preserved c = going_on _ _ _ _ _ _ _ _ _ _ _ _ _ _ c.loop-m.invariant c.loop-m-test.true _ c.node_of-branch.ensures _ (branch_ends c.before) (omega (arith, c.shared_slice_known-in-loop-m-1.given c.loop-m.m)) _ c.drawn_of-drawn.ensures _ _ c.drawn-1.given.1 _ c.chosen_at-chosen.ensures
+loop-m-preserved c = going_on _ _ _ _ _ _ _ _ _ _ _ _ _ _ c.loop-m.invariant c.loop-m-test.true _ c.node_of-branch.ensures _ (branch_ends c.before) (omega (arith, c.shared_slice_known-in-loop-m-1.given c.loop-m.m)) _ c.drawn_of-drawn.ensures _ _ c.in-Drawn.is _ c.chosen_at-chosen.ensures
 
 pub highest_of-requires-2 : goal.highest_of-requires-2
 highest_of-requires-2 c = chosen_number _ _ _ _ _ _ _ _ _ _ _ _ _ _ c.loop-m.invariant (entry c.before).pre.1.0

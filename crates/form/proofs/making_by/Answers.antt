@@ -4,4 +4,4 @@ use Rattle.form.proofs.making_by.Lts as lts
 use Rattle.form.proofs.making_by.Goals as goal
 
 pub returns-in-Is-sixteenths : goal.returns-in-Is-sixteenths
-returns-in-Is-sixteenths c = rw (c.channels-1.given.1, c.capacity-1.given.1, c.sixteenths-1.given.1)
+returns-in-Is-sixteenths c = rw (c.in-Is.is, c.in-Is-capacity.is, c.in-Is-sixteenths.is)

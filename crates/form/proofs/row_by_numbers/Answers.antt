@@ -6,7 +6,7 @@ use Rattle.form.proofs.row_by_op.Reads as row-by-op-reads
 use Rattle.form.proofs.row_by_numbers.Goals as goal
 
 pub returns-in-NoNumber-op : goal.returns-in-NoNumber-op
-returns-in-NoNumber-op c = no_op _ _ c.index-1.given.1 c.enum_told-in-NoNumber-op-1.given.1
+returns-in-NoNumber-op c = no_op _ _ c.in-Is.is c.in-NoNumber-op.is
 
 pub returns-in-Is-op : goal.returns-in-Is-op
-returns-in-Is-op c = some_op _ _ c.index-1.given.1 c.op-1.given.1 c.row_by_op.ensures
+returns-in-Is-op c = some_op _ _ c.in-Is.is c.in-Is-op.is c.row_by_op.ensures

@@ -27,7 +27,7 @@ pub keep_chance-requires : goal.keep_chance-requires
 keep_chance-requires c = let g = c.loop-node.invariant in
     let h = c.loop-node-test.true in
     let t = this _ _ _ _ _ _ _ _ _ _ _ _ _ _ g h in
-    rw c.wide16-i.ensures.0 ((omega (arith, t.room, g.few), omega (arith, t.small, g.few)), (node_readings _ _ _ _ _ _ _ _ _ _ _ _ _ _ g h, node_padded _ _ _ _ _ _ _ _ _ _ _ _ _ _ g h))
+    rw c.wide16-i.ensures.0 (record { low = (omega (arith, t.room, g.few), omega (arith, t.small, g.few)); readings = node_readings _ _ _ _ _ _ _ _ _ _ _ _ _ _ g h; padded = node_padded _ _ _ _ _ _ _ _ _ _ _ _ _ _ g h })
 
 pub overflow_add-n : goal.overflow_add-n
 overflow_add-n c = let g = c.loop-node.invariant in omega (arith, (this _ _ _ _ _ _ _ _ _ _ _ _ _ _ g c.loop-node-test.true).room, g.few)

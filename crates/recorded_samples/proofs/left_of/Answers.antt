@@ -5,7 +5,7 @@ use Rattle.recorded_samples.proofs.left_of.Goals as goal
 
 pub returns-in-Started : goal.returns-in-Started
 unfolding of_bits
-returns-in-Started c = rw c.enum_told-1.given.1
+returns-in-Started c = rw c.in-Started.is
 
 pub returns-in-Evicting : goal.returns-in-Evicting
-returns-in-Evicting c = rw c.accepted-1.given.1
+returns-in-Evicting c = rw c.in-Evicting.is

@@ -16,7 +16,7 @@ pub refuse-requires : goal.refuse-requires
 refuse-requires c = tt
 
 pub slice_bounds-is_making_names-end : goal.slice_bounds-is_making_names-end
-slice_bounds-is_making_names-end c = sym (length-take-le _ _ (headed c.find_head.ensures c.a-1.given.1).first.most)
+slice_bounds-is_making_names-end c = sym (length-take-le _ _ (headed c.find_head.ensures c.in-At.is).first.most)
 
 pub is_making_names-requires : goal.is_making_names-requires
 is_making_names-requires c = tt
@@ -28,17 +28,17 @@ pub returns-then-not-is_making_names : goal.returns-then-not-is_making_names
 returns-then-not-is_making_names c = tt
 
 pub overflow_add-b : goal.overflow_add-b
-overflow_add-b c =     let w = within c.args.text.now c.requires.0 (headed c.find_head.ensures c.a-1.given.1) in
+overflow_add-b c =     let w = within c.args.text.now c.requires.0 (headed c.find_head.ensures c.in-At.is) in
     omega (arith, w.first, w.second, w.third, c.requires.0, c.requires.2)
 
 pub slice_bounds-is_row_names-count : goal.slice_bounds-is_row_names-count
-slice_bounds-is_row_names-count c = (headed c.find_head.ensures c.a-1.given.1).third.from
+slice_bounds-is_row_names-count c = (headed c.find_head.ensures c.in-At.is).third.from
 
 pub slice_bounds-is_row_names-start : goal.slice_bounds-is_row_names-start
-slice_bounds-is_row_names-start c = (headed c.find_head.ensures c.a-1.given.1).third.from
+slice_bounds-is_row_names-start c = (headed c.find_head.ensures c.in-At.is).third.from
 
 pub slice_bounds-is_row_names-end : goal.slice_bounds-is_row_names-end
-slice_bounds-is_row_names-end c = (headed c.find_head.ensures c.a-1.given.1).third.most
+slice_bounds-is_row_names-end c = (headed c.find_head.ensures c.in-At.is).third.most
 
 pub is_row_names-requires : goal.is_row_names-requires
 is_row_names-requires c = tt
@@ -50,15 +50,15 @@ pub returns-then-not-is_row_names : goal.returns-then-not-is_row_names
 returns-then-not-is_row_names c = tt
 
 pub overflow_add-a : goal.overflow_add-a
-overflow_add-a c =     let w = within c.args.text.now c.requires.0 (headed c.find_head.ensures c.a-1.given.1) in
+overflow_add-a c =     let w = within c.args.text.now c.requires.0 (headed c.find_head.ensures c.in-At.is) in
     omega (arith, w.first, w.second, w.third, c.requires.0, c.requires.2)
 
 pub overflow_add-c : goal.overflow_add-c
-overflow_add-c c =     let w = within c.args.text.now c.requires.0 (headed c.find_head.ensures c.a-1.given.1) in
+overflow_add-c c =     let w = within c.args.text.now c.requires.0 (headed c.find_head.ensures c.in-At.is) in
     omega (arith, w.first, w.second, w.third, c.requires.0, c.requires.2)
 
 pub make_and_grow-requires : goal.make_and_grow-requires
-make_and_grow-requires c =     let w = within c.args.text.now c.requires.0 (headed c.find_head.ensures c.a-1.given.1) in
+make_and_grow-requires c =     let w = within c.args.text.now c.requires.0 (headed c.find_head.ensures c.in-At.is) in
     (omega (arith, w.first, w.second, w.third, c.requires.0, c.requires.2), omega (arith, w.first, w.second, w.third, c.requires.0, c.requires.2), omega (arith, w.first, w.second, w.third, c.requires.0, c.requires.2), c.requires.0, c.requires.1, c.requires.2)
 
 pub returns-in-NotThere : goal.returns-in-NotThere

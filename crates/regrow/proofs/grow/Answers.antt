@@ -83,7 +83,7 @@ loop-turns-smaller c = omega (arith, c.loop-turns-test.true)
 pub loop-turns-preserved : goal.loop-turns-preserved
 loop-turns-preserved c = let l = c.loop-turns in
     let y = c.carry_lines-batch in
-    let w = part c.follow.ensures.follows c.start-1.given.1 in
+    let w = part c.follow.ensures.follows c.in-Part.is in
     let r = simp (length-take, length-drop) at y.ensures.fits.0 in (
       omega (arith, w.more),
       w.most,

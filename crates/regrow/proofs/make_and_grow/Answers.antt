@@ -26,7 +26,7 @@ pub large_buffer-out-requires : goal.large_buffer-out-requires
 large_buffer-out-requires c = tt
 
 pub grow-requires : goal.grow-requires
-grow-requires c = record { near = (c.requires.2, c.requires.3, c.requires.4, c.requires.5, omega (arith, c.large_buffer-out.ensures)); stands = some_made (making_of_line (take (c.args.b - c.args.a) (drop c.args.a c.args.text.now))) _ _ _ c.make-made.ensures c.made-in-Tree-1.given.1 _ _ c.no_points-points.ensures c.no_marks-written.ensures }
+grow-requires c = record { near = (c.requires.2, c.requires.3, c.requires.4, c.requires.5, omega (arith, c.large_buffer-out.ensures)); stands = some_made (making_of_line (take (c.args.b - c.args.a) (drop c.args.a c.args.text.now))) _ _ _ c.make-made.ensures c.in-Tree.is _ _ c.no_points-points.ensures c.no_marks-written.ensures }
 
 pub returns-in-NotMade : goal.returns-in-NotMade
 returns-in-NotMade c = tt

@@ -25,7 +25,7 @@ shape_of-out-then-out-end c = c.loop-out.invariant.3
 
 pub returns-then-out-end : goal.returns-then-out-end
 returns-then-out-end c = let l = c.loop-out in
-    rw c.so_far.ensures (λ d s X S. full (l.invariant.4 d s X S) (omega (arith, c.if-out-end.true, l.invariant.3)), (l.invariant.0, l.invariant.1, l.invariant.2))
+    rw c.so_far.ensures (record { carries = λ d s X S. full (l.invariant.4 d s X S) (omega (arith, c.if-out-end.true, l.invariant.3)); fits = (l.invariant.0, l.invariant.1, l.invariant.2) })
 
 pub piece_end-stop-requires : goal.piece_end-stop-requires
 piece_end-stop-requires c = c.loop-out.invariant.0
@@ -35,7 +35,7 @@ shape_of-out-then-stop-text c = c.loop-out.invariant.3
 
 pub returns-then-stop-text : goal.returns-then-stop-text
 returns-then-stop-text c = let l = c.loop-out in
-    rw c.so_far-then-stop-text.ensures (λ d s X S. unended (l.invariant.4 d s X S) _ l.invariant.0 c.piece_end-stop.ensures c.if-stop-text.true, (l.invariant.0, l.invariant.1, l.invariant.2))
+    rw c.so_far-then-stop-text.ensures (record { carries = λ d s X S. unended (l.invariant.4 d s X S) _ l.invariant.0 c.piece_end-stop.ensures c.if-stop-text.true; fits = (l.invariant.0, l.invariant.1, l.invariant.2) })
 
 pub carry_line-done-requires : goal.carry_line-done-requires
 carry_line-done-requires c = let l = c.loop-out in
@@ -56,11 +56,8 @@ pub returns-then-not-done : goal.returns-then-not-done
 returns-then-not-done c = let l = c.loop-out in
     let x = c.piece_end-stop.ensures in
     let y = c.carry_line-done in
-    rw c.so_far-then-not-done.ensures (
-      λ d s X S. let R = l.invariant.4 d s X S in
-          ends R _ l.invariant.0 x c.if-stop-text.false (omega (arith, c.if-out-end.false, l.invariant.3)) y.result _ _ _ _ _ _ _ (y.ensures.carries d s _ R.so_far.state) (not-true _ c.if-not-done.true),
-      (omega (arith, x.most, c.if-stop-text.false), omega (arith, l.invariant.1, x.from), omega (arith, y.ensures.fits, c.if-out-end.false, l.invariant.3)),
-    )
+    rw c.so_far-then-not-done.ensures (record { carries = λ d s X S. let R = l.invariant.4 d s X S in
+          ends R _ l.invariant.0 x c.if-stop-text.false (omega (arith, c.if-out-end.false, l.invariant.3)) y.result _ _ _ _ _ _ _ (y.ensures.carries d s _ R.so_far.state) (not-true _ c.if-not-done.true); fits = (omega (arith, x.most, c.if-stop-text.false), omega (arith, l.invariant.1, x.from), omega (arith, y.ensures.fits, c.if-out-end.false, l.invariant.3)) })
 
 pub loop-out-smaller : goal.loop-out-smaller
 loop-out-smaller c = omega (arith, c.piece_end-stop.ensures.from, c.piece_end-stop.ensures.most, c.if-stop-text.false)

@@ -12,7 +12,7 @@ pub slice_bounds-find_head-end-in-loop-to : goal.slice_bounds-find_head-end-in-l
 slice_bounds-find_head-end-in-loop-to c = sym (length-take-le _ _ c.loop-to.invariant.0)
 
 pub loop-to-smaller : goal.loop-to-smaller
-loop-to-smaller c = let w = came c.read_more.ensures c.next-1.given.1 in omega (arith, c.loop-to-test.true)
+loop-to-smaller c = let w = came c.read_more.ensures c.in-To.is in omega (arith, c.loop-to-test.true)
 
 pub loop-to-preserved : goal.loop-to-preserved
-loop-to-preserved c = let w = came c.read_more.ensures c.next-1.given.1 in (w.most, c.read_more.auto.0 ∙ c.loop-to.invariant.1)
+loop-to-preserved c = let w = came c.read_more.ensures c.in-To.is in (w.most, c.read_more.auto.0 ∙ c.loop-to.invariant.1)

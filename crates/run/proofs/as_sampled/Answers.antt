@@ -5,8 +5,8 @@ use borrow.Author.Rules.{rules}
 use Rattle.run.proofs.as_sampled.Goals as goal
 
 pub returns-in-NotMade : goal.returns-in-NotMade
-returns-in-NotMade c = rw c.made-1.given.1 refl
+returns-in-NotMade c = rw c.in-NotMade.is refl
 
 pub returns-in-Tree : goal.returns-in-Tree
 unfolding of_bits
-returns-in-Tree c = rw c.made-in-Tree-1.given.1 refl
+returns-in-Tree c = rw c.in-Tree.is refl

@@ -14,21 +14,21 @@ check_calls-checked-requires c = (sym c.begins_with_making.ensures ∙ not-false
 
 pub run_made-requires : goal.run_made-requires
 run_made-requires c = let m = (sym c.begins_with_making.ensures ∙ not-false _ c.if-not-begins_with_making.false) in
-    record { making = m; calls = too_few c.args.run.now c.args.answers.now m (sym c.enum_told-in-TooFew-1.given.1 ∙ c.check_calls-checked.ensures); empty = c.no_marks-written.ensures }
+    record { making = m; calls = too_few c.args.run.now c.args.answers.now m (sym c.in-TooFew.is ∙ c.check_calls-checked.ensures); empty = c.no_marks-written.ensures }
 
 pub run_made-requires-in-Enough : goal.run_made-requires-in-Enough
 run_made-requires-in-Enough c = let m = (sym c.begins_with_making.ensures ∙ not-false _ c.if-not-begins_with_making.false) in
-    (m, (enough c.args.run.now c.args.answers.now m (sym c.enum_told-in-Enough-1.given.1 ∙ c.check_calls-checked.ensures), c.no_marks-written.ensures))
+    (m, (enough c.args.run.now c.args.answers.now m (sym c.in-Enough.is ∙ c.check_calls-checked.ensures), c.no_marks-written.ensures))
 
 pub returns-in-OutOfLayout : goal.returns-in-OutOfLayout
-returns-in-OutOfLayout c = out_of_layout c.args.run.now c.args.answers.now (sym c.begins_with_making.ensures ∙ not-false _ c.if-not-begins_with_making.false) (sym c.enum_told-1.given.1 ∙ c.check_calls-checked.ensures)
+returns-in-OutOfLayout c = out_of_layout c.args.run.now c.args.answers.now (sym c.begins_with_making.ensures ∙ not-false _ c.if-not-begins_with_making.false) (sym c.in-OutOfLayout.is ∙ c.check_calls-checked.ensures)
 
 pub returns-in-TooFew : goal.returns-in-TooFew
 returns-in-TooFew c =     let m = (sym c.begins_with_making.ensures ∙ not-false _ c.if-not-begins_with_making.false) in
-    let q = too_few c.args.run.now c.args.answers.now m (sym c.enum_told-in-TooFew-1.given.1 ∙ c.check_calls-checked.ensures) in
+    let q = too_few c.args.run.now c.args.answers.now m (sym c.in-TooFew.is ∙ c.check_calls-checked.ensures) in
     gives c.args.run.now c.args.answers.now m _ q _ (c.run_made.ensures q)
 
 pub returns-in-Enough : goal.returns-in-Enough
 returns-in-Enough c =     let m = (sym c.begins_with_making.ensures ∙ not-false _ c.if-not-begins_with_making.false) in
-    let q = enough c.args.run.now c.args.answers.now m (sym c.enum_told-in-Enough-1.given.1 ∙ c.check_calls-checked.ensures) in
+    let q = enough c.args.run.now c.args.answers.now m (sym c.in-Enough.is ∙ c.check_calls-checked.ensures) in
     gives c.args.run.now c.args.answers.now m _ q _ (c.run_made-in-Enough.ensures q)

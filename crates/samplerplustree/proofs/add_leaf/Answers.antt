@@ -7,7 +7,7 @@ pub add_found-requires : goal.add_found-requires
 add_found-requires c = let it = seen_room _ _ _ _ _ _ _ c.requires in record { seen = it.0; room = it.1 }
 
 pub returns-in-Added : goal.returns-in-Added
-returns-in-Added c = record { small = leaf_small _ _ _ c.args.index c.args.words.now _ _ c.add_found.ensures c.requires _ _ _ c.next-1.given.1; adds = leaf_added _ _ _ c.args.index c.args.words.now _ _ c.add_found.ensures _ _ _ c.next-1.given.1 }
+returns-in-Added c = record { small = leaf_small _ _ _ c.args.index c.args.words.now _ _ c.add_found.ensures c.requires _ _ _ c.in-Added.is; adds = leaf_added _ _ _ c.args.index c.args.words.now _ _ c.add_found.ensures _ _ _ c.in-Added.is }
 
 pub returns-in-NotAdded : goal.returns-in-NotAdded
-returns-in-NotAdded c = let it = absurd (never_refused _ _ _ c.args.index c.args.words.now _ _ c.add_found.ensures c.requires _ c.enum_told-1.given.1) in record { small = it.0; adds = it.1 }
+returns-in-NotAdded c = let it = absurd (never_refused _ _ _ c.args.index c.args.words.now _ _ c.add_found.ensures c.requires _ c.in-NotAdded.is) in record { small = it.0; adds = it.1 }

@@ -6,13 +6,13 @@ use borrow.Author.Rules.{rules}
 use Rattle.samplerplustree.proofs.answer_of.Goals as goal
 
 pub returns-in-Refused : goal.returns-in-Refused
-returns-in-Refused c = let a = c.args in ap (λ (o : Offer). answer_by o a.next a.leaf a.gone) (sym c.offer-1.given.1)
+returns-in-Refused c = let a = c.args in ap (λ (o : Offer). answer_by o a.next a.leaf a.gone) (sym c.in-Refused.is)
 
 pub returns-in-Passes : goal.returns-in-Passes
-returns-in-Passes c = let a = c.args in ap (λ (o : Offer). answer_by o a.next a.leaf a.gone) (sym c.enum_told-1.given.1)
+returns-in-Passes c = let a = c.args in ap (λ (o : Offer). answer_by o a.next a.leaf a.gone) (sym c.in-Passes.is)
 
 pub returns-in-Begins : goal.returns-in-Begins
-returns-in-Begins c = let a = c.args in ap (λ (o : Offer). answer_by o a.next a.leaf a.gone) (sym c.enum_told-in-Begins-1.given.1)
+returns-in-Begins c = let a = c.args in ap (λ (o : Offer). answer_by o a.next a.leaf a.gone) (sym c.in-Begins.is)
 
 pub returns-in-Evicts : goal.returns-in-Evicts
-returns-in-Evicts c = let a = c.args in ap (λ (o : Offer). answer_by o a.next a.leaf a.gone) (sym c.enum_told-in-Evicts-1.given.1)
+returns-in-Evicts c = let a = c.args in ap (λ (o : Offer). answer_by o a.next a.leaf a.gone) (sym c.in-Evicts.is)

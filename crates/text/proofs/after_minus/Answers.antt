@@ -7,7 +7,7 @@ use Rattle.text.proofs.capped_float.Reads as capped-float-reads
 use Rattle.text.proofs.after_minus.Goals as goal
 
 pub returns-then-v-eq0 : goal.returns-then-v-eq0
-returns-then-v-eq0 c = minus_none c.number-1.given.1 (omega arith)
+returns-then-v-eq0 c = minus_none c.in-Is.is (omega arith)
 
 pub returns-else-v-eq0 : goal.returns-else-v-eq0
-returns-else-v-eq0 c = minus_is c.number-1.given.1 c.if-v-eq0.false c.capped_float.ensures
+returns-else-v-eq0 c = minus_is c.in-Is.is c.if-v-eq0.false c.capped_float.ensures

@@ -37,7 +37,7 @@ pub slice_bounds-read_making-end : goal.slice_bounds-read_making-end
 slice_bounds-read_making-end c = c.piece_end-b.ensures.most
 
 pub share_of-requires : goal.share_of-requires
-share_of-requires c = few _ _ c.read_making.ensures _ _ _ c.channels-1.given.1
+share_of-requires c = few _ _ c.read_making.ensures _ _ _ c.in-Make.is
 
 pub overflow_add-c : goal.overflow_add-c
 overflow_add-c c =     let t = c.args.text.now in
@@ -49,9 +49,9 @@ print_few-requires c =     let t = c.args.text.now in
 
 pub returns-in-NoMaking : goal.returns-in-NoMaking
 returns-in-NoMaking c =     let t = c.args.text.now in
-    absurd (no_making _ _ c.read_making.ensures _ (making_is t c.requires _ c.piece_end-a.ensures _ c.piece_end-b.ensures _ c.piece_end-c.ensures) c.enum_told-1.given.1)
+    absurd (no_making _ _ c.read_making.ensures _ (making_is t c.requires _ c.piece_end-a.ensures _ c.piece_end-b.ensures _ c.piece_end-c.ensures) c.in-NoMaking.is)
 
 pub returns-in-Make : goal.returns-in-Make
 returns-in-Make c =     let t = c.args.text.now in
-    by_making _ _ c.read_making.ensures _ _ _ c.channels-1.given.1 t c.requires (making_is t c.requires _ c.piece_end-a.ensures _ c.piece_end-b.ensures _ c.piece_end-c.ensures) _ _ _ c.wide64.ensures c.wide64-in-Make.ensures c.share_of.ensures
+    by_making _ _ c.read_making.ensures _ _ _ c.in-Make.is t c.requires (making_is t c.requires _ c.piece_end-a.ensures _ c.piece_end-b.ensures _ c.piece_end-c.ensures) _ _ _ c.wide64.ensures c.wide64-in-Make.ensures c.share_of.ensures
     (c.print_few.ensures c.requires.ops (rows_are t c.requires _ c.piece_end-a.ensures _ c.piece_end-b.ensures _ c.piece_end-c.ensures))

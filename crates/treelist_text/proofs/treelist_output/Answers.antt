@@ -5,10 +5,10 @@ use Rattle.treelist_text.proofs.Sizes.{fitting}
 use Rattle.treelist_text.proofs.treelist_output.Goals as goal
 
 pub print_made-requires : goal.print_made-requires
-print_made-requires c = in_form_lem _ _ _ c.check_form.ensures c.enum_told-1.given.1
+print_made-requires c = in_form_lem _ _ _ c.check_form.ensures c.in-Good.is
 
 pub returns-in-Bad : goal.returns-in-Bad
-returns-in-Bad c = let it = fitting _ (bad_output _ _ _ c.check_form.ensures c.row-1.given.1 c.put_refused.ensures.wrote) in record { wrote = it.0; fits = it.1 }
+returns-in-Bad c = let it = fitting _ (bad_output _ _ _ c.check_form.ensures c.in-Bad.is c.put_refused.ensures.wrote) in record { wrote = it.0; fits = it.1 }
 
 pub returns-in-Good : goal.returns-in-Good
 returns-in-Good c = let it = fitting _ c.print_made.ensures in record { wrote = it.0; fits = it.1 }

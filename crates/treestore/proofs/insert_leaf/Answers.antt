@@ -19,26 +19,26 @@ pub bounds-point-dimension : goal.bounds-point-dimension
 bounds-point-dimension c = dimension_low c.requires.entering _ c.wide16.ensures.0 _ c.highest_cut-highest.ensures
 
 pub place_branch-requires : goal.place_branch-requires
-place_branch-requires c = some_graft c.requires.entering _ c.wide16.ensures.0 _ c.highest_cut-highest.ensures _ _ _ _ c.get-got.ensures.answer c.get-got.ensures.rows_after c.got-1.given.1 _ refl
+place_branch-requires c = some_graft c.requires.entering _ c.wide16.ensures.0 _ c.highest_cut-highest.ensures _ _ _ _ c.get-got.ensures.answer c.get-got.ensures.rows_after c.in-Index.is _ refl
 
 pub keep_new_box-requires : goal.keep_new_box-requires
 keep_new_box-requires c = let E = c.requires.entering in
-    record { few = sizes_few E _ c.wide16.ensures.0; stands = new_sides E _ c.wide16.ensures.0 _ c.highest_cut-highest.ensures _ _ _ _ c.get-got.ensures.answer c.get-got.ensures.rows_after c.got-1.given.1 _ refl _ _ _ c.place_branch.ensures _ c.wide16-in-Index.ensures.0; padded = (E.walking.padded, kept_padded E.walking) }
+    record { few = sizes_few E _ c.wide16.ensures.0; stands = new_sides E _ c.wide16.ensures.0 _ c.highest_cut-highest.ensures _ _ _ _ c.get-got.ensures.answer c.get-got.ensures.rows_after c.in-Index.is _ refl _ _ _ c.place_branch.ensures _ c.wide16-in-Index.ensures.0; padded = (E.walking.padded, kept_padded E.walking) }
 
 pub overflow_sub-n : goal.overflow_sub-n
 overflow_sub-n c = top_low c.requires.entering _ c.wide16.ensures.0 _ c.highest_cut-highest.ensures
 
 pub grow_ancestors-requires : goal.grow_ancestors-requires
 grow_ancestors-requires c = let E = c.requires.entering in record { few = (above_few E _, cached_few E, E.walking.channels-few); stands = (
-      some_grafted E _ c.wide16.ensures.0 _ c.highest_cut-highest.ensures _ _ _ _ c.get-got.ensures.answer c.get-got.ensures.rows_after c.got-1.given.1 _ refl _ _ _ c.place_branch.ensures _ c.wide16-in-Index.ensures.0 _ c.keep_new_box.ensures.kept,
-      hold_before E _ c.wide16.ensures.0 _ c.highest_cut-highest.ensures _ _ _ _ c.get-got.ensures.answer c.get-got.ensures.rows_after c.got-1.given.1 _ refl _ _ _ c.place_branch.ensures _ c.wide16-in-Index.ensures.0 _ c.keep_new_box.ensures.kept,
+      some_grafted E _ c.wide16.ensures.0 _ c.highest_cut-highest.ensures _ _ _ _ c.get-got.ensures.answer c.get-got.ensures.rows_after c.in-Index.is _ refl _ _ _ c.place_branch.ensures _ c.wide16-in-Index.ensures.0 _ c.keep_new_box.ensures.kept,
+      hold_before E _ c.wide16.ensures.0 _ c.highest_cut-highest.ensures _ _ _ _ c.get-got.ensures.answer c.get-got.ensures.rows_after c.in-Index.is _ refl _ _ _ c.place_branch.ensures _ c.wide16-in-Index.ensures.0 _ c.keep_new_box.ensures.kept,
     ); padded = (E.walking.row-padded, c.keep_new_box.ensures.padded) }
 
 pub returns-in-Index : goal.returns-in-Index
 returns-in-Index c = λ t u p E. (
-  entered E _ c.wide16.ensures.0 _ c.highest_cut-highest.ensures _ _ _ _ c.get-got.ensures.answer c.get-got.ensures.rows_after c.got-1.given.1 _ refl _ _ _ c.place_branch.ensures _ c.wide16-in-Index.ensures.0 _ c.keep_new_box.ensures.kept _ c.grow_ancestors.ensures.grown _ c.placed_root-new_root.ensures.root,
+  entered E _ c.wide16.ensures.0 _ c.highest_cut-highest.ensures _ _ _ _ c.get-got.ensures.answer c.get-got.ensures.rows_after c.in-Index.is _ refl _ _ _ c.place_branch.ensures _ c.wide16-in-Index.ensures.0 _ c.keep_new_box.ensures.kept _ c.grow_ancestors.ensures.grown _ c.placed_root-new_root.ensures.root,
   E.walking.walked.count,
 )
 
 pub returns-in-Empty : goal.returns-in-Empty
-returns-in-Empty c = λ t u p E. not_empty E _ c.get-got.ensures.answer c.enum_told-1.given.1
+returns-in-Empty c = λ t u p E. not_empty E _ c.get-got.ensures.answer c.in-Empty.is

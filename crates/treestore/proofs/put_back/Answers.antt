@@ -4,7 +4,7 @@ use borrow.Author.Rules.{rules}
 use Rattle.treestore.proofs.put_back.Goals as goal
 
 pub returns-in-Done : goal.returns-in-Done
-returns-in-Done c = λ u m l s p o i h. put_back_done _ _ u m l s p o _ i h _ _ _ c.release-released.ensures.answer c.release-released.ensures.rows_after c.released-1.given.1
+returns-in-Done c = λ u m l s p o i h. put_back_done _ _ u m l s p o _ i h _ _ _ c.release-released.ensures.answer c.release-released.ensures.rows_after c.in-Done.is
 
 pub returns-in-Full : goal.returns-in-Full
-returns-in-Full c = λ u m l s p o i h. put_back_full _ _ u m l s p o _ i h _ c.release-released.ensures.answer c.enum_told-1.given.1
+returns-in-Full c = λ u m l s p o i h. put_back_full _ _ u m l s p o _ i h _ c.release-released.ensures.answer c.in-Full.is

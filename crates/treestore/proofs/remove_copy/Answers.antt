@@ -26,7 +26,7 @@ pub returns-then-n-lt2 : goal.returns-then-n-lt2
 returns-then-n-lt2 c = λ t u p G held. alone G _ c.if-copies-leaf-gt1.false c.if-n-lt2.true (c.remove_root.ensures.arrays _ _ _ _ _ _ _ (one_row G c.if-n-lt2.true))
 
 pub remove_last-requires : goal.remove_last-requires
-remove_last-requires c = record { held = c.requires; last = c.if-copies-leaf-gt1.false; below = c.if-n-lt2.false }
+remove_last-requires c = record { held = c.requires.held; last = c.if-copies-leaf-gt1.false; below = c.if-n-lt2.false }
 
 pub returns : goal.returns
 returns c = c.remove_last.ensures

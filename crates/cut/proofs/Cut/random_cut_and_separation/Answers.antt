@@ -11,12 +11,12 @@ unfolding of_bits
 returns-then-outside c = sym (holds_point _ _ _ _ _ _ c.outside_sum-outside.ensures c.if-outside.true)
 
 pub drawn-requires : goal.drawn-requires
-drawn-requires c = reached_below _ width 0 _ _ _ (sym c.side_cut-side.ensures ∙ c.side-1.given.1)
+drawn-requires c = reached_below _ width 0 _ _ _ (sym c.side_cut-side.ensures ∙ c.in-At.is)
 
 pub returns-in-Nowhere : goal.returns-in-Nowhere
 unfolding of_bits drawn_at
-returns-in-Nowhere c = sym (draws _ _ _ _ _ _ c.outside_sum-outside.ensures c.if-outside.false _ _ c.get_range_sum.ensures c.factor.ensures _ (sym c.enum_told-1.given.1 ∙ c.side_cut-side.ensures))
+returns-in-Nowhere c = sym (draws _ _ _ _ _ _ c.outside_sum-outside.ensures c.if-outside.false _ _ c.get_range_sum.ensures c.factor.ensures _ (sym c.in-Nowhere.is ∙ c.side_cut-side.ensures))
 
 pub returns-in-At : goal.returns-in-At
 unfolding of_bits
-returns-in-At c = c.drawn.ensures ∙ sym (draws _ _ _ _ _ _ c.outside_sum-outside.ensures c.if-outside.false _ _ c.get_range_sum.ensures c.factor.ensures _ (sym c.side-1.given.1 ∙ c.side_cut-side.ensures))
+returns-in-At c = c.drawn.ensures ∙ sym (draws _ _ _ _ _ _ c.outside_sum-outside.ensures c.if-outside.false _ _ c.get_range_sum.ensures c.factor.ensures _ (sym c.in-At.is ∙ c.side_cut-side.ensures))

@@ -6,11 +6,11 @@ use Rattle.cut.proofs.Counted.{cut_told, cut_below}
 use Rattle.cut.proofs.Cut.whole_cut_and_separation.Goals as goal
 
 pub drawn-requires : goal.drawn-requires
-drawn-requires c = cut_below _ _ _ width _ c.requires.readings _ c.side_cut-side.ensures _ _ c.side-1.given.1
+drawn-requires c = cut_below _ _ _ width _ c.requires.readings _ c.side_cut-side.ensures _ _ c.in-At.is
 
 pub returns-in-Nowhere : goal.returns-in-Nowhere
 unfolding drawn_at
-returns-in-Nowhere c = sym (cut_told _ _ _ width _ c.requires.readings _ (sym c.enum_told-1.given.1 ∙ c.side_cut-side.ensures))
+returns-in-Nowhere c = sym (cut_told _ _ _ width _ c.requires.readings _ (sym c.in-Nowhere.is ∙ c.side_cut-side.ensures))
 
 pub returns-in-At : goal.returns-in-At
-returns-in-At c = c.drawn.ensures ∙ sym (cut_told _ _ _ width _ c.requires.readings _ (sym c.side-1.given.1 ∙ c.side_cut-side.ensures))
+returns-in-At c = c.drawn.ensures ∙ sym (cut_told _ _ _ width _ c.requires.readings _ (sym c.in-At.is ∙ c.side_cut-side.ensures))

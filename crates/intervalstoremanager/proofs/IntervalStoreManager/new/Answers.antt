@@ -8,8 +8,8 @@ use Rattle.intervalstoremanager.proofs.IntervalStoreManager.new.Goals as goal
 
 pub returns-then-size-eq0 : goal.returns-then-size-eq0
 unfolding fresh layout upon
-returns-then-size-eq0 c = rw c.if-size-eq0.true (refl, refl)
+returns-then-size-eq0 c = rw c.if-size-eq0.true (record { answer = refl; rows_after = refl })
 
 pub returns : goal.returns
 unfolding fresh layout upon
-returns c = rw (ne_eqb c.args.size 0 c.if-size-eq0.false) (refl, refl)
+returns c = rw (ne_eqb c.args.size 0 c.if-size-eq0.false) (record { answer = refl; rows_after = refl })

@@ -16,7 +16,7 @@ returns-then-field_at-eq0 c = rw c.no_box-then-field_at-eq0.ensures (box_refused
 pub set_branch-requires : goal.set_branch-requires
 unfolding of_bits
 set_branch-requires c = let S = some_sides _ _ _ _ _ (omega arith) (λ e. c.if-field_at-eq0.false (c.field_at.ensures ∙ e)) c.requires in
-    rw c.wide16.ensures.0 (S.few, (S.sides, (S.table, S.slots, no_ends_lem _)))
+    rw c.wide16.ensures.0 (record { few = S.few; stands = S.sides; padded = (S.table, S.slots, no_ends_lem _) })
 
 pub returns : goal.returns
 returns c = box_told _ _ _ _ _ (omega arith) (λ e. c.if-field_at-eq0.false (c.field_at.ensures ∙ e)) _ (rw c.wide16.ensures.0 at c.set_branch.ensures.sides)

@@ -18,7 +18,7 @@ pub bounds-points-index : goal.bounds-points-index
 bounds-points-index c = let q = c.requires in omega (arith, q.state.reachable.sound.inside _ _ q.is-written)
 
 pub remove_copy-edited-requires : goal.remove_copy-edited-requires
-remove_copy-edited-requires c = let q = c.requires in held q.state _ q.is-written c.if-total-eq0.false (q.seen.walked c.if-total-eq0.false) (not-false _ c.if-not-found.false)
+remove_copy-edited-requires c = let q = c.requires in record { held = held q.state _ q.is-written c.if-total-eq0.false (q.seen.walked c.if-total-eq0.false) (not-false _ c.if-not-found.false) }
 
 pub returns : goal.returns
 returns c = λ d e s W marks p H P. one_less H _ P c.if-total-eq0.false (c.requires.seen.walked c.if-total-eq0.false) (not-false _ c.if-not-found.false) _ _ c.remove_copy-edited.ensures _ c.headed_by-tree.ensures

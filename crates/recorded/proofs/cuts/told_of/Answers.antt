@@ -3,7 +3,7 @@ use borrow.Author.Rules.{rules}
 use Rattle.recorded.proofs.cuts.told_of.Goals as goal
 
 pub returns-in-NoCut : goal.returns-in-NoCut
-returns-in-NoCut c = rw c.enum_told-1.given.1
+returns-in-NoCut c = rw c.in-NoCut.is
 
 pub returns-in-Drawn : goal.returns-in-Drawn
-returns-in-Drawn c = rw (c.drawn-1.given.1, c.bit.ensures.0, c.wide32.ensures.0, c.pattern_of.ensures)
+returns-in-Drawn c = rw (c.in-Drawn.is, c.bit.ensures.0, c.wide32.ensures.0, c.pattern_of.ensures)
