@@ -14,7 +14,7 @@ use Rattle.sampler.proofs.Ways.{OnWay, way_ends, way_goes}
 use Rattle.sampler.proofs.swap_up.Goals as goal
 
 pub loop-current-init : goal.loop-current-init
-loop-current-init c = (omega arith, λ ks ws ps at. record { left = c.args.start-index; entries = ks; slots = at; enough = omega arith; same = refl })
+loop-current-init c = (omega arith, λ ks ws ps at. record { left = c.args.start_index; entries = ks; slots = at; enough = omega arith; same = refl })
 
 pub loop-current-preserved : goal.loop-current-preserved
 loop-current-preserved c = let s = c.loop-current in

@@ -7,8 +7,8 @@ use Rattle.startingchance.proofs.get_fill_fraction.Goals as goal
 
 pub returns-then-current_size-capacity : goal.returns-then-current_size-capacity
 unfolding fill_fraction of_bits
-returns-then-current_size-capacity c = rw (eq-eqb c.args.current-size c.args.capacity c.if-current_size-capacity.true)
+returns-then-current_size-capacity c = rw (eq-eqb c.args.current_size c.args.capacity c.if-current_size-capacity.true)
 
 pub returns : goal.returns
 unfolding fill_fraction
-returns c = rw (ne_eqb c.args.current-size c.args.capacity c.if-current_size-capacity.false)
+returns c = rw (ne_eqb c.args.current_size c.args.capacity c.if-current_size-capacity.false)
