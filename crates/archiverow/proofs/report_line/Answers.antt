@@ -5,10 +5,10 @@ use borrow.Author.Rules.{rules}
 use Rattle.archiverow.proofs.report_line.Goals as goal
 
 pub returns-then-not-is_dash : goal.returns-then-not-is_dash
-returns-then-not-is_dash c = report_indexed _ _ _ c.is_dash.ensures (not-true _ c.if-not-is_dash.true)
+returns-then-not-is_dash c = report_indexed _ _ _ c.is_dash.ensures c.if-not-is_dash.true
 
 pub returns-then-all_coordinates : goal.returns-then-all_coordinates
-returns-then-all_coordinates c = report_good _ _ _ c.is_dash.ensures (not-false _ c.if-not-is_dash.false) c.all_coordinates.ensures c.if-all_coordinates.true
+returns-then-all_coordinates c = report_good _ _ _ c.is_dash.ensures c.if-not-is_dash.false c.all_coordinates.ensures c.if-all_coordinates.true
 
 pub returns : goal.returns
-returns c = report_bad _ _ _ c.is_dash.ensures (not-false _ c.if-not-is_dash.false) c.all_coordinates.ensures c.if-all_coordinates.false
+returns c = report_bad _ _ _ c.is_dash.ensures c.if-not-is_dash.false c.all_coordinates.ensures c.if-all_coordinates.false

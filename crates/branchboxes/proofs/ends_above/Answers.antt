@@ -40,7 +40,7 @@ join-requires c = let S = c.requires in
 
 pub returns-then-given-at_hand : goal.returns-then-given-at_hand
 returns-then-given-at_hand c = let J = c.join.ensures in
-    record { pair = hand_pair _ _ _ _ _ _ _ _ _ (nodes_at c.before) c.if-given-at_hand.true c.join.new.0 J.joined; padded = J.padded }
+    record { pair = hand_pair _ _ _ _ _ _ _ _ _ (nodes_at c.before) c.if-given-at_hand.true c.join.new.ends J.joined; padded = J.padded }
 
 pub set_branch-requires : goal.set_branch-requires
 set_branch-requires c = let S = c.requires in
@@ -54,4 +54,4 @@ grow_ends-requires c = let S = c.requires in
 pub returns : goal.returns
 returns c = let A = c.args in
     let G = rw c.either-other.ensures at c.grow_ends.ensures.grown in
-    record { pair = grown_pair _ _ _ _ _ c.at_hand-given.result A.below A.sibling c.if-given.ends c.grow_ends.new.0 (ends_at c.before).0 G; padded = c.grow_ends.ensures.padded }
+    record { pair = grown_pair _ _ _ _ _ c.at_hand-given.result A.below A.sibling c.if-given.ends c.grow_ends.new.ends (ends_at c.before).0 G; padded = c.grow_ends.ensures.padded }

@@ -14,7 +14,7 @@ pub returns-then-at_hand : goal.returns-then-at_hand
 returns-then-at_hand c =     let A = c.args in
     let W = two_sides _ _ _ _ _ _ _ _ c.side_of-left.ensures c.side_of-right.ensures _ _ c.requires.stands.1 c.at_hand.ensures c.at_hand-2.ensures in
     let K = c.keep_join.ensures in
-    record { kept = hands_kept _ _ _ _ _ _ _ _ _ W c.if-at_hand.true A.index c.side_of-left.ensures c.side_of-right.ensures c.requires.stands.0 c.keep_join.new.0 K.kept; padded = K.padded }
+    record { kept = hands_kept _ _ _ _ _ _ _ _ _ W c.if-at_hand.true A.index c.side_of-left.ensures c.side_of-right.ensures c.requires.stands.0 c.keep_join.new.boxes K.kept; padded = K.padded }
 
 pub set_branch-requires : goal.set_branch-requires
 unfolding of_bits
@@ -27,4 +27,4 @@ pub returns : goal.returns
 returns c =     let A = c.args in
     let E = c.set_branch.ensures in
     let K = c.keep_ends.ensures in
-    record { kept = sides_kept _ _ _ _ _ A.index c.requires.stands.0 c.keep_ends.new.0 c.set_branch.new.0 E.padded.two E.sides K.kept; padded = K.padded }
+    record { kept = sides_kept _ _ _ _ _ A.index c.requires.stands.0 c.keep_ends.new.boxes c.set_branch.new.ends E.padded.two E.sides K.kept; padded = K.padded }

@@ -17,7 +17,7 @@ pub loop-at-init : goal.loop-at-init
 loop-at-init c = test_start c.requires
 
 pub returns-then-not-is_coordinate_at : goal.returns-then-not-is_coordinate_at
-returns-then-not-is_coordinate_at c = test_bad c.loop-at.invariant c.loop-at-test.true c.piece_end-end.ensures c.is_coordinate_at.ensures (not-true _ c.if-not-is_coordinate_at.true)
+returns-then-not-is_coordinate_at c = test_bad c.loop-at.invariant c.loop-at-test.true c.piece_end-end.ensures c.is_coordinate_at.ensures c.if-not-is_coordinate_at.true
 
 pub overflow_add-at : goal.overflow_add-at
 overflow_add-at c = omega arith
@@ -26,7 +26,7 @@ pub loop-at-smaller : goal.loop-at-smaller
 loop-at-smaller c = omega arith
 
 pub loop-at-preserved : goal.loop-at-preserved
-loop-at-preserved c = test_step c.loop-at.invariant c.loop-at-test.true c.piece_end-end.ensures c.is_coordinate_at.ensures (not-false _ c.if-not-is_coordinate_at.false)
+loop-at-preserved c = test_step c.loop-at.invariant c.loop-at-test.true c.piece_end-end.ensures c.is_coordinate_at.ensures c.if-not-is_coordinate_at.false
 
 pub returns : goal.returns
 returns c = test_end c.loop-at.invariant c.loop-at-test.false

@@ -17,7 +17,7 @@ pub loop-at-init : goal.loop-at-init
 loop-at-init c = test_start c.requires
 
 pub returns-then-not-is_word_at : goal.returns-then-not-is_word_at
-returns-then-not-is_word_at c = test_bad c.loop-at.invariant c.loop-at-test.true c.piece_end-end.ensures c.is_word_at.ensures (not-true _ c.if-not-is_word_at.true)
+returns-then-not-is_word_at c = test_bad c.loop-at.invariant c.loop-at-test.true c.piece_end-end.ensures c.is_word_at.ensures c.if-not-is_word_at.true
 
 pub overflow_add-at : goal.overflow_add-at
 overflow_add-at c = omega arith
@@ -26,7 +26,7 @@ pub loop-at-smaller : goal.loop-at-smaller
 loop-at-smaller c = omega arith
 
 pub loop-at-preserved : goal.loop-at-preserved
-loop-at-preserved c = test_step c.loop-at.invariant c.loop-at-test.true c.piece_end-end.ensures c.is_word_at.ensures (not-false _ c.if-not-is_word_at.false)
+loop-at-preserved c = test_step c.loop-at.invariant c.loop-at-test.true c.piece_end-end.ensures c.is_word_at.ensures c.if-not-is_word_at.false
 
 pub returns : goal.returns
 returns c = test_end c.loop-at.invariant c.loop-at-test.false

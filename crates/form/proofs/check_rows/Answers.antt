@@ -19,7 +19,7 @@ pub returns-then-end-bytes : goal.returns-then-end-bytes
 returns-then-end-bytes c = count_tail c.loop-start.invariant c.piece_end-end.ensures c.if-end-bytes.true c.if-end-at.false
 
 pub returns-then-not-is_row_at : goal.returns-then-not-is_row_at
-returns-then-not-is_row_at c = count_bad c.loop-start.invariant c.piece_end-end.ensures c.if-end-bytes.false c.is_row_at.ensures (not-true _ c.if-not-is_row_at.true)
+returns-then-not-is_row_at c = count_bad c.loop-start.invariant c.piece_end-end.ensures c.if-end-bytes.false c.is_row_at.ensures c.if-not-is_row_at.true
 
 pub loop-start-preserved : goal.loop-start-preserved
-loop-start-preserved c = count_step c.loop-start.invariant c.piece_end-end.ensures c.if-end-bytes.false c.is_row_at.ensures (not-false _ c.if-not-is_row_at.false)
+loop-start-preserved c = count_step c.loop-start.invariant c.piece_end-end.ensures c.if-end-bytes.false c.is_row_at.ensures c.if-not-is_row_at.false

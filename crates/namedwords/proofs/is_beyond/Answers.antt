@@ -6,7 +6,7 @@ use borrow.Author.Rules.{rules}
 use Rattle.namedwords.proofs.is_beyond.Goals as goal
 
 pub returns-then-not-is_named : goal.returns-then-not-is_named
-returns-then-not-is_named c = not_beyond _ c.is_named.ensures (not-true _ c.if-not-is_named.true)
+returns-then-not-is_named c = not_beyond _ c.is_named.ensures c.if-not-is_named.true
 
 pub returns : goal.returns
-returns c = beyond_last _ (sym c.is_named.ensures ∙ not-false _ c.if-not-is_named.false) c.read_first.ensures
+returns c = beyond_last _ (sym c.is_named.ensures ∙ c.if-not-is_named.false) c.read_first.ensures

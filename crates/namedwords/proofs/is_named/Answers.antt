@@ -15,7 +15,7 @@ pub returns-then-piece_end-row : goal.returns-then-piece_end-row
 returns-then-piece_end-row c = named_more _ _ c.if-row-start.false c.piece_end-end.ensures c.if-end-row.false c.piece_end.ensures c.if-piece_end-row.true
 
 pub returns-then-not-is_key_at : goal.returns-then-not-is_key_at
-returns-then-not-is_key_at c = named_not _ _ c.if-row-start.false c.piece_end-end.ensures c.if-end-row.false c.piece_end.ensures c.if-piece_end-row.false c.is_key_at.ensures (not-true _ c.if-not-is_key_at.true)
+returns-then-not-is_key_at c = named_not _ _ c.if-row-start.false c.piece_end-end.ensures c.if-end-row.false c.piece_end.ensures c.if-piece_end-row.false c.is_key_at.ensures c.if-not-is_key_at.true
 
 pub returns : goal.returns
-returns c = c.all_words.ensures ∙ named_word _ _ c.if-row-start.false c.piece_end-end.ensures c.if-end-row.false c.piece_end.ensures c.if-piece_end-row.false c.is_key_at.ensures (not-false _ c.if-not-is_key_at.false)
+returns c = c.all_words.ensures ∙ named_word _ _ c.if-row-start.false c.piece_end-end.ensures c.if-end-row.false c.piece_end.ensures c.if-piece_end-row.false c.is_key_at.ensures c.if-not-is_key_at.false

@@ -13,10 +13,10 @@ pub loop-i-init : goal.loop-i-init
 loop-i-init c = (zero-le, refl)
 
 pub returns-then-not-is_coordinate : goal.returns-then-not-is_coordinate
-returns-then-not-is_coordinate c = sym (turn_bad _ _ c.loop-i-test.true (c.shared_slice_known-in-loop-i-1.given _) _ c.is_coordinate.ensures (not-true _ c.if-not-is_coordinate.true)) ∙ c.loop-i.invariant.1
+returns-then-not-is_coordinate c = sym (turn_bad _ _ c.loop-i-test.true (c.shared_slice_known-in-loop-i-1.given _) _ c.is_coordinate.ensures c.if-not-is_coordinate.true) ∙ c.loop-i.invariant.1
 
 pub loop-i-preserved : goal.loop-i-preserved
-loop-i-preserved c = (omega arith, sym (turn_good _ _ c.loop-i-test.true (c.shared_slice_known-in-loop-i-1.given _) _ c.is_coordinate.ensures (not-false _ c.if-not-is_coordinate.false)) ∙ c.loop-i.invariant.1)
+loop-i-preserved c = (omega arith, sym (turn_good _ _ c.loop-i-test.true (c.shared_slice_known-in-loop-i-1.given _) _ c.is_coordinate.ensures c.if-not-is_coordinate.false) ∙ c.loop-i.invariant.1)
 
 pub returns : goal.returns
 returns c = sym (all_done _ _ c.loop-i-test.false) ∙ c.loop-i.invariant.1

@@ -9,7 +9,7 @@ pub returns-then-coordinates-dimensions : goal.returns-then-coordinates-dimensio
 returns-then-coordinates-dimensions c = sym (wrong_count _ _ c.if-coordinates-dimensions.true)
 
 pub returns-then-not-all_coordinates : goal.returns-then-not-all_coordinates
-returns-then-not-all_coordinates c = sym (bad_point _ _ c.if-coordinates-dimensions.false (sym c.all_coordinates.ensures ∙ not-true _ c.if-not-all_coordinates.true))
+returns-then-not-all_coordinates c = sym (bad_point _ _ c.if-coordinates-dimensions.false (sym c.all_coordinates.ensures ∙ c.if-not-all_coordinates.true))
 
 pub returns : goal.returns
-returns c = sym (good_point _ _ c.if-coordinates-dimensions.false (sym c.all_coordinates.ensures ∙ not-false _ c.if-not-all_coordinates.false))
+returns c = sym (good_point _ _ c.if-coordinates-dimensions.false (sym c.all_coordinates.ensures ∙ c.if-not-all_coordinates.false))

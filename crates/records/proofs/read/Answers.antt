@@ -11,19 +11,19 @@ pub returns-then-not-is_head : goal.returns-then-not-is_head
 returns-then-not-is_head c = let it = not_read _ _ c.none-then-not-is_head.ensures in record { whole = it.0; none = it.1 }
 
 pub read_bytes-first-requires : goal.read_bytes-first-requires
-read_bytes-first-requires c = let f = fits c.head_of-head.result _ c.is_head.ensures (not-false _ c.if-not-is_head.false) in omega (arith, f.1.0, f.1.1)
+read_bytes-first-requires c = let f = fits c.head_of-head.result _ c.is_head.ensures c.if-not-is_head.false in omega (arith, f.1.0, f.1.1)
 
 pub read_bytes-second-requires : goal.read_bytes-second-requires
-read_bytes-second-requires c = let f = fits c.head_of-head.result _ c.is_head.ensures (not-false _ c.if-not-is_head.false) in omega (arith, f.1.0, f.1.1)
+read_bytes-second-requires c = let f = fits c.head_of-head.result _ c.is_head.ensures c.if-not-is_head.false in omega (arith, f.1.0, f.1.1)
 
 pub overflow_add-first : goal.overflow_add-first
-overflow_add-first c = let f = fits c.head_of-head.result _ c.is_head.ensures (not-false _ c.if-not-is_head.false) in omega (arith, f.1.0, f.1.1)
+overflow_add-first c = let f = fits c.head_of-head.result _ c.is_head.ensures c.if-not-is_head.false in omega (arith, f.1.0, f.1.1)
 
 pub overflow_add-head : goal.overflow_add-head
-overflow_add-head c = let f = fits c.head_of-head.result _ c.is_head.ensures (not-false _ c.if-not-is_head.false) in omega (arith, f.1.0, f.1.1)
+overflow_add-head c = let f = fits c.head_of-head.result _ c.is_head.ensures c.if-not-is_head.false in omega (arith, f.1.0, f.1.1)
 
 pub returns-then-first-second : goal.returns-then-first-second
 returns-then-first-second c = let it = not_read _ _ c.none-then-first-second.ensures in record { whole = it.0; none = it.1 }
 
 pub returns : goal.returns
-returns c = let f = fits c.head_of-head.result _ c.is_head.ensures (not-false _ c.if-not-is_head.false) in record { whole = λ _. record { kind = f.0; size = f.1.0; count = f.1.1; given-long = omega (arith, c.read_bytes-first.auto.0); given-beyond = c.read_bytes-first.ensures.beyond; expected-beyond = c.read_bytes-second.ensures.beyond }; none = λ h. absurd (true≢false (sym c.head_of-head.ensures ∙ h)) }
+returns c = let f = fits c.head_of-head.result _ c.is_head.ensures c.if-not-is_head.false in record { whole = λ _. record { kind = f.0; size = f.1.0; count = f.1.1; given-long = omega (arith, c.read_bytes-first.auto.bytes); given-beyond = c.read_bytes-first.ensures.beyond; expected-beyond = c.read_bytes-second.ensures.beyond }; none = λ h. absurd (true≢false (sym c.head_of-head.ensures ∙ h)) }

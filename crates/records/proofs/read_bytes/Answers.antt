@@ -7,4 +7,4 @@ pub slice_bounds-read_full-end-2 : goal.slice_bounds-read_full-end-2
 slice_bounds-read_full-end-2 c = sym (length-take-le c.args.n c.args.bytes.now c.requires)
 
 pub returns : goal.returns
-returns c = let w = c.read_full in let l : length w.new.1.0 ≡ c.args.n = w.auto.1.0 ∙ length-take-le c.args.n c.args.bytes.now c.requires in record { few = omega (arith, w.ensures.0); beyond = beyond w.new.1.0 c.args.bytes.now c.args.n l }
+returns c = let w = c.read_full in let l : length w.new.buf ≡ c.args.n = w.auto.buf ∙ length-take-le c.args.n c.args.bytes.now c.requires in record { few = omega (arith, w.ensures.0); beyond = beyond w.new.buf c.args.bytes.now c.args.n l }

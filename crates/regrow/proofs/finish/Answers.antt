@@ -6,4 +6,4 @@ use borrow.Author.Rules.{rules}
 use Rattle.regrow.proofs.finish.Goals as goal
 
 pub slice_bounds-write_all-end : goal.slice_bounds-write_all-end
-slice_bounds-write_all-end c = let w = c.print_end-n in sym (length-take-le w.result w.new.1.1.1.1.1.1.0 (omega (arith, w.ensures.fits, w.auto.1.1.1.1.1.1.0)))
+slice_bounds-write_all-end c = let w = c.print_end-n in sym (length-take-le w.result w.new.out (omega (arith, w.ensures.fits, w.auto.out)))

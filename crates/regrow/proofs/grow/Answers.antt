@@ -40,7 +40,7 @@ pub shape_of-text-then-not-tell : goal.shape_of-text-then-not-tell
 shape_of-text-then-not-tell c = c.loop-turns.invariant.2
 
 pub shape_of-out-then-not-tell : goal.shape_of-out-then-not-tell
-shape_of-out-then-not-tell c = c.carry_lines-batch.auto.1.1.1.1.1.1.1.1.1.1.1.1.1.0 ∙ c.loop-turns.invariant.3
+shape_of-out-then-not-tell c = c.carry_lines-batch.auto.out ∙ c.loop-turns.invariant.3
 
 pub returns-then-not-tell : goal.returns-then-not-tell
 returns-then-not-tell c = tt
@@ -51,13 +51,13 @@ follow-requires c = let l = c.loop-turns in
 
 pub finish-requires : goal.finish-requires
 finish-requires c = let G = c.loop-turns.invariant.5 _ _ _ c.requires.stands.state in
-    some_end (some_sampled (grown_on G (c.carry_lines-batch.ensures.carries _ _ _ G.state) (c.tell.ensures (not-false _ c.if-not-tell.false))))
+    some_end (some_sampled (grown_on G (c.carry_lines-batch.ensures.carries _ _ _ G.state) (c.tell.ensures c.if-not-tell.false)))
 
 pub shape_of-text-in-Ended : goal.shape_of-text-in-Ended
-shape_of-text-in-Ended c = c.follow.auto.0 ∙ c.loop-turns.invariant.2
+shape_of-text-in-Ended c = c.follow.auto.text ∙ c.loop-turns.invariant.2
 
 pub shape_of-out-in-Ended : goal.shape_of-out-in-Ended
-shape_of-out-in-Ended c = c.carry_lines-batch.auto.1.1.1.1.1.1.1.1.1.1.1.1.1.0 ∙ c.loop-turns.invariant.3
+shape_of-out-in-Ended c = c.carry_lines-batch.auto.out ∙ c.loop-turns.invariant.3
 
 pub returns-in-Ended : goal.returns-in-Ended
 returns-in-Ended c = tt
@@ -66,10 +66,10 @@ pub refuse-requires : goal.refuse-requires
 refuse-requires c = tt
 
 pub shape_of-text-in-Failed : goal.shape_of-text-in-Failed
-shape_of-text-in-Failed c = c.follow.auto.0 ∙ c.loop-turns.invariant.2
+shape_of-text-in-Failed c = c.follow.auto.text ∙ c.loop-turns.invariant.2
 
 pub shape_of-out-in-Failed : goal.shape_of-out-in-Failed
-shape_of-out-in-Failed c = c.carry_lines-batch.auto.1.1.1.1.1.1.1.1.1.1.1.1.1.0 ∙ c.loop-turns.invariant.3
+shape_of-out-in-Failed c = c.carry_lines-batch.auto.out ∙ c.loop-turns.invariant.3
 
 pub returns-in-Failed : goal.returns-in-Failed
 returns-in-Failed c = tt
@@ -87,11 +87,11 @@ loop-turns-preserved c = let l = c.loop-turns in
     let r = simp (length-take, length-drop) at y.ensures.fits.0 in (
       omega (arith, w.more),
       w.most,
-      c.follow.auto.0 ∙ l.invariant.2,
-      y.auto.1.1.1.1.1.1.1.1.1.1.1.1.1.0 ∙ l.invariant.3,
+      c.follow.auto.text ∙ l.invariant.2,
+      y.auto.out ∙ l.invariant.3,
       omega (arith, l.invariant.0, l.invariant.1, l.invariant.2, l.invariant.4, r, y.ensures.fits.1, c.requires.near.3, c.loop-turns-test.true),
       λ d s X S. let G = l.invariant.5 d s X S in
-          grown_on G (y.ensures.carries d s _ G.state) (c.tell.ensures (not-false _ c.if-not-tell.false)),
+          grown_on G (y.ensures.carries d s _ G.state) (c.tell.ensures c.if-not-tell.false),
     )
 
 pub refuse-requires-2 : goal.refuse-requires-2

@@ -6,4 +6,4 @@ use borrow.Author.Rules.{rules}
 use Rattle.regrow.proofs.refuse.Goals as goal
 
 pub slice_bounds-write_all-end : goal.slice_bounds-write_all-end
-slice_bounds-write_all-end c = let w = c.put_refused-n in sym (length-take-le w.result w.new.0 (omega (arith, w.ensures.few, w.auto.0)))
+slice_bounds-write_all-end c = let w = c.put_refused-n in sym (length-take-le w.result w.new.out (omega (arith, w.ensures.few, w.auto.out)))

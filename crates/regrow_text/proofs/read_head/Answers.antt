@@ -15,4 +15,4 @@ pub loop-to-smaller : goal.loop-to-smaller
 loop-to-smaller c = let w = came c.read_more.ensures c.in-To.is in omega (arith, c.loop-to-test.true)
 
 pub loop-to-preserved : goal.loop-to-preserved
-loop-to-preserved c = let w = came c.read_more.ensures c.in-To.is in (w.most, c.read_more.auto.0 ∙ c.loop-to.invariant.1)
+loop-to-preserved c = let w = came c.read_more.ensures c.in-To.is in (w.most, c.read_more.auto.text ∙ c.loop-to.invariant.1)

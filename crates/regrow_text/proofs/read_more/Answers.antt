@@ -10,9 +10,9 @@ use Rattle.regrow_text.proofs.read_more.Goals as goal
 
 pub returns : goal.returns
 returns c =     let k = length c.args.text.now - c.args.at in
-    let ys = c.read-got.new.1.0 in
+    let ys = c.read-got.new.buf in
     let after = put_mid c.args.at k c.args.text.now ys in
-    let l : length after ≡ length c.args.text.now = same_len_mid c.args.at k c.args.text.now ys c.read-got.auto.1.0 in
+    let l : length after ≡ length c.args.text.now = same_len_mid c.args.at k c.args.text.now ys c.read-got.auto.buf in
     record {
       more = omega arith;
       most = counted c.args.at _ after (omega (arith, l, c.requires)) c.count-n.ensures.0.0;

@@ -22,5 +22,5 @@ returns-then-start-count c =     let e : length c.args.key.now ≡ key_bytes = o
 
 pub returns : goal.returns
 returns c =     let e : length c.args.key.now ≡ key_bytes = omega arith in
-    within c.args.key.now c.args.start c.args.words.now e (omega arith) (omega arith) c.put_stream.new.1.1.0
+    within c.args.key.now c.args.start c.args.words.now e (omega arith) (omega arith) c.put_stream.new.words
     (c.put_stream.ensures ∙ ap (λ (k : List ℕ). stream_words k c.args.start (length c.args.words.now)) c.key_of.ensures)

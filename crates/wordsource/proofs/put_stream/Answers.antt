@@ -21,11 +21,11 @@ pub loop-i-preserved : goal.loop-i-preserved
 loop-i-preserved c = let p = c.put_words-i in
             let key = c.args.key.now in
     let n = c.args.start + c.loop-i.i in
-    let block : c.block_of.new.1.0 ≡ block_at key (n / 8)
+    let block : c.block_of.new.block ≡ block_at key (n / 8)
     = c.block_of.ensures ∙ ap block_of (c.at_block.ensures ∙ ap (λ (x : List ℕ). set x 12 (n / 8)) c.state_of-first.ensures) in
-    let words : take p.result p.new.1.1.0 ≡ take c.loop-i.i c.loop-i.words ++ words_of (block_at key (n / 8)) (n % 8) (p.result - c.loop-i.i)
+    let words : take p.result p.new.words ≡ take c.loop-i.i c.loop-i.words ++ words_of (block_at key (n / 8)) (n % 8) (p.result - c.loop-i.i)
     = p.ensures.words ∙ ap (λ (x : List ℕ). take c.loop-i.i c.loop-i.words ++ words_of x (n % 8) (p.result - c.loop-i.i)) block in
-    (omega (arith, p.ensures.count), p.auto.1.1.0 ∙ c.loop-i.invariant.1, block_more key c.args.start c.loop-i.i p.result c.loop-i.words p.new.1.1.0 (omega (arith, p.ensures.count)) (omega (arith, p.ensures.count)) c.loop-i.invariant.2 words)
+    (omega (arith, p.ensures.count), p.auto.words ∙ c.loop-i.invariant.1, block_more key c.args.start c.loop-i.i p.result c.loop-i.words p.new.words (omega (arith, p.ensures.count)) (omega (arith, p.ensures.count)) c.loop-i.invariant.2 words)
 
 pub returns : goal.returns
 returns c =         let e : c.loop-i.i ≡ length c.args.words.now = omega arith in

@@ -9,7 +9,7 @@ unfolding of_bits
 returns-then-x c = bound_one _ c.requires.0 c.requires.1 c.if-x.true
 
 pub truncating_f64_to_u64-whole-requires : goal.truncating_f64_to_u64-whole-requires
-truncating_f64_to_u64-whole-requires c = (above_minus _ c.requires.0 c.requires.1, below_most _ c.requires.0 c.requires.1)
+truncating_f64_to_u64-whole-requires c = record { lower_bound = above_minus _ c.requires.0 c.requires.1; upper_bound = below_most _ c.requires.0 c.requires.1 }
 
 pub overflow_cast-whole : goal.overflow_cast-whole
 overflow_cast-whole c = omega (arith, c.truncating_f64_to_u64-whole.ensures, whole_fits c.args.x c.requires.0 c.requires.1)

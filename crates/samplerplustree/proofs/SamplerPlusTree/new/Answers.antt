@@ -6,10 +6,10 @@ use borrow.Author.Rules.{rules}
 use Rattle.samplerplustree.proofs.SamplerPlusTree.new.Goals as goal
 
 pub returns-then-not-is_share : goal.returns-then-not-is_share
-returns-then-not-is_share c = share_refused _ _ _ _ _ _ _ (sym c.is_share.ensures ∙ not-true _ c.if-not-is_share.true) _ c.refusal_of.ensures
+returns-then-not-is_share c = share_refused _ _ _ _ _ _ _ (sym c.is_share.ensures ∙ c.if-not-is_share.true) _ c.refusal_of.ensures
 
 pub returns-in-NotMade : goal.returns-in-NotMade
-returns-in-NotMade c = tree_refused _ _ _ _ _ _ _ (sym c.is_share.ensures ∙ not-false _ c.if-not-is_share.false) _ _ c.new.ensures _ c.in-NotMade.is
+returns-in-NotMade c = tree_refused _ _ _ _ _ _ _ (sym c.is_share.ensures ∙ c.if-not-is_share.false) _ _ c.new.ensures _ c.in-NotMade.is
 
 pub returns-in-Tree : goal.returns-in-Tree
-returns-in-Tree c = made _ _ _ _ _ _ _ (sym c.is_share.ensures ∙ not-false _ c.if-not-is_share.false) _ _ c.new.ensures _ c.in-Tree.is _ _ _ c.new-sampler.ensures.made c.new-sampler.ensures.weights_after c.new-sampler.ensures.points_after
+returns-in-Tree c = made _ _ _ _ _ _ _ (sym c.is_share.ensures ∙ c.if-not-is_share.false) _ _ c.new.ensures _ c.in-Tree.is _ _ _ c.new-sampler.ensures.made c.new-sampler.ensures.weights_after c.new-sampler.ensures.points_after

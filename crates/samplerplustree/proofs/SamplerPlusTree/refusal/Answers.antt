@@ -17,10 +17,10 @@ pub returns-then-written-index-eq0 : goal.returns-then-written-index-eq0
 returns-then-written-index-eq0 c = tells_9 _ _ _ _ _ c.if-index-ge-POINTS.false c.if-written-index-eq0.true
 
 pub returns-then-not-is_weight : goal.returns-then-not-is_weight
-returns-then-not-is_weight c = tells_14 _ _ _ _ _ c.if-index-ge-POINTS.false c.if-written-index-eq0.false (sym (weight_is _ (held c.before)) ∙ sym c.is_weight.ensures ∙ not-true _ c.if-not-is_weight.true)
+returns-then-not-is_weight c = tells_14 _ _ _ _ _ c.if-index-ge-POINTS.false c.if-written-index-eq0.false (sym (weight_is _ (held c.before)) ∙ sym c.is_weight.ensures ∙ c.if-not-is_weight.true)
 
 pub returns-then-n-wide16 : goal.returns-then-n-wide16
-returns-then-n-wide16 c = tells_11 _ _ _ _ _ c.if-index-ge-POINTS.false c.if-written-index-eq0.false (sym (weight_is _ (held c.before)) ∙ sym c.is_weight.ensures ∙ not-false _ c.if-not-is_weight.false) _ c.wide16.ensures.0 c.if-n-wide16.true
+returns-then-n-wide16 c = tells_11 _ _ _ _ _ c.if-index-ge-POINTS.false c.if-written-index-eq0.false (sym (weight_is _ (held c.before)) ∙ sym c.is_weight.ensures ∙ c.if-not-is_weight.false) _ c.wide16.ensures.0 c.if-n-wide16.true
 
 pub returns : goal.returns
-returns c = tells_none _ _ _ _ _ c.if-index-ge-POINTS.false c.if-written-index-eq0.false (sym (weight_is _ (held c.before)) ∙ sym c.is_weight.ensures ∙ not-false _ c.if-not-is_weight.false) _ c.wide16.ensures.0 c.if-n-wide16.false
+returns c = tells_none _ _ _ _ _ c.if-index-ge-POINTS.false c.if-written-index-eq0.false (sym (weight_is _ (held c.before)) ∙ sym c.is_weight.ensures ∙ c.if-not-is_weight.false) _ c.wide16.ensures.0 c.if-n-wide16.false
