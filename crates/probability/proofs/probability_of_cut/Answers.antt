@@ -19,7 +19,7 @@ returns-then-range_sum c = let t = rw c.summed_distance-sum.ensures at c.if-sum.
 
 pub float_to_float-outside : goal.float_to_float-outside
 float_to_float-outside c =     let a = c.args in
-    rw c.summed_distance-sum.ensures (outside_casts a.bounding_box.min_values a.bounding-box.max_values a.point.now width)
+    rw c.summed_distance-sum.ensures (outside_casts a.bounding_box.min_values a.bounding_box.max_values a.point.now width)
 
 pub returns : goal.returns
 unfolding part_of probability of_bits

@@ -32,7 +32,7 @@ returns-then-run-ne0 c = let r = c.args.run.now in
 
 pub returns-then-size_of-eq0 : goal.returns-then-size_of-eq0
 returns-then-size_of-eq0 c = let r = c.args.run.now in
-    short (eqb (length r % 4) 0) (eqb (number r 0) 1 || is_sampled r) (size r) (making_width r) (making_least r) (omega (arith, c.if-size_of-eq0.true, c.type_size.ensures))
+    short (eqb (length r % 4) 0) (eqb (number r 0) 1 || is_sampled r) (size r) (making_width r) (making_least r) (omega (arith, c.if-size_of-eq0.true, c.size_of.ensures))
 
 pub returns : goal.returns
 returns c = let r = c.args.run.now in

@@ -17,4 +17,4 @@ beyond bytes p h l =
     omega arith
 
 pub returns : goal.returns
-returns c = (beyond c.args.run.now c.args.p c.requires (omega (arith, c.if-p-size_of.false, c.type_size.ensures)), omega arith)
+returns c = (beyond c.args.run.now c.args.p c.requires (omega (arith, c.if-p-size_of.false, c.size_of.ensures)), omega arith)
