@@ -50,7 +50,7 @@ pub padded_is : (xs row : List Float) (i : ℕ) → width ≤ i → Filled (or_n
 padded_is xs row i h w = is_tab nan width (or_nought xs) row w.long (λ k l. w.entries k (omega arith)) ∙ sym (is_tab nan width (or_nought xs) (padded width xs) (padded_length width xs) (λ k l. go k l (ltb k (length xs)) refl))
   where
     go : (k : ℕ) → k < width → (b : Bool) → ltb k (length xs) ≡ b → channel (padded width xs) k ≡ cond b (channel xs k) nought
-    go k l true e = padded_at width xs k (borrow.Author.Tests.ltb_true k (length xs) e) l
+    go k l true e = padded_at width xs k (borrow.Author.Tests.ltb-true k (length xs) e) l
     go k l false e = padded_beyond width xs k (borrow.Author.Tests.ltb-false k (length xs) e) l
 
 -- ---- the test of each coordinate

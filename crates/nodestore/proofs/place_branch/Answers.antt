@@ -8,7 +8,7 @@ pub mass_of-m-requires : goal.mass_of-m-requires
 mass_of-m-requires c = let it = mass_asks c.requires.graft _ c.node_at-old.ensures in record { node_lt_branch_limit = it.0; capacity_bound = it.1 }
 
 pub row_for-row-requires : goal.row_for-row-requires
-row_for-row-requires c = record { mass_bound = omega (arith, c.mass_of-m.ensures, mass_low c.requires.graft _ c.node_at-old.ensures); dimension_lt_width = omega (arith, c.requires.graft.channel-is, c.requires.graft.channel-small) }
+row_for-row-requires c = record { mass_bound = omega (arith, c.mass_of-m.ensures, mass_low c.requires.graft _ c.node_at-old.ensures); dimension_lt_width = omega (arith, c.requires.graft.channel_is, c.requires.graft.channel_small) }
 
 pub insert-requires : goal.insert-requires
 insert-requires c = let s = c.requires.graft in
