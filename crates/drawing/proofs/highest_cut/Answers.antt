@@ -16,7 +16,7 @@ bounds-words-0 c = let D = c.requires.walked.drawing in omega (arith, D.count, D
 pub chosen_first-chosen-requires : goal.chosen_first-chosen-requires
 chosen_first-chosen-requires c = let q = c.requires in
     let B = leaf_box _ _ _ _ _ _ _ _ _ _ _ q.walked q.padded.1 in
-    record { row = q.walked.drawing.leaf-small; readings = readings _ _ _ _ _ _ _ _ _ _ _ 0 _ B q.walked; padded = padded_rows _ _ _ _ _ _ _ _ _ _ _ 0 _ B q.few.2 q.padded.0; number = is_numbered _ _ _ _ _ _ _ _ _ _ _ 0 _ B _ refl q.walked (omega (arith, c.shared_slice_known-2-1.given 0)) }
+    record { row = q.walked.drawing.leaf_small; readings = readings _ _ _ _ _ _ _ _ _ _ _ 0 _ B q.walked; padded = padded_rows _ _ _ _ _ _ _ _ _ _ _ 0 _ B q.few.2 q.padded.0; number = is_numbered _ _ _ _ _ _ _ _ _ _ _ 0 _ B _ refl q.walked (omega (arith, c.shared_slice_known-2-1.given 0)) }
 
 pub loop-m-init : goal.loop-m-init
 loop-m-init c = let q = c.requires in
@@ -50,7 +50,7 @@ ends_above-requires c = let q = c.requires in
     let h = c.loop-m-test.true in
     let f = c.node_of-below.ensures in
     let s = c.sibling_at-sibling.ensures in
-    record { few = q.few; stands = both_stand _ _ D.boxed D.once D.count D.is-trail _ g.some h _ f _ s; given = under_box _ _ D.boxed D.once D.count D.is-trail _ g.some h _ f _ s _ g.box; padded = (q.padded.1, q.padded.2, g.padded) }
+    record { few = q.few; stands = both_stand _ _ D.boxed D.once D.count D.is_trail _ g.some h _ f _ s; given = under_box _ _ D.boxed D.once D.count D.is_trail _ g.some h _ f _ s _ g.box; padded = (q.padded.1, q.padded.2, g.padded) }
 
 pub bounds-words-m : goal.bounds-words-m
 bounds-words-m c = omega (arith, c.loop-m-test.true, c.requires.walked.drawing.enough)

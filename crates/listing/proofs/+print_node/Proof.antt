@@ -59,11 +59,11 @@ print_node_print_branch_requires t c κs = let w = branch_at t c.before.before.b
 
 print_node_print_node_requires : (t : ℕ) → print-node-lts.Need-print-node-requires (calls t) (print_node_at t) print-node.Post
 print_node_print_node_requires t c κs = let w = branch_at t c.before.before.before.before.before.before.before.before.before c.before.before.before.before.before.before.before.if1.false in
-    rw c.before.before.before.before.before.before.number_of_lem.ensures (omega (arith, w.left_less, c.before.before.before.before.before.before.before.before.before.requires.0), (c.before.before.before.before.before.before.before.before.before.requires.1.0, w.left-some c.before.before.before.print-branch.ensures))
+    rw c.before.before.before.before.before.before.number_of_lem.ensures (omega (arith, w.left_less, c.before.before.before.before.before.before.before.before.before.requires.0), (c.before.before.before.before.before.before.before.before.before.requires.1.0, w.left_some c.before.before.before.print-branch.ensures))
 
 print_node_print_node_requires_2 : (t : ℕ) → print-node-lts.Need-print-node-requires-2 (calls t) (print_node_at t) print-node.Post
 print_node_print_node_requires_2 t c κs = let w = branch_at t c.before.before.before.before.before.before.before.before.before.before.before.before.before c.before.before.before.before.before.before.before.before.before.before.before.if1.false in
-    rw c.before.before.before.before.before.before.before.before.before.number-of2.ensures (omega (arith, w.right-less, c.before.before.before.before.before.before.before.before.before.before.before.before.before.requires.0), (c.before.before.before.before.before.before.before.before.before.before.before.before.before.requires.1.0, w.right-some c.before.before.before.before.before.before.before.print-branch.ensures (rw c.before.before.before.before.before.before.before.before.before.before.number_of_lem.ensures at c.before.before.before.print-node.ensures)))
+    rw c.before.before.before.before.before.before.before.before.before.number-of2.ensures (omega (arith, w.right_less, c.before.before.before.before.before.before.before.before.before.before.before.before.before.requires.0), (c.before.before.before.before.before.before.before.before.before.before.before.before.before.requires.1.0, w.right_some c.before.before.before.before.before.before.before.print-branch.ensures (rw c.before.before.before.before.before.before.before.before.before.before.number_of_lem.ensures at c.before.before.before.print-node.ensures)))
 
 print_node_returns_2 : (t : ℕ) → print-node-lts.Need-returns-2 (calls t) (print_node_at t) print-node.Post
 print_node_returns_2 t c = branch_printed _ _ _ _ _ c.before.before.before.before.before.before.before.before.before.before.before.before.before.before.if1.false c.before.before.before.before.before.before.before.before.before.before.print-branch.ensures (rw c.before.before.before.before.before.before.before.before.before.before.before.before.before.number_of_lem.ensures at c.before.before.before.before.before.before.print-node.ensures) (rw c.before.before.before.before.before.before.before.before.before.before.before.before.number-of2.ensures at c.before.before.print-node2.ensures)

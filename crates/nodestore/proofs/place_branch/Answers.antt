@@ -13,7 +13,7 @@ row_for-row-requires c = record { mass_bound = omega (arith, c.mass_of-m.ensures
 pub insert-requires : goal.insert-requires
 insert-requires c = let s = c.requires.graft in
     let a = insert_asks s _ _ _ c.node_at-old.ensures c.mass_of-m.ensures (rw c.leaf_id.ensures at c.row_for-row.ensures) in
-    (s.small, (omega (arith, place_low s), (s.walked.long, a)))
+    record { b_lt_branch_limit = s.small; k_le_capacity_limit = omega (arith, place_low s); path_len = s.walked.long; k_bound = a.0; climb = a.1 }
 
 pub returns : goal.returns
 returns c = λ d n t p h x w. rw (c.insert.ensures.linked, c.insert.ensures.cut_after, c.put_copies.ensures)

@@ -10,7 +10,7 @@ put_copies-requires c = index_low c.requires.some_reached.reached
 pub lift-requires : goal.lift-requires
 lift-requires c = let s = c.requires in
     let a = fork_asks s.some_reached.reached s.index_value s.le_n _ _ c.node_at-b.ensures c.sibling_at-s.ensures in
-    (a.0, (omega (arith, s.some_reached.reached.walked.most), (s.some_reached.reached.walked.long, a.1)))
+    record { b_lt_branch_limit = a.0; k_le_capacity_limit = omega (arith, s.some_reached.reached.walked.most); path_len = s.some_reached.reached.walked.long; k_bound = a.1.0; climb = a.1.1 }
 
 pub returns : goal.returns
 returns c = let s = c.requires in

@@ -32,7 +32,7 @@ bounds-points-leaf c = let w = c.requires.walk.writing in leaf_low w _ (c.leaf_a
 
 pub leaf_row-requires : goal.leaf_row-requires
 leaf_row-requires c = let p = c.requires.walk in
-    record { narrow = p.narrow; padded = (p.table-padded _ (leaf_low p.writing _ (c.leaf_at-leaf.ensures _ _ _ p.writing.walked)), p.point-padded) }
+    record { narrow = p.narrow; padded = (p.table_padded _ (leaf_low p.writing _ (c.leaf_at-leaf.ensures _ _ _ p.writing.walked)), p.point_padded) }
 
 pub bounds-rows-0 : goal.bounds-rows-0
 bounds-rows-0 c = let p = c.requires.walk in omega (arith, p.room, p.writing.walked.count)
@@ -42,7 +42,7 @@ loop-m-init c = let p = c.requires.walk in
     let w = p.writing.walked in (
       going_starts _ _ _ _ _ _ _ _ _ c.args.rows.now p.room (omega (arith, w.count)) _
           _ (omega (arith, w.count)) _ c.node_at-leaf_id.ensures _ c.leaf_at-leaf.ensures _ c.mass_of-leaf_mass.ensures c.leaf_row.ensures _ p.writing,
-      record { two = refl; low = p.point-padded; high = p.point-padded },
+      record { two = refl; low = p.point_padded; high = p.point_padded },
     )
 
 pub overflow_sub-depth : goal.overflow_sub-depth
@@ -74,7 +74,7 @@ branch_ends-requires c = let p = c.requires.walk in
     let h = c.loop-m-test.true in
     let e = c.wide16.ensures.0 in
     let f = c.wide16-in-loop-m.ensures.0 ∙ c.node_at.ensures in
-    let s = c.sibling_at.ensures in record { few = (omega (arith, w.stored.small, e), omega (arith, w.few, w.stored.small), p.narrow); stands = both_stand _ _ _ _ _ _ _ _ _ w m g.0.some h _ e _ f _ s; given = below_box _ _ _ _ _ _ _ _ _ w m g.0.some h _ e _ f _ s _ g.0.box; padded = (p.table-padded, p.boxes-padded, g.1) }
+    let s = c.sibling_at.ensures in record { few = (omega (arith, w.stored.small, e), omega (arith, w.few, w.stored.small), p.narrow); stands = both_stand _ _ _ _ _ _ _ _ _ w m g.0.some h _ e _ f _ s; given = below_box _ _ _ _ _ _ _ _ _ w m g.0.some h _ e _ f _ s _ g.0.box; padded = (p.table_padded, p.boxes_padded, g.1) }
 
 pub offset_bounds-chances-depth : goal.offset_bounds-chances-depth
 offset_bounds-chances-depth c = omega (arith, c.loop-m-test.true, c.requires.walk.writing.walked.most)
@@ -92,7 +92,7 @@ chance_of-chance-requires c = let p = c.requires.walk in
     let f = c.wide16-in-loop-m.ensures.0 ∙ c.node_at.ensures in
     let s = c.sibling_at.ensures in
     let o = c.wide16-branch.ensures.0 ∙ c.node_at-node.ensures in
-    let r = c.branch_ends.ensures in record { readings = (λ l. box_readings _ _ _ _ _ _ _ _ _ _ m (omega (arith, h)) _ o _ (branch_box _ _ _ _ _ _ _ _ _ w m g.0.some h _ e _ f _ s _ o _ (r.pair l)) w); padded = (λ _. all_padded _ _ _ p.narrow r.padded p.point-padded) }
+    let r = c.branch_ends.ensures in record { readings = (λ l. box_readings _ _ _ _ _ _ _ _ _ _ m (omega (arith, h)) _ o _ (branch_box _ _ _ _ _ _ _ _ _ w m g.0.some h _ e _ f _ s _ o _ (r.pair l)) w); padded = (λ _. all_padded _ _ _ p.narrow r.padded p.point_padded) }
 
 pub mass_of-mass-requires : goal.mass_of-mass-requires
 mass_of-mass-requires c = let it = mass_asks c.requires.walk.writing _ c.loop-m.m (omega (arith, c.loop-m-test.true)) _ c.node_at-node.ensures in record { node_lt_branch_limit = it.0; capacity_bound = it.1 }

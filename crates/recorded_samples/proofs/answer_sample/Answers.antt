@@ -15,7 +15,7 @@ pub loop-i-init : goal.loop-i-init
 loop-i-init c = sequenced_start _ c.if-n-eq0.false c.wide16.ensures.0 c.u16_at-capacity.ensures c.if-wide16-gt-CAPACITY.false c.new-sampler.ensures.made c.new-sampler.ensures.weights_after c.new-sampler.ensures.points_after
 
 pub turn-state-requires : goal.turn-state-requires
-turn-state-requires c = (omega (arith, c.loop-i.invariant.few), c.loop-i.invariant.fits, rw c.loop-i.invariant.capacity-is c.loop-i.invariant.room)
+turn-state-requires c = (omega (arith, c.loop-i.invariant.few), c.loop-i.invariant.fits, rw c.loop-i.invariant.capacity_is c.loop-i.invariant.room)
 
 pub overflow_add-i-in-loop-i-2 : goal.overflow_add-i-in-loop-i-2
 overflow_add-i-in-loop-i-2 c = omega (arith, c.requires)

@@ -17,13 +17,13 @@ returns : tie.Need-returns
 returns c = search rules
 
 array-share-prefix-given : tie.Need-array-share-prefix-given
-array-share-prefix-given c = let r = c.before.before.read in let w = r.ensures.0 (not-false _ c.if1.false) in omega (arith, w.size, w.given-long)
+array-share-prefix-given c = let r = c.before.before.read in let w = r.ensures.0 (not-false _ c.if1.false) in omega (arith, w.size, w.given_long)
 
 slice-aggregate-answer : tie.Need-slice-aggregate-answer
 slice-aggregate-answer c =
     let r = c.before.before.before.read in
     let w = r.ensures.0 (not-false _ c.before.if1.false) in
-    sym (length-take-le r.result.size r.new.1.0 (omega (arith, w.size, w.given-long)))
+    sym (length-take-le r.result.size r.new.1.0 (omega (arith, w.size, w.given_long)))
 
 slice-aggregate-answer-2 : tie.Need-slice-aggregate-answer-2
 slice-aggregate-answer-2 c = search rules
@@ -32,7 +32,7 @@ answer-requires : tie.Need-answer-requires
 answer-requires c κs =
     let r = c.before.before.before.before.read in
     let w = r.ensures.0 (not-false _ c.before.before.if1.false) in
-    omega (arith, w.size, length-take-le r.result.size r.new.1.0 (omega (arith, w.size, w.given-long)))
+    omega (arith, w.size, length-take-le r.result.size r.new.1.0 (omega (arith, w.size, w.given_long)))
 
 judge-requires : tie.Need-judge-requires
 judge-requires c κs = (c.before.before.before.before.before.before.before.before.before.read.ensures.0 (not-false _ c.before.before.before.before.before.before.before.if1.false)).kind

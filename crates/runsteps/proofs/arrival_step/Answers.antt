@@ -9,7 +9,7 @@ use Rattle.runsteps.proofs.arrival_step.Goals as goal
 
 pub arrival_at-next-requires : goal.arrival_at-next-requires
 arrival_at-next-requires c =     let q = c.requires.state in
-    record { there = c.requires.arrival; state = record { channels = _; share = _; world = q.world; state = q.standing.sample-is (sampled c.args.run.now c.args.p c.requires.arrival.0 c.requires.arrival.1) } }
+    record { there = c.requires.arrival; state = record { channels = _; share = _; world = q.world; state = q.standing.sample_is (sampled c.args.run.now c.args.p c.requires.arrival.0 c.requires.arrival.1) } }
 
 pub write_reply-requires : goal.write_reply-requires
 write_reply-requires c =     let q = c.requires.state in

@@ -5,10 +5,10 @@ use borrow.Author.Rules.{rules}
 use Rattle.treestore.proofs.find.Goals as goal
 
 pub offset_bounds-points-index : goal.offset_bounds-points-index
-offset_bounds-points-index c = omega (arith, c.requires.sought.index-small)
+offset_bounds-points-index c = omega (arith, c.requires.sought.index_small)
 
 pub bounds-points-index : goal.bounds-points-index
-bounds-points-index c = c.requires.sought.index-small
+bounds-points-index c = c.requires.sought.index_small
 
 pub set_path-n-requires : goal.set_path-n-requires
 set_path-n-requires c = record { capacity_le_capacity_limit = c.requires.sought.small; some_walks = some_walks c.requires.sought }
@@ -23,14 +23,14 @@ pub bounds-points-leaf : goal.bounds-points-leaf
 bounds-points-leaf c = leaf_low c.requires.sought _ _ c.set_path-n.ensures.walked _ c.leaf_at-leaf.ensures
 
 pub offset_bounds-points-index-2 : goal.offset_bounds-points-index-2
-offset_bounds-points-index-2 c = omega (arith, c.requires.sought.index-small)
+offset_bounds-points-index-2 c = omega (arith, c.requires.sought.index_small)
 
 pub bounds-points-index-2 : goal.bounds-points-index-2
-bounds-points-index-2 c = c.requires.sought.index-small
+bounds-points-index-2 c = c.requires.sought.index_small
 
 pub same_point-held-requires : goal.same_point-held-requires
 same_point-held-requires c =     let s = c.requires.sought in
-    record { narrow = s.channels-few; padded = (leaf_padded s _ _ c.set_path-n.ensures.walked _ c.leaf_at-leaf.ensures, index_padded s) }
+    record { narrow = s.channels_few; padded = (leaf_padded s _ _ c.set_path-n.ensures.walked _ c.leaf_at-leaf.ensures, index_padded s) }
 
 pub returns : goal.returns
 returns c = λ t p G. found_in G _ _ c.set_path-n.ensures.walked _ c.leaf_at-leaf.ensures _ _ c.same_point-held.ensures c.set_path-n.ensures.rest

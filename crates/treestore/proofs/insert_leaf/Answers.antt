@@ -7,7 +7,7 @@ use borrow.Author.Rules.{rules}
 use Rattle.treestore.proofs.insert_leaf.Goals as goal
 
 pub highest_cut-highest-requires : goal.highest_cut-highest-requires
-highest_cut-highest-requires c = let E = c.requires.entering in record { few = sizes_few E _ c.wide16.ensures.0; walked = some_drawing E _ c.wide16.ensures.0; padded = (E.walking.row-padded, E.walking.padded, kept_padded E.walking) }
+highest_cut-highest-requires c = let E = c.requires.entering in record { few = sizes_few E _ c.wide16.ensures.0; walked = some_drawing E _ c.wide16.ensures.0; padded = (E.walking.row_padded, E.walking.padded, kept_padded E.walking) }
 
 pub overflow_sub-above-2 : goal.overflow_sub-above-2
 overflow_sub-above-2 c = height_low c.requires.entering _ c.wide16.ensures.0 _ c.highest_cut-highest.ensures
@@ -29,10 +29,10 @@ pub overflow_sub-n : goal.overflow_sub-n
 overflow_sub-n c = top_low c.requires.entering _ c.wide16.ensures.0 _ c.highest_cut-highest.ensures
 
 pub grow_ancestors-requires : goal.grow_ancestors-requires
-grow_ancestors-requires c = let E = c.requires.entering in record { few = (above_few E _, cached_few E, E.walking.channels-few); stands = (
+grow_ancestors-requires c = let E = c.requires.entering in record { few = (above_few E _, cached_few E, E.walking.channels_few); stands = (
       some_grafted E _ c.wide16.ensures.0 _ c.highest_cut-highest.ensures _ _ _ _ c.get-got.ensures.answer c.get-got.ensures.rows_after c.in-Index.is _ refl _ _ _ c.place_branch.ensures _ c.wide16-in-Index.ensures.0 _ c.keep_new_box.ensures.kept,
       hold_before E _ c.wide16.ensures.0 _ c.highest_cut-highest.ensures _ _ _ _ c.get-got.ensures.answer c.get-got.ensures.rows_after c.in-Index.is _ refl _ _ _ c.place_branch.ensures _ c.wide16-in-Index.ensures.0 _ c.keep_new_box.ensures.kept,
-    ); padded = (E.walking.row-padded, c.keep_new_box.ensures.padded) }
+    ); padded = (E.walking.row_padded, c.keep_new_box.ensures.padded) }
 
 pub returns-in-Index : goal.returns-in-Index
 returns-in-Index c = λ t u p E. (

@@ -20,7 +20,7 @@ pub remove_root-requires : goal.remove_root-requires
 remove_root-requires c = record { index_lt_point_limit = index_low (reached c.requires.walking); index_value = one_copy c.requires.walking c.if-copies-leaf-gt1.false }
 
 pub overflow_sub-result : goal.overflow_sub-result
-overflow_sub-result c = omega (arith, c.requires.walking.some-room)
+overflow_sub-result c = omega (arith, c.requires.walking.some_room)
 
 pub returns-then-n-lt2 : goal.returns-then-n-lt2
 returns-then-n-lt2 c = λ t u p G held. alone G _ c.if-copies-leaf-gt1.false c.if-n-lt2.true (c.remove_root.ensures.arrays _ _ _ _ _ _ _ (one_row G c.if-n-lt2.true))

@@ -9,12 +9,11 @@ use Rattle.walkboxes.proofs.repair_ancestors.Goals as goal
 pub loop-row-init : goal.loop-row-init
 loop-row-init c = (omega arith, repair_start _ _ _ _ _ _ _ _ _ c.requires.few.1, c.requires.padded.2)
 
-check-contains-and-rebuild-box-requires :
-    goal.Need-check-contains-and-rebuild-box-requires
-check-contains-and-rebuild-box-requires c κs =
+pub check_contains_and_rebuild_box-requires : goal.check_contains_and_rebuild_box-requires
+check_contains_and_rebuild_box-requires c =
     let p = c.requires in
     let i = c.loop-row.invariant in
-    ((p.few.0, p.few.1, p.few.2), ((λ _. repair_sides _ _ _ _ _ _ _ _ _ p.few.1 _ c.loop-row-test.true i.0 _ _ c.node_of-index.ensures i.1 p.few.0 p.stands), (p.padded.0, p.padded.1, i.2)))
+    record { few = (p.few.0, p.few.1, p.few.2); stands = (λ _. repair_sides _ _ _ _ _ _ _ _ _ p.few.1 _ c.loop-row-test.true i.0 _ _ c.node_of-index.ensures i.1 p.few.0 p.stands); padded = (p.padded.0, p.padded.1, i.2) }
 
 pub returns-then-check_contains_and_rebuild_box : goal.returns-then-check_contains_and_rebuild_box
 returns-then-check_contains_and_rebuild_box c = let i = c.loop-row.invariant in

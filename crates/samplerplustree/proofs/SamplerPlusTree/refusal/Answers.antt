@@ -7,9 +7,6 @@ use Rattle.samplerplustree.proofs.Tested.{weight_is, tells_5, tells_9, tells_14,
 use borrow.Author.Rules.{rules}
 use Rattle.samplerplustree.proofs.SamplerPlusTree.refusal.Goals as goal
 
-held : (c : goal.Start) → T (fits binary32 c.args.weight)
-held c = subst T (sym c.well_formed.1.1.1.0.1) tt
-
 pub returns-then-index-ge-POINTS : goal.returns-then-index-ge-POINTS
 returns-then-index-ge-POINTS c = tells_5 _ _ _ _ _ c.if-index-ge-POINTS.true
 
@@ -17,10 +14,10 @@ pub returns-then-written-index-eq0 : goal.returns-then-written-index-eq0
 returns-then-written-index-eq0 c = tells_9 _ _ _ _ _ c.if-index-ge-POINTS.false c.if-written-index-eq0.true
 
 pub returns-then-not-is_weight : goal.returns-then-not-is_weight
-returns-then-not-is_weight c = tells_14 _ _ _ _ _ c.if-index-ge-POINTS.false c.if-written-index-eq0.false (sym (weight_is _ (held c.before)) ∙ sym c.is_weight.ensures ∙ c.if-not-is_weight.true)
+returns-then-not-is_weight c = tells_14 _ _ _ _ _ c.if-index-ge-POINTS.false c.if-written-index-eq0.false (sym (weight_is _ (subst T (sym c.well_formed.1.1.1.0.1) tt)) ∙ sym c.is_weight.ensures ∙ c.if-not-is_weight.true)
 
 pub returns-then-n-wide16 : goal.returns-then-n-wide16
-returns-then-n-wide16 c = tells_11 _ _ _ _ _ c.if-index-ge-POINTS.false c.if-written-index-eq0.false (sym (weight_is _ (held c.before)) ∙ sym c.is_weight.ensures ∙ c.if-not-is_weight.false) _ c.wide16.ensures.0 c.if-n-wide16.true
+returns-then-n-wide16 c = tells_11 _ _ _ _ _ c.if-index-ge-POINTS.false c.if-written-index-eq0.false (sym (weight_is _ (subst T (sym c.well_formed.1.1.1.0.1) tt)) ∙ sym c.is_weight.ensures ∙ c.if-not-is_weight.false) _ c.wide16.ensures.0 c.if-n-wide16.true
 
 pub returns : goal.returns
-returns c = tells_none _ _ _ _ _ c.if-index-ge-POINTS.false c.if-written-index-eq0.false (sym (weight_is _ (held c.before)) ∙ sym c.is_weight.ensures ∙ c.if-not-is_weight.false) _ c.wide16.ensures.0 c.if-n-wide16.false
+returns c = tells_none _ _ _ _ _ c.if-index-ge-POINTS.false c.if-written-index-eq0.false (sym (weight_is _ (subst T (sym c.well_formed.1.1.1.0.1) tt)) ∙ sym c.is_weight.ensures ∙ c.if-not-is_weight.false) _ c.wide16.ensures.0 c.if-n-wide16.false
