@@ -21,7 +21,7 @@ calls = (at-hand-reads.Asked, at-hand-reads.Learnt, join-reads.Asked, join-reads
 -- what is known of the two nodes
 nodes_at : (c : lts.After-at-hand2 calls reads.Pre reads.Post) → let a = c.args in
     Two (capacity_of a.sizes.now) (cached_of a.sizes.now) a.nodes.now a.points.now a.boxes.now a.below a.sibling c.at_hand-given.result c.at_hand.result
-nodes_at c = let S = c.requires.stands in record { left-some = S.0; right-some = S.1; left-hand = c.at_hand-given.ensures; right-hand = c.at_hand.ensures }
+nodes_at c = let S = c.requires.stands in record { left_some = S.0; right_some = S.1; left_hand = c.at_hand-given.ensures; right_hand = c.at_hand.ensures }
 
 -- the ends before they are moved out
 ends_at : (c : lts.Joined2 calls reads.Pre reads.Post) → let a = c.args in

@@ -26,4 +26,4 @@ pub returns-then-first-second : goal.returns-then-first-second
 returns-then-first-second c = let it = not_read _ _ c.none-then-first-second.ensures in record { whole = it.0; none = it.1 }
 
 pub returns : goal.returns
-returns c = let f = fits c.head_of-head.result _ c.is_head.ensures c.if-not-is_head.false in record { whole = λ _. record { kind = f.0; size = f.1.0; count = f.1.1; given-long = omega (arith, c.read_bytes-first.auto.bytes); given-beyond = c.read_bytes-first.ensures.beyond; expected-beyond = c.read_bytes-second.ensures.beyond }; none = λ h. absurd (true≢false (sym c.head_of-head.ensures ∙ h)) }
+returns c = let f = fits c.head_of-head.result _ c.is_head.ensures c.if-not-is_head.false in record { whole = λ _. record { kind = f.0; size = f.1.0; count = f.1.1; given_long = omega (arith, c.read_bytes-first.auto.bytes); given_beyond = c.read_bytes-first.ensures.beyond; expected_beyond = c.read_bytes-second.ensures.beyond }; none = λ h. absurd (true≢false (sym c.head_of-head.ensures ∙ h)) }

@@ -43,4 +43,4 @@ query-requires c = readable _ _ _ _ c.requires.state
 pub returns : goal.returns
 returns c =     let e = c.number_at-kind.ensures.0 in
     let g = c.if-kind-eq4.false in
-    record { done = query_there c.args.run.now _ _ _ _ _ _ _ _ _ _ _ e c.if-kind-eq3.false g c.if-kind-eq5.false _ c.number_at-id.ensures.0 (c.query.ensures _ _ (record { nodes-are = refl; boxes-are = refl }) refl refl); words = words_kept c.args.run.now c.args.p _ e _ g }
+    record { done = query_there c.args.run.now _ _ _ _ _ _ _ _ _ _ _ e c.if-kind-eq3.false g c.if-kind-eq5.false _ c.number_at-id.ensures.0 (c.query.ensures _ _ (record { nodes_are = refl; boxes_are = refl }) refl refl); words = words_kept c.args.run.now c.args.p _ e _ g }

@@ -24,17 +24,17 @@ piece_end-end-requires c = c.loop-reply.invariant.0
 
 pub print_tree-requires : goal.print_tree-requires
 print_tree-requires c =     let l = c.loop-reply in
-    let R = l.invariant.3 _ _ _ _ _ c.requires.ready.standing in record { near = omega (arith, l.invariant.0, l.invariant.1, l.invariant.2, c.requires.within.1); stands = record { lent = _; points = _; marks = _; read = record { nodes-are = refl; cuts_are = refl; copies-are = refl }; state = some_state R } }
+    let R = l.invariant.3 _ _ _ _ _ c.requires.ready.standing in record { near = omega (arith, l.invariant.0, l.invariant.1, l.invariant.2, c.requires.within.1); stands = record { lent = _; points = _; marks = _; read = record { nodes_are = refl; cuts_are = refl; copies_are = refl }; state = some_state R } }
 
 pub shape_of-out-then-end-text : goal.shape_of-out-then-end-text
 shape_of-out-then-end-text c =     let l = c.loop-reply in
     let R = l.invariant.3 _ _ _ _ _ c.requires.ready.standing in
-    long (c.print_tree.ensures _ _ _ _ _ _ _ R.standing.state (record { nodes-are = refl; cuts_are = refl; copies-are = refl })) ∙ long R.wrote
+    long (c.print_tree.ensures _ _ _ _ _ _ _ R.standing.state (record { nodes_are = refl; cuts_are = refl; copies_are = refl })) ∙ long R.wrote
 
 pub returns-then-end-text : goal.returns-then-end-text
 returns-then-end-text c = let l = c.loop-reply in
     λ d k h W os S. let R = l.invariant.3 d k h W os S in
-    last R _ l.invariant.0 c.piece_end-end.ensures c.if-end-text.true (c.print_tree.ensures _ _ _ _ _ _ _ R.standing.state (record { nodes-are = refl; cuts_are = refl; copies-are = refl }))
+    last R _ l.invariant.0 c.piece_end-end.ensures c.if-end-text.true (c.print_tree.ensures _ _ _ _ _ _ _ R.standing.state (record { nodes_are = refl; cuts_are = refl; copies_are = refl }))
 
 pub call_row-current-requires : goal.call_row-current-requires
 call_row-current-requires c =     let l = c.loop-reply in

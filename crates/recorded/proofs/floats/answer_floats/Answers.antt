@@ -10,7 +10,7 @@ pub loop-i-init : goal.loop-i-init
 loop-i-init c = valued_none _ _ _
 
 pub loop-i-preserved : goal.loop-i-preserved
-loop-i-preserved c = valued_next c.loop-i.invariant c.loop-i-test.true _ _ _ (c.value_of_lem.ensures ∙ value_same _ _ _ _ _ c.u64_at-bits.ensures c.u16_at-capacity.ensures) c.put_double-p.ensures.wrote c.put_double-p.ensures.next
+loop-i-preserved c = valued_next c.loop-i.invariant c.loop-i-test.true _ _ _ (c.value_of.ensures ∙ value_same _ _ _ _ _ c.u64_at-bits.ensures c.u16_at-capacity.ensures) c.put_double-p.ensures.wrote c.put_double-p.ensures.next
 
 pub shape_of-out : goal.shape_of-out
 shape_of-out c = long c.loop-i.invariant.wrote

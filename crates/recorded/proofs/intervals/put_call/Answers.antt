@@ -7,7 +7,7 @@ use Rattle.recorded.proofs.intervals.put_call.Goals as goal
 
 pub returns : goal.returns
 returns c = record {
-  manager-is = refl;
+  manager_is = refl;
   wrote = then c.put_pair-p.ensures.wrote (rw c.top_of.ensures at c.put_pair.ensures.wrote);
   next = omega arith;
 }
