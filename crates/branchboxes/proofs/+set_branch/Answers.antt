@@ -1,0 +1,40 @@
+-- `set_branch` meets its contract. Assumes nothing.
+use native.Mathlib.Omega.{arith}
+use Rattle.boxstore.proofs.Parts.{sides_box}
+use Rattle.rowboxes.specs.Rows.{capacity_of, cached_of, box_of}
+use Rattle.branchboxes.proofs.Pairs.{two_sides, pair_sides, both_lie, hand_pair, first_far, side_deep, second_some, grown_pair}
+use Rattle.branchboxes.proofs.+set_branch.Goals as goal
+
+pub join-requires : goal.join-requires
+join-requires t c =
+    let W = two_sides _ _ _ _ _ _ _ _ c.side_of-left.ensures c.side_of-right.ensures _ _ c.requires.stands c.at_hand-given.ensures c.at_hand.ensures in
+    record { few = c.requires.few; hand = both_lie _ _ _ _ _ _ _ _ _ W c.if-given-at_hand.true; padded = c.requires.padded }
+
+pub returns-then-given-at_hand : goal.returns-then-given-at_hand
+returns-then-given-at_hand t c =
+    let W = two_sides _ _ _ _ _ _ _ _ c.side_of-left.ensures c.side_of-right.ensures _ _ c.requires.stands c.at_hand-given.ensures c.at_hand.ensures in
+    let J = c.join.ensures in
+    record { sides = pair_sides _ _ _ _ _ _ _ _ c.side_of-left.ensures c.side_of-right.ensures (box_of c.join.new.ends) (hand_pair _ _ _ _ _ _ _ _ _ W c.if-given-at_hand.true _ J.joined); padded = J.padded }
+
+pub set_branch-requires : goal.set_branch-requires
+set_branch-requires t c =
+    let A = c.args in
+    let W = two_sides _ _ _ _ _ _ _ _ c.side_of-left.ensures c.side_of-right.ensures _ _ c.requires.stands c.at_hand-given.ensures c.at_hand.ensures in
+    let F = first_far _ _ _ _ _ _ _ _ _ W c.requires.few.0 c.if-given-at_hand.false in
+    let m = side_deep A.nodes.now (capacity_of A.sizes.now) A.node c.at_hand-given.result _ _ c.side_of-left.ensures c.side_of-right.ensures in
+    rw c.either-first.ensures (omega (arith, F.less, m, c.decreases), (c.requires.few, (F.sides, c.requires.padded)))
+
+pub grow_ends-requires : goal.grow_ends-requires
+grow_ends-requires t c =
+    let W = two_sides _ _ _ _ _ _ _ _ c.side_of-left.ensures c.side_of-right.ensures _ _ c.requires.stands c.at_hand-given.ensures c.at_hand.ensures in
+    let P = c.requires.padded in
+    rw c.either-second.ensures (record { few = c.requires.few; stands = second_some _ _ _ _ _ _ _ _ _ W; padded = (P.0, P.1, c.set_branch.ensures.padded) })
+
+pub returns : goal.returns
+returns t c =
+    let A = c.args in
+    let W = two_sides _ _ _ _ _ _ _ _ c.side_of-left.ensures c.side_of-right.ensures _ _ c.requires.stands c.at_hand-given.ensures c.at_hand.ensures in
+    let F = first_far _ _ _ _ _ _ _ _ _ W c.requires.few.0 c.if-given-at_hand.false in
+    let E = rw c.either-first.ensures at c.set_branch.ensures.sides in
+    let G = rw c.either-second.ensures at c.grow_ends.ensures.grown in
+    record { sides = pair_sides _ _ _ _ _ _ _ _ c.side_of-left.ensures c.side_of-right.ensures (box_of c.grow_ends.new.ends) (grown_pair (capacity_of A.sizes.now) (cached_of A.sizes.now) A.nodes.now A.points.now A.boxes.now c.at_hand-given.result c.side_of-left.result c.side_of-right.result c.set_branch.new.ends c.grow_ends.new.ends (sides_box (capacity_of A.sizes.now) (cached_of A.sizes.now) _ A.nodes.now A.points.now A.boxes.now F.branch (box_of c.set_branch.new.ends) E) G); padded = c.grow_ends.ensures.padded }
