@@ -7,6 +7,7 @@ use lib.ListN.{get_or}
 use Rattle.drawing.specs.Choice.{ends_for}
 use borrow.Author.Rules.{rules}
 use Rattle.drawing.proofs.drawn_of.Goals as goal
+use Rattle.drawing.proofs.drawn_of.Goals.{then-partly, else-partly, then-partly-2, else-partly-2}
 
 pub offset_bounds-boxes-branch : goal.offset_bounds-boxes-branch
 offset_bounds-boxes-branch c = omega (arith, c.requires.slot c.if-partly.false)
@@ -20,14 +21,18 @@ offset_bounds-boxes-branch-else-partly-2 c = omega (arith, c.requires.slot c.if-
 pub bounds-boxes-branch-else-partly-2 : goal.bounds-boxes-branch-else-partly-2
 bounds-boxes-branch-else-partly-2 c = c.requires.slot c.if-partly-2.false
 
-low_is : (c : goal.Joined-partly) → c.if-partly.low.now ≡ get_or (ends_for c.args.partly c.args.branch c.args.ends.now c.args.boxes.now) 0 []
-low_is c = ⊎_elim (λ w. ap (λ r. r.now) w.2 ∙ rw w.0.taken) (λ w. ap (λ r. r.now) w.2 ∙ rw w.0.left) c.if-partly.branch
-
-high_is : (c : goal.Joined-partly-2) → c.if-partly-2.high.now ≡ get_or (ends_for c.args.partly c.args.branch c.args.ends.now c.args.boxes.now) 1 []
-high_is c = ⊎_elim (λ w. ap (λ r. r.now) w.2 ∙ rw w.0.taken) (λ w. ap (λ r. r.now) w.2 ∙ rw w.0.left) c.if-partly-2.branch
-
 pub whole_cut_and_separation-requires : goal.whole_cut_and_separation-requires
-whole_cut_and_separation-requires c = rw (low_is c.before, high_is c) c.requires.1
+whole_cut_and_separation-requires c =
+    let low : c.if-partly.low.now ≡ get_or (ends_for c.args.partly c.args.branch c.args.ends.now c.args.boxes.now) 0 []
+    = elim c.if-partly.branch [ then-partly w ↦ ap (λ r. r.now) w.low-is ∙ rw w.if-partly.true | else-partly w ↦ ap (λ r. r.now) w.low-is ∙ rw w.if-partly.false ] in
+    let high : c.if-partly-2.high.now ≡ get_or (ends_for c.args.partly c.args.branch c.args.ends.now c.args.boxes.now) 1 []
+    = elim c.if-partly-2.branch [ then-partly-2 w ↦ ap (λ r. r.now) w.high-is ∙ rw w.if-partly-2.true | else-partly-2 w ↦ ap (λ r. r.now) w.high-is ∙ rw w.if-partly-2.false ] in
+    rw (low, high) (record { readings = c.requires.readings; padded = c.requires.padded })
 
 pub returns : goal.returns
-returns c = rw (← low_is c.before, ← high_is c.before) c.whole_cut_and_separation.ensures
+returns c =
+    let low : c.if-partly.low.now ≡ get_or (ends_for c.args.partly c.args.branch c.args.ends.now c.args.boxes.now) 0 []
+    = elim c.if-partly.branch [ then-partly w ↦ ap (λ r. r.now) w.low-is ∙ rw w.if-partly.true | else-partly w ↦ ap (λ r. r.now) w.low-is ∙ rw w.if-partly.false ] in
+    let high : c.if-partly-2.high.now ≡ get_or (ends_for c.args.partly c.args.branch c.args.ends.now c.args.boxes.now) 1 []
+    = elim c.if-partly-2.branch [ then-partly-2 w ↦ ap (λ r. r.now) w.high-is ∙ rw w.if-partly-2.true | else-partly-2 w ↦ ap (λ r. r.now) w.high-is ∙ rw w.if-partly-2.false ] in
+    rw (← low, ← high) c.whole_cut_and_separation.ensures

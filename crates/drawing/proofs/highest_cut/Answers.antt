@@ -4,11 +4,13 @@ use mathlib.Core.Path.{refl, subst}
 use mathlib.Core.Logic.{⊎_elim, inl, inr}
 use Prim.Native.Nat.{◌-◌}
 use borrow.Author.Rules.{rules}
+use borrow.Author.Tests.{le-leb, lt-leb}
 use Rattle.rowboxes.specs.Rows.{capacity_of, cached_of, channels_of}
 use Rattle.branchboxes.proofs.Walks.{both_stand, under_box, branch_box}
 use Rattle.drawing.specs.Choice.{Numbered}
 use Rattle.drawing.proofs.Going.{Going, Ends, leaf_box, readings, padded_rows, is_numbered, going_starts, chosen_number, in_slots, next_ends, kept_end, kept_there, going_on}
 use Rattle.drawing.proofs.highest_cut.Goals as goal
+use Rattle.drawing.proofs.highest_cut.Goals.{then-partly, else-partly}
 
 pub bounds-words-0 : goal.bounds-words-0
 bounds-words-0 c = let D = c.requires.walked.drawing in omega (arith, D.count, D.enough)
@@ -60,7 +62,9 @@ drawn_of-drawn-requires c =
     let B : Ends (capacity_of c.args.sizes.now) (cached_of c.args.sizes.now) (channels_of c.args.sizes.now) c.args.nodes.now c.args.points.now c.args.boxes.now c.args.path.now c.args.len c.args.leaf c.args.words.now c.args.point.now c.loop-m.m c.node_of-branch.result c.if-partly.ends
     = (let q = c.requires in
     let D = q.walked.drawing in
-    next_ends _ _ _ _ _ _ _ _ _ _ _ _ _ _ c.loop-m.invariant c.loop-m-test.true _ c.node_of-branch.ensures q.walked q.few.0 q.padded.2 _ BRANCH) in
+    next_ends _ _ _ _ _ _ _ _ _ _ _ _ _ _ c.loop-m.invariant c.loop-m-test.true _ c.node_of-branch.ensures q.walked q.few.0 q.padded.2 _ (elim c.if-partly.branch [
+      then-partly w ↦ inl (le-leb _ _ w.if-partly.true, rw w.ends-is (branch_box _ _ D.boxed D.once D.count D.is_trail _ c.loop-m.invariant.some c.loop-m-test.true _ w.node_of-below.ensures _ w.sibling_at-sibling.ensures _ c.node_of-branch.ensures _ w.ends_above.ensures.pair), rw w.ends-is w.ends_above.ensures.padded)
+    | else-partly w ↦ inr (lt-leb _ _ w.if-partly.false, w.ends-is) ])) in
     let q = c.requires in
     let K = B.here in
     record { slot = λ _. in_slots _ _ _ _ _ _ _ _ _ _ _ _ _ _ c.loop-m.invariant c.loop-m-test.true _ c.node_of-branch.ensures q.walked q.few.0; readings = readings _ _ _ _ _ _ _ _ _ _ _ _ _ K q.walked; padded = padded_rows _ _ _ _ _ _ _ _ _ _ _ _ _ K q.few.2 q.padded.0 }
@@ -73,7 +77,9 @@ returns-in-NoCut c =
     let B : Ends (capacity_of c.args.sizes.now) (cached_of c.args.sizes.now) (channels_of c.args.sizes.now) c.args.nodes.now c.args.points.now c.args.boxes.now c.args.path.now c.args.len c.args.leaf c.args.words.now c.args.point.now c.loop-m.m c.node_of-branch.result c.if-partly.ends
     = (let q = c.requires in
     let D = q.walked.drawing in
-    next_ends _ _ _ _ _ _ _ _ _ _ _ _ _ _ c.loop-m.invariant c.loop-m-test.true _ c.node_of-branch.ensures q.walked q.few.0 q.padded.2 _ BRANCH) in
+    next_ends _ _ _ _ _ _ _ _ _ _ _ _ _ _ c.loop-m.invariant c.loop-m-test.true _ c.node_of-branch.ensures q.walked q.few.0 q.padded.2 _ (elim c.if-partly.branch [
+      then-partly w ↦ inl (le-leb _ _ w.if-partly.true, rw w.ends-is (branch_box _ _ D.boxed D.once D.count D.is_trail _ c.loop-m.invariant.some c.loop-m-test.true _ w.node_of-below.ensures _ w.sibling_at-sibling.ensures _ c.node_of-branch.ensures _ w.ends_above.ensures.pair), rw w.ends-is w.ends_above.ensures.padded)
+    | else-partly w ↦ inr (lt-leb _ _ w.if-partly.false, w.ends-is) ])) in
     rw c.highest_of.ensures (kept_there _ _ _ _ _ _ _ _ _ _ _ _ _ _ c.loop-m.invariant c.loop-m-test.true _ c.node_of-branch.ensures _ B (omega (arith, c.shared_slice_known-in-loop-m-1.given c.loop-m.m)) _ c.drawn_of-drawn.ensures c.in-NoCut.is)
 
 pub chosen_at-chosen-requires : goal.chosen_at-chosen-requires
@@ -81,7 +87,9 @@ chosen_at-chosen-requires c =
     let B : Ends (capacity_of c.args.sizes.now) (cached_of c.args.sizes.now) (channels_of c.args.sizes.now) c.args.nodes.now c.args.points.now c.args.boxes.now c.args.path.now c.args.len c.args.leaf c.args.words.now c.args.point.now c.loop-m.m c.node_of-branch.result c.if-partly.ends
     = (let q = c.requires in
     let D = q.walked.drawing in
-    next_ends _ _ _ _ _ _ _ _ _ _ _ _ _ _ c.loop-m.invariant c.loop-m-test.true _ c.node_of-branch.ensures q.walked q.few.0 q.padded.2 _ BRANCH) in
+    next_ends _ _ _ _ _ _ _ _ _ _ _ _ _ _ c.loop-m.invariant c.loop-m-test.true _ c.node_of-branch.ensures q.walked q.few.0 q.padded.2 _ (elim c.if-partly.branch [
+      then-partly w ↦ inl (le-leb _ _ w.if-partly.true, rw w.ends-is (branch_box _ _ D.boxed D.once D.count D.is_trail _ c.loop-m.invariant.some c.loop-m-test.true _ w.node_of-below.ensures _ w.sibling_at-sibling.ensures _ c.node_of-branch.ensures _ w.ends_above.ensures.pair), rw w.ends-is w.ends_above.ensures.padded)
+    | else-partly w ↦ inr (lt-leb _ _ w.if-partly.false, w.ends-is) ])) in
     subst Numbered c.in-Drawn.is (is_numbered _ _ _ _ _ _ _ _ _ _ _ _ _ B.here _ c.drawn_of-drawn.ensures c.requires.walked (omega (arith, c.shared_slice_known-in-loop-m-1.given c.loop-m.m)))
 
 pub overflow_add-m : goal.overflow_add-m
@@ -95,7 +103,9 @@ loop-m-preserved c =
     let B : Ends (capacity_of c.args.sizes.now) (cached_of c.args.sizes.now) (channels_of c.args.sizes.now) c.args.nodes.now c.args.points.now c.args.boxes.now c.args.path.now c.args.len c.args.leaf c.args.words.now c.args.point.now c.loop-m.m c.node_of-branch.result c.if-partly.ends
     = (let q = c.requires in
     let D = q.walked.drawing in
-    next_ends _ _ _ _ _ _ _ _ _ _ _ _ _ _ c.loop-m.invariant c.loop-m-test.true _ c.node_of-branch.ensures q.walked q.few.0 q.padded.2 _ BRANCH) in
+    next_ends _ _ _ _ _ _ _ _ _ _ _ _ _ _ c.loop-m.invariant c.loop-m-test.true _ c.node_of-branch.ensures q.walked q.few.0 q.padded.2 _ (elim c.if-partly.branch [
+      then-partly w ↦ inl (le-leb _ _ w.if-partly.true, rw w.ends-is (branch_box _ _ D.boxed D.once D.count D.is_trail _ c.loop-m.invariant.some c.loop-m-test.true _ w.node_of-below.ensures _ w.sibling_at-sibling.ensures _ c.node_of-branch.ensures _ w.ends_above.ensures.pair), rw w.ends-is w.ends_above.ensures.padded)
+    | else-partly w ↦ inr (lt-leb _ _ w.if-partly.false, w.ends-is) ])) in
     going_on _ _ _ _ _ _ _ _ _ _ _ _ _ _ c.loop-m.invariant c.loop-m-test.true _ c.node_of-branch.ensures _ B (omega (arith, c.shared_slice_known-in-loop-m-1.given c.loop-m.m)) _ c.drawn_of-drawn.ensures _ _ c.in-Drawn.is _ c.chosen_at-chosen.ensures
 
 pub highest_of-requires-2 : goal.highest_of-requires-2
