@@ -9,9 +9,8 @@ use Rattle.archivelines.proofs.put_report.Goals as goal
 pub loop-i-init : goal.loop-i-init
 loop-i-init c = row_start
 
-shared-slice-copy-out-put-report-row :
-    goal.Need-shared-slice-copy-out-put-report-row
-shared-slice-copy-out-put-report-row c = omega (arith, c.loop-i-test.true, c.at_most-n.ensures)
+pub bounds-rows-i : goal.bounds-rows-i
+bounds-rows-i c = omega (arith, c.loop-i-test.true, c.at_most-n.ensures)
 
 pub put_report_row-p-requires : goal.put_report_row-p-requires
 put_report_row-p-requires c = omega (arith, c.loop-i.invariant.few, c.loop-i.invariant.within, c.loop-i-test.true, c.at_most-n.ensures, c.requires)
