@@ -6,9 +6,10 @@ use mathlib.Core.List.{List}
 use Prim.Native.Nat.{ℕ, ◌≤◌, ◌<◌}
 use native.Mathlib.Omega.{arith}
 use lib.Dec.{eqb, leb, ltb}
-use lib.ListN.{length}
+use lib.ListN.{length, get_or}
 use lib.Ieee.{Float}
 use Rattle.limits.specs.Limits.{width, point_limit, total_limit}
+use Rattle.intervalstoremanager.specs.Stack.{next}
 use Rattle.cuttree.specs.Setting.{Cut, below}
 use Rattle.cuttree.specs.Tree.{Tree, leaf, branch, All, OfTree, parted, above, height, walk, found, leaves, insert, add_copy, forget}
 use Rattle.cuttree.specs.Run.{World, Call, put, add, delete, query, call, fresh, Answer, with_point, enter, leave, is_leaf, total_of, write}
@@ -59,7 +60,7 @@ module _ (d : ℕ) where
     enter_in : (o : Option (Tree (whole d))) → W.tree ≡ o → OfTree (whole d) (OnChannels d) o → (i : ℕ) (p : Reading) (ws : List ℕ) → W.table i ≡ some p → After (enter (whole d) c W o i p ws)
     enter_in none e h i p ws z = tt
     enter_in (some t) e h i p ws z = by_cond After (found (whole d) t p) _ _ (λ _. copy_in p t h)
-        (λ _. by_cond After (leb c (leaves (whole d) t)) _ _ (λ _. R.on_channels) (λ _. by_cond After (ltb (length ws) (walk (whole d) t p)) _ _ (λ _. R.on_channels) (λ _. insert_in l m _ i p _ (R.narrow i p z) t (narrow R e) h)))
+        (λ _. by_cond After (leb c (leaves (whole d) t)) _ _ (λ _. R.on_channels) (λ _. by_cond After (ltb (length ws) (walk (whole d) t p)) _ _ (λ _. R.on_channels) (λ _. insert_in l m (next W.free) i p (λ n. get_or ws n (whole d).no_word) (R.narrow i p z) t (narrow R e) h)))
 
     leave_in : (o : Option (Tree (whole d))) → OfTree (whole d) (OnChannels d) o → (p : Reading) → After (leave (whole d) W o p)
     leave_in none h p = R.on_channels
