@@ -5,22 +5,22 @@ use Rattle.treestore.proofs.Removes.{reached, some_reached, one_copy, dropped, a
 use Rattle.treestore.proofs.remove_copy.Goals as goal
 
 pub offset_bounds-copies-leaf : goal.offset_bounds-copies-leaf
-offset_bounds-copies-leaf c = omega (arith, index_low (reached c.requires.walking))
+offset_bounds-copies-leaf c = omega (arith, index_low (reached c.requires.held.walking))
 
 pub bounds-copies-leaf : goal.bounds-copies-leaf
-bounds-copies-leaf c = index_low (reached c.requires.walking)
+bounds-copies-leaf c = index_low (reached c.requires.held.walking)
 
 pub drop_copy-requires : goal.drop_copy-requires
-drop_copy-requires c = record { some_reached = some_reached c.requires.walking; bound = c.if-copies-leaf-gt1.true }
+drop_copy-requires c = record { some_reached = some_reached c.requires.held.walking; bound = c.if-copies-leaf-gt1.true }
 
 pub returns-then-copies-leaf-gt1 : goal.returns-then-copies-leaf-gt1
 returns-then-copies-leaf-gt1 c = λ t u p G held. dropped G _ _ c.if-copies-leaf-gt1.true (c.drop_copy.ensures _ _ _ _ _ (reached G))
 
 pub remove_root-requires : goal.remove_root-requires
-remove_root-requires c = record { index_lt_point_limit = index_low (reached c.requires.walking); index_value = one_copy c.requires.walking c.if-copies-leaf-gt1.false }
+remove_root-requires c = record { index_lt_point_limit = index_low (reached c.requires.held.walking); index_value = one_copy c.requires.held.walking c.if-copies-leaf-gt1.false }
 
 pub overflow_sub-result : goal.overflow_sub-result
-overflow_sub-result c = omega (arith, c.requires.walking.some_room)
+overflow_sub-result c = omega (arith, c.requires.held.walking.some_room)
 
 pub returns-then-n-lt2 : goal.returns-then-n-lt2
 returns-then-n-lt2 c = λ t u p G held. alone G _ c.if-copies-leaf-gt1.false c.if-n-lt2.true (c.remove_root.ensures.arrays _ _ _ _ _ _ _ (one_row G c.if-n-lt2.true))
