@@ -1,7 +1,6 @@
 // Document 01's limits, and the arrays that they give a tree and its readings table. The code has these numbers here and nowhere else.
 #![tactic(auto)]
 
-
 // Request A.7, 'up to 32 channels': a row of coordinates is so wide, whatever the tree's own number.
 pub const CHANNELS: usize = 32;
 

@@ -6,7 +6,7 @@ use borrow.Author.Rules.{rules}
 use Rattle.archivecalls.proofs.report_first.Goals as goal
 
 pub slice_bounds-traverse-end : goal.slice_bounds-traverse-end
-slice_bounds-traverse-end c =     sym (length-take-le c.args.n c.args.coordinates.now (omega arith))
+slice_bounds-traverse-end c = sym (length-take-le c.args.n c.args.coordinates.now (omega arith))
 
 pub returns : goal.returns
 returns c = record { long = omega (arith, c.traverse-arg2.given); told = c.traverse.ensures }

@@ -9,4 +9,4 @@ pub slice_bounds-test_arrival-end : goal.slice_bounds-test_arrival-end
 slice_bounds-test_arrival-end c = sym (length-take-le c.args.n c.args.words.now (omega arith))
 
 pub returns : goal.returns
-returns c =     rw (sym (length-take-le c.args.n c.args.words.now (omega (arith, c.requires, c.all-1.given)))) c.test_arrival.ensures
+returns c = rw (sym (length-take-le c.args.n c.args.words.now (omega (arith, c.requires, c.all-1.given)))) c.test_arrival.ensures

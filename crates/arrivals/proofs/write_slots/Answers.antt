@@ -16,10 +16,10 @@ loop-i-init c = search rules
 
 pub put_two-requires : goal.put_two-requires
 put_two-requires c = let l = c.loop-i in
-        omega (arith, c.requires.1, c.loop-i-test.true, same_answers c.args.weights.now c.args.held.now c.args.out l.i c.args.answers.now l.answers l.invariant.1)
+    omega (arith, c.requires.1, c.loop-i-test.true, same_answers c.args.weights.now c.args.held.now c.args.out l.i c.args.answers.now l.answers l.invariant.1)
 
 pub loop-i-preserved : goal.loop-i-preserved
-loop-i-preserved c =             let l = c.loop-i in
+loop-i-preserved c = let l = c.loop-i in
     let s = c.args in (
       omega (arith, c.loop-i-test.true),
       slot_turn s.weights.now s.held.now s.out l.i s.answers.now l.answers l.invariant.1 _ _ _ (c.wide32-bits.ensures.0 ∙ c.pattern_of.ensures) c.wide16.ensures.0 c.put_two.ensures,

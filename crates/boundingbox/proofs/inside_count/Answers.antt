@@ -13,7 +13,7 @@ pub overflow_add-eight : goal.overflow_add-eight
 overflow_add-eight c = omega arith
 
 pub returns-then-dimensions-le8 : goal.returns-then-dimensions-le8
-returns-then-dimensions-le8 c =     sum_eight _ _ _ c.inside_four.ensures.grows c.inside_four-2.ensures.grows ∙ padded_inside c.args.low.now c.args.high.now c.args.point.now _ width c.requires.padded.1 c.requires.padded.2 8 c.if-dimensions-le8.true (leb→le 8 width tt)
+returns-then-dimensions-le8 c = sum_eight _ _ _ c.inside_four.ensures.grows c.inside_four-2.ensures.grows ∙ padded_inside c.args.low.now c.args.high.now c.args.point.now _ width c.requires.padded.1 c.requires.padded.2 8 c.if-dimensions-le8.true (leb→le 8 width tt)
 
 pub overflow_add-sixteen : goal.overflow_add-sixteen
 overflow_add-sixteen c = omega arith
@@ -22,7 +22,7 @@ pub overflow_add-sixteen-2 : goal.overflow_add-sixteen-2
 overflow_add-sixteen-2 c = omega arith
 
 pub returns-then-dimensions-le16 : goal.returns-then-dimensions-le16
-returns-then-dimensions-le16 c =     sum_on _ 8 _ _ _ (sum_eight _ _ _ c.inside_four.ensures.grows c.inside_four-2.ensures.grows) c.inside_four-3.ensures.grows c.inside_four-4.ensures.grows ∙ padded_inside c.args.low.now c.args.high.now c.args.point.now _ width c.requires.padded.1 c.requires.padded.2 16 c.if-dimensions-le16.true (leb→le 16 width tt)
+returns-then-dimensions-le16 c = sum_on _ 8 _ _ _ (sum_eight _ _ _ c.inside_four.ensures.grows c.inside_four-2.ensures.grows) c.inside_four-3.ensures.grows c.inside_four-4.ensures.grows ∙ padded_inside c.args.low.now c.args.high.now c.args.point.now _ width c.requires.padded.1 c.requires.padded.2 16 c.if-dimensions-le16.true (leb→le 16 width tt)
 
 pub overflow_add-most : goal.overflow_add-most
 overflow_add-most c = omega arith
@@ -37,5 +37,5 @@ pub overflow_add-result-2 : goal.overflow_add-result-2
 overflow_add-result-2 c = omega arith
 
 pub returns : goal.returns
-returns c =     sum_on _ 24 _ _ _ (sum_on _ 16 _ _ _ (sum_on _ 8 _ _ _ (sum_eight _ _ _ c.inside_four.ensures.grows c.inside_four-2.ensures.grows) c.inside_four-3.ensures.grows c.inside_four-4.ensures.grows) c.inside_four-5.ensures.grows c.inside_four-6.ensures.grows) c.inside_four-7.ensures.grows c.inside_four-8.ensures.grows
+returns c = sum_on _ 24 _ _ _ (sum_on _ 16 _ _ _ (sum_on _ 8 _ _ _ (sum_eight _ _ _ c.inside_four.ensures.grows c.inside_four-2.ensures.grows) c.inside_four-3.ensures.grows c.inside_four-4.ensures.grows) c.inside_four-5.ensures.grows c.inside_four-6.ensures.grows) c.inside_four-7.ensures.grows c.inside_four-8.ensures.grows
     ∙ padded_inside c.args.low.now c.args.high.now c.args.point.now _ width c.requires.padded.1 c.requires.padded.2 width c.requires.padded.0 (le_refl width)

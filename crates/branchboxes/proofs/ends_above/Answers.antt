@@ -23,8 +23,8 @@ returns-clause-pair c =
     let A = c.args in
     let W = nodes_at (goal.at.returns-clause-pair c).After-at_hand in
     let E : BoxOf (capacity_of A.sizes.now) (cached_of A.sizes.now) (cond c.at_hand-given.result A.sibling A.below) A.nodes.now A.points.now A.boxes.now (box_of c.if-given.ends) =
-        elim c.if-given.branch [
-          then-given w ↦ rw w.ends-is (first_set _ _ _ _ _ _ _ _ _ W c.requires.few.0 c.if-given-at_hand.false w.if-given.true _ w.set_branch.ensures.sides)
-        | else-given w ↦ rw w.ends-is (first_given _ _ _ _ _ _ _ _ _ W w.if-given.false _ c.requires.given)
-        ] in
+    elim c.if-given.branch [
+      | then-given w ↦ rw w.ends-is (first_set _ _ _ _ _ _ _ _ _ W c.requires.few.0 c.if-given-at_hand.false w.if-given.true _ w.set_branch.ensures.sides)
+      | else-given w ↦ rw w.ends-is (first_given _ _ _ _ _ _ _ _ _ W w.if-given.false _ c.requires.given)
+    ] in
     grown_pair _ _ _ _ _ c.at_hand-given.result A.below A.sibling c.if-given.ends c.grow_ends.new.ends E (rw c.either-other.ensures at c.grow_ends.ensures.grown)

@@ -44,7 +44,7 @@ bounds-boxes-index-in-loop-at c = omega (arith, c.requires.hand.0)
 
 pub put_at-requires-in-loop-at : goal.put_at-requires-in-loop-at
 put_at-requires-in-loop-at c = let at = c.loop-at in
-        (room _ _ c.loop-at.invariant.0 c.loop-at-test.true c.requires.few.2, slot_second _ _ (λ (i : ℕ). channel [] i) (λ (i : ℕ). channel [] i) at.at c.args.index _ at.boxes [] [] _ [] c.requires.hand.0 at.invariant.1)
+    (room _ _ c.loop-at.invariant.0 c.loop-at-test.true c.requires.few.2, slot_second _ _ (λ (i : ℕ). channel [] i) (λ (i : ℕ). channel [] i) at.at c.args.index _ at.boxes [] [] _ [] c.requires.hand.0 at.invariant.1)
 
 pub overflow_add-at : goal.overflow_add-at
 overflow_add-at c = let r = room _ _ c.loop-at.invariant.0 c.loop-at-test.true c.requires.few.2 in omega arith
@@ -54,7 +54,7 @@ loop-at-smaller c = let r = room _ _ c.loop-at.invariant.0 c.loop-at-test.true c
 
 pub loop-at-preserved : goal.loop-at-preserved
 loop-at-preserved c = let at = c.loop-at in
-        let A = c.args in
+    let A = c.args in
     let F = at.invariant.1 in
     let n = capacity_of A.sizes.now in
     let la = c.low_of.ensures in
@@ -70,7 +70,7 @@ loop-at-preserved c = let at = c.loop-at in
 
 pub returns : goal.returns
 returns c = let at = c.loop-at in
-        let A = c.args in
+    let A = c.args in
     let n = capacity_of A.sizes.now in
     let k = cached_of A.sizes.now in
     let P = c.requires.padded in

@@ -63,8 +63,9 @@ drawn_of-drawn-requires c =
     = (let q = c.requires in
     let D = q.walked.drawing in
     next_ends _ _ _ _ _ _ _ _ _ _ _ _ _ _ c.loop-m.invariant c.loop-m-test.true _ c.node_of-branch.ensures q.walked q.few.0 q.padded.2 _ (elim c.if-partly.branch [
-      then-partly w ↦ inl (le-leb _ _ w.if-partly.true, rw w.ends-is (branch_box _ _ D.boxed D.once D.count D.is_trail _ c.loop-m.invariant.some c.loop-m-test.true _ w.node_of-below.ensures _ w.sibling_at-sibling.ensures _ c.node_of-branch.ensures _ w.ends_above.ensures.pair), rw w.ends-is w.ends_above.ensures.padded)
-    | else-partly w ↦ inr (lt-leb _ _ w.if-partly.false, w.ends-is) ])) in
+      | then-partly w ↦ inl (le-leb _ _ w.if-partly.true, rw w.ends-is (branch_box _ _ D.boxed D.once D.count D.is_trail _ c.loop-m.invariant.some c.loop-m-test.true _ w.node_of-below.ensures _ w.sibling_at-sibling.ensures _ c.node_of-branch.ensures _ w.ends_above.ensures.pair), rw w.ends-is w.ends_above.ensures.padded)
+      | else-partly w ↦ inr (lt-leb _ _ w.if-partly.false, w.ends-is)
+    ])) in
     let q = c.requires in
     let K = B.here in
     record { slot = λ _. in_slots _ _ _ _ _ _ _ _ _ _ _ _ _ _ c.loop-m.invariant c.loop-m-test.true _ c.node_of-branch.ensures q.walked q.few.0; readings = readings _ _ _ _ _ _ _ _ _ _ _ _ _ K q.walked; padded = padded_rows _ _ _ _ _ _ _ _ _ _ _ _ _ K q.few.2 q.padded.0 }
@@ -78,8 +79,9 @@ returns-in-NoCut c =
     = (let q = c.requires in
     let D = q.walked.drawing in
     next_ends _ _ _ _ _ _ _ _ _ _ _ _ _ _ c.loop-m.invariant c.loop-m-test.true _ c.node_of-branch.ensures q.walked q.few.0 q.padded.2 _ (elim c.if-partly.branch [
-      then-partly w ↦ inl (le-leb _ _ w.if-partly.true, rw w.ends-is (branch_box _ _ D.boxed D.once D.count D.is_trail _ c.loop-m.invariant.some c.loop-m-test.true _ w.node_of-below.ensures _ w.sibling_at-sibling.ensures _ c.node_of-branch.ensures _ w.ends_above.ensures.pair), rw w.ends-is w.ends_above.ensures.padded)
-    | else-partly w ↦ inr (lt-leb _ _ w.if-partly.false, w.ends-is) ])) in
+      | then-partly w ↦ inl (le-leb _ _ w.if-partly.true, rw w.ends-is (branch_box _ _ D.boxed D.once D.count D.is_trail _ c.loop-m.invariant.some c.loop-m-test.true _ w.node_of-below.ensures _ w.sibling_at-sibling.ensures _ c.node_of-branch.ensures _ w.ends_above.ensures.pair), rw w.ends-is w.ends_above.ensures.padded)
+      | else-partly w ↦ inr (lt-leb _ _ w.if-partly.false, w.ends-is)
+    ])) in
     rw c.highest_of.ensures (kept_there _ _ _ _ _ _ _ _ _ _ _ _ _ _ c.loop-m.invariant c.loop-m-test.true _ c.node_of-branch.ensures _ B (omega (arith, c.shared_slice_known-in-loop-m-1.given c.loop-m.m)) _ c.drawn_of-drawn.ensures c.in-NoCut.is)
 
 pub chosen_at-chosen-requires : goal.chosen_at-chosen-requires
@@ -88,8 +90,9 @@ chosen_at-chosen-requires c =
     = (let q = c.requires in
     let D = q.walked.drawing in
     next_ends _ _ _ _ _ _ _ _ _ _ _ _ _ _ c.loop-m.invariant c.loop-m-test.true _ c.node_of-branch.ensures q.walked q.few.0 q.padded.2 _ (elim c.if-partly.branch [
-      then-partly w ↦ inl (le-leb _ _ w.if-partly.true, rw w.ends-is (branch_box _ _ D.boxed D.once D.count D.is_trail _ c.loop-m.invariant.some c.loop-m-test.true _ w.node_of-below.ensures _ w.sibling_at-sibling.ensures _ c.node_of-branch.ensures _ w.ends_above.ensures.pair), rw w.ends-is w.ends_above.ensures.padded)
-    | else-partly w ↦ inr (lt-leb _ _ w.if-partly.false, w.ends-is) ])) in
+      | then-partly w ↦ inl (le-leb _ _ w.if-partly.true, rw w.ends-is (branch_box _ _ D.boxed D.once D.count D.is_trail _ c.loop-m.invariant.some c.loop-m-test.true _ w.node_of-below.ensures _ w.sibling_at-sibling.ensures _ c.node_of-branch.ensures _ w.ends_above.ensures.pair), rw w.ends-is w.ends_above.ensures.padded)
+      | else-partly w ↦ inr (lt-leb _ _ w.if-partly.false, w.ends-is)
+    ])) in
     subst Numbered c.in-Drawn.is (is_numbered _ _ _ _ _ _ _ _ _ _ _ _ _ B.here _ c.drawn_of-drawn.ensures c.requires.walked (omega (arith, c.shared_slice_known-in-loop-m-1.given c.loop-m.m)))
 
 pub overflow_add-m : goal.overflow_add-m
@@ -104,8 +107,9 @@ loop-m-preserved c =
     = (let q = c.requires in
     let D = q.walked.drawing in
     next_ends _ _ _ _ _ _ _ _ _ _ _ _ _ _ c.loop-m.invariant c.loop-m-test.true _ c.node_of-branch.ensures q.walked q.few.0 q.padded.2 _ (elim c.if-partly.branch [
-      then-partly w ↦ inl (le-leb _ _ w.if-partly.true, rw w.ends-is (branch_box _ _ D.boxed D.once D.count D.is_trail _ c.loop-m.invariant.some c.loop-m-test.true _ w.node_of-below.ensures _ w.sibling_at-sibling.ensures _ c.node_of-branch.ensures _ w.ends_above.ensures.pair), rw w.ends-is w.ends_above.ensures.padded)
-    | else-partly w ↦ inr (lt-leb _ _ w.if-partly.false, w.ends-is) ])) in
+      | then-partly w ↦ inl (le-leb _ _ w.if-partly.true, rw w.ends-is (branch_box _ _ D.boxed D.once D.count D.is_trail _ c.loop-m.invariant.some c.loop-m-test.true _ w.node_of-below.ensures _ w.sibling_at-sibling.ensures _ c.node_of-branch.ensures _ w.ends_above.ensures.pair), rw w.ends-is w.ends_above.ensures.padded)
+      | else-partly w ↦ inr (lt-leb _ _ w.if-partly.false, w.ends-is)
+    ])) in
     going_on _ _ _ _ _ _ _ _ _ _ _ _ _ _ c.loop-m.invariant c.loop-m-test.true _ c.node_of-branch.ensures _ B (omega (arith, c.shared_slice_known-in-loop-m-1.given c.loop-m.m)) _ c.drawn_of-drawn.ensures _ _ c.in-Drawn.is _ c.chosen_at-chosen.ensures
 
 pub highest_of-requires-2 : goal.highest_of-requires-2

@@ -12,7 +12,7 @@ loop-i-init c = record { digits = c.requires.0; long = refl; most = omega arith;
 
 pub byte_of-requires : goal.byte_of-requires
 byte_of-requires c = let i = c.loop-i.i in
-        (digit_small c.args.field.now (2 * i) c.requires.1 (omega arith), digit_small c.args.field.now (2 * i + 1) c.requires.1 (omega arith))
+    (digit_small c.args.field.now (2 * i) c.requires.1 (omega arith), digit_small c.args.field.now (2 * i + 1) c.requires.1 (omega arith))
 
 pub loop-i-preserved : goal.loop-i-preserved
 loop-i-preserved c = read_byte c.loop-i.invariant (omega arith) c.byte_of.ensures

@@ -7,16 +7,16 @@ use Rattle.hexbytes.proofs.Digits.{other_length, no_digits, all_read}
 use Rattle.hexbytes.proofs.read_hex.Goals as goal
 
 pub returns-then-field-bytes : goal.returns-then-field-bytes
-returns-then-field-bytes c =     other_length c.args.field.now c.args.bytes.now (λ e. c.if-field-bytes.true (omega arith))
+returns-then-field-bytes c = other_length c.args.field.now c.args.bytes.now (λ e. c.if-field-bytes.true (omega arith))
 
 pub returns-then-field-ne0 : goal.returns-then-field-ne0
-returns-then-field-ne0 c =     other_length c.args.field.now c.args.bytes.now (λ e. c.if-field-ne0.true (omega arith))
+returns-then-field-ne0 c = other_length c.args.field.now c.args.bytes.now (λ e. c.if-field-ne0.true (omega arith))
 
 pub returns-then-not-are_digits : goal.returns-then-not-are_digits
-returns-then-not-are_digits c =     no_digits c.args.field.now c.args.bytes.now (omega arith) c.are_digits.ensures c.if-not-are_digits.true
+returns-then-not-are_digits c = no_digits c.args.field.now c.args.bytes.now (omega arith) c.are_digits.ensures c.if-not-are_digits.true
 
 pub put_bytes-requires : goal.put_bytes-requires
-put_bytes-requires c =     (omega arith, sym c.are_digits.ensures ∙ c.if-not-are_digits.false)
+put_bytes-requires c = (omega arith, sym c.are_digits.ensures ∙ c.if-not-are_digits.false)
 
 pub returns : goal.returns
-returns c =     all_read c.args.field.now c.args.bytes.now (omega arith) c.are_digits.ensures c.if-not-are_digits.false _ c.put_bytes.ensures
+returns c = all_read c.args.field.now c.args.bytes.now (omega arith) c.are_digits.ensures c.if-not-are_digits.false _ c.put_bytes.ensures

@@ -23,5 +23,5 @@ four at x e e₁ e₂ e₃ e₄ a b c d =
     ∙ ap (λ (l : List ℕ). set l (suc (suc at)) (x / 65536 % 256)) (moved e₁ (at + 1) (suc at) (x / 256 % 256) (omega arith) b ∙ ap (λ (l : List ℕ). set l (suc at) (x / 256 % 256)) a))
 
 pub returns : goal.returns
-returns c =             let args = c.args in
+returns c = let args = c.args in
     four args.at args.x args.bytes.now _ _ _ _ c.put_byte.ensures c.put_byte-2.ensures c.put_byte-3.ensures c.put_byte-4.ensures

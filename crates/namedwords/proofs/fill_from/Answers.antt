@@ -7,7 +7,7 @@ use borrow.Author.Rules.{rules}
 use Rattle.namedwords.proofs.fill_from.Goals as goal
 
 pub overflow_add-first : goal.overflow_add-first
-overflow_add-first c =     omega (arith, stretch_end (first_in (pieces_from 32 c.args.row.now c.args.start)) c.requires.had, c.read_first-first.ensures)
+overflow_add-first c = omega (arith, stretch_end (first_in (pieces_from 32 c.args.row.now c.args.start)) c.requires.had, c.read_first-first.ensures)
 
 pub returns : goal.returns
 returns c = filled_is _ c.requires.named c.requires.had c.read_key-key.ensures c.read_first-first.ensures _ _ c.requires.within.0 c.requires.within.1 c.fill.ensures

@@ -11,6 +11,6 @@ manage_ancestors_delete-requires c = record { n_le_capacity_limit = c.requires.k
 
 pub returns : goal.returns
 unfolding of_bits
-returns c =     let a = c.args in
+returns c = let a = c.args in
     let e = c.wide16.ensures.0 in
     record { linked = edited lighter a.nodes.now a.path.now no_row a.k a.b a.s e c.put_cell.ensures.0 c.relink_at.ensures c.manage_ancestors_delete.ensures; cut_after = rw (← e) c.put_cell.ensures.1 }

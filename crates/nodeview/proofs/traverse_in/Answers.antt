@@ -9,22 +9,22 @@ returns-then-refusal-ne0 c = let f = c.check_point-refusal.ensures in
     record { told = (λ d e s W a marks H E. no_point H E _ _ f c.if-refusal-ne0.true _); memory = λ d e s W a marks H E. unwalked H E _ _ f c.if-refusal-ne0.true _ _ }
 
 pub returns-then-tree-eq0 : goal.returns-then-tree-eq0
-returns-then-tree-eq0 c =     let f = c.check_point-refusal.ensures in
+returns-then-tree-eq0 c = let f = c.check_point-refusal.ensures in
     record { told = (λ d e s W a marks H E. empty H E _ _ f c.if-refusal-ne0.false c.if-tree-eq0.true _); memory = λ d e s W a marks H E. empty_unwalked H E _ _ f c.if-refusal-ne0.false c.if-tree-eq0.true _ _ }
 
 pub walk_down-n-requires : goal.walk_down-n-requires
-walk_down-n-requires c =             let p = c.requires in
+walk_down-n-requires c = let p = c.requires in
     let it = some_walking p.state.state p.read _ _ c.check_point-refusal.ensures c.if-refusal-ne0.false (a_tree p.state.state c.if-tree-eq0.false).1 _ c.row_of-point.ensures in record { few = it.0; stands = it.1 }
 
 pub returns-then-rows-n : goal.returns-then-rows-n
-returns-then-rows-n c =                 let f = c.check_point-refusal.ensures in
+returns-then-rows-n c = let f = c.check_point-refusal.ensures in
     let w = c.walk_down-n.ensures in record { told = (λ d e s W a marks H E. too_few H E _ _ f c.if-refusal-ne0.false (a_tree H c.if-tree-eq0.false).1 _ c.row_of-point.ensures _ _ w.walked _ c.if-rows-n.true); memory = λ d e s W a marks H E. walk_left H E _ _ f c.if-refusal-ne0.false (a_tree H c.if-tree-eq0.false).1 _ c.row_of-point.ensures _ _ w.walked _ _ _ w.rest w.chances w.others }
 
 pub write_rows-requires : goal.write_rows-requires
-write_rows-requires c =     let w = c.walk_down-n.ensures in
-                let p = c.requires in
+write_rows-requires c = let w = c.walk_down-n.ensures in
+    let p = c.requires in
     record { walk = some_writing p.state.state p.read _ _ c.check_point-refusal.ensures c.if-refusal-ne0.false (a_tree p.state.state c.if-tree-eq0.false).1 _ c.row_of-point.ensures _ _ w.walked _ c.if-rows-n.false; chances = w.chances }
 
 pub returns : goal.returns
-returns c =     let w = c.walk_down-n.ensures in
-                let f = c.check_point-refusal.ensures in record { told = (λ d e s W a marks H E. told H E _ _ f c.if-refusal-ne0.false (a_tree H c.if-tree-eq0.false).1 _ c.row_of-point.ensures _ _ w.walked _ c.if-rows-n.false _ c.write_rows.ensures); memory = λ d e s W a marks H E. walk_left H E _ _ f c.if-refusal-ne0.false (a_tree H c.if-tree-eq0.false).1 _ c.row_of-point.ensures _ _ w.walked _ _ _ w.rest w.chances w.others }
+returns c = let w = c.walk_down-n.ensures in
+    let f = c.check_point-refusal.ensures in record { told = (λ d e s W a marks H E. told H E _ _ f c.if-refusal-ne0.false (a_tree H c.if-tree-eq0.false).1 _ c.row_of-point.ensures _ _ w.walked _ c.if-rows-n.false _ c.write_rows.ensures); memory = λ d e s W a marks H E. walk_left H E _ _ f c.if-refusal-ne0.false (a_tree H c.if-tree-eq0.false).1 _ c.row_of-point.ensures _ _ w.walked _ _ _ w.rest w.chances w.others }

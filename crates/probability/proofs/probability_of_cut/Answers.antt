@@ -18,11 +18,11 @@ returns-then-range_sum c = let t = rw c.summed_distance-sum.ensures at c.if-sum.
     rw (t, u)
 
 pub float_to_float-outside : goal.float_to_float-outside
-float_to_float-outside c =     let a = c.args in
+float_to_float-outside c = let a = c.args in
     rw c.summed_distance-sum.ensures (outside_casts a.bounding_box.min_values a.bounding_box.max_values a.point.now width)
 
 pub returns : goal.returns
 unfolding part_of probability of_bits
-returns c =     let t = rw c.summed_distance-sum.ensures at c.if-sum.false in
+returns c = let t = rw c.summed_distance-sum.ensures at c.if-sum.false in
     let u = rw c.get_range_sum-range_sum.ensures at c.if-range_sum.false in
     rw (c.summed_distance-sum.ensures, c.get_range_sum-range_sum.ensures, t, u)

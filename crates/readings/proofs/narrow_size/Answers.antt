@@ -30,7 +30,7 @@ pub float_from_bits-result : goal.float_from_bits-result
 float_from_bits-result c = let k = low_kept c in pattern_no_nan c.nearest_shift-low.result (omega arith)
 
 pub returns-then-field-lt897 : goal.returns-then-field-lt897
-returns-then-field-lt897 c =     ap (of_bits binary32) c.nearest_shift-low.ensures ∙ low_range c.args.bits c.requires c.if-field-lt872.false c.if-field-lt897.true
+returns-then-field-lt897 c = ap (of_bits binary32) c.nearest_shift-low.ensures ∙ low_range c.args.bits c.requires c.if-field-lt872.false c.if-field-lt897.true
 
 pub float_from_bits-result-then-field-gt1150 : goal.float_from_bits-result-then-field-gt1150
 float_from_bits-result-then-field-gt1150 c = pattern_no_nan 2139095040 (leb→le 2139095040 2139095040 tt)
@@ -48,4 +48,4 @@ pub float_from_bits-result-2 : goal.float_from_bits-result-2
 float_from_bits-result-2 c = let k = high_kept c in pattern_no_nan _ (omega arith)
 
 pub returns : goal.returns
-returns c =     ap (λ (k : ℕ). of_bits binary32 ((field c.args.bits - 897) * 8388608 + k)) c.nearest_shift-high.ensures ∙ high_range c.args.bits c.requires c.if-field-lt897.false c.if-field-gt1150.false
+returns c = ap (λ (k : ℕ). of_bits binary32 ((field c.args.bits - 897) * 8388608 + k)) c.nearest_shift-high.ensures ∙ high_range c.args.bits c.requires c.if-field-lt897.false c.if-field-gt1150.false

@@ -28,7 +28,7 @@ pub returns-then-not-is_making_names : goal.returns-then-not-is_making_names
 returns-then-not-is_making_names c = tt
 
 pub overflow_add-b : goal.overflow_add-b
-overflow_add-b c =     let w = within c.args.text.now c.requires.0 (headed c.find_head.ensures c.in-At.is) in
+overflow_add-b c = let w = within c.args.text.now c.requires.0 (headed c.find_head.ensures c.in-At.is) in
     omega (arith, w.first, w.second, w.third, c.requires.0, c.requires.2)
 
 pub slice_bounds-is_row_names-count : goal.slice_bounds-is_row_names-count
@@ -50,15 +50,15 @@ pub returns-then-not-is_row_names : goal.returns-then-not-is_row_names
 returns-then-not-is_row_names c = tt
 
 pub overflow_add-a : goal.overflow_add-a
-overflow_add-a c =     let w = within c.args.text.now c.requires.0 (headed c.find_head.ensures c.in-At.is) in
+overflow_add-a c = let w = within c.args.text.now c.requires.0 (headed c.find_head.ensures c.in-At.is) in
     omega (arith, w.first, w.second, w.third, c.requires.0, c.requires.2)
 
 pub overflow_add-c : goal.overflow_add-c
-overflow_add-c c =     let w = within c.args.text.now c.requires.0 (headed c.find_head.ensures c.in-At.is) in
+overflow_add-c c = let w = within c.args.text.now c.requires.0 (headed c.find_head.ensures c.in-At.is) in
     omega (arith, w.first, w.second, w.third, c.requires.0, c.requires.2)
 
 pub make_and_grow-requires : goal.make_and_grow-requires
-make_and_grow-requires c =     let w = within c.args.text.now c.requires.0 (headed c.find_head.ensures c.in-At.is) in
+make_and_grow-requires c = let w = within c.args.text.now c.requires.0 (headed c.find_head.ensures c.in-At.is) in
     (omega (arith, w.first, w.second, w.third, c.requires.0, c.requires.2), omega (arith, w.first, w.second, w.third, c.requires.0, c.requires.2), omega (arith, w.first, w.second, w.third, c.requires.0, c.requires.2), c.requires.0, c.requires.1, c.requires.2)
 
 pub returns-in-NotThere : goal.returns-in-NotThere

@@ -28,7 +28,7 @@ slice_bounds-carry_lines-end c = c.loop-turns.invariant.1
 
 pub carry_lines-batch-requires : goal.carry_lines-batch-requires
 carry_lines-batch-requires c = let l = c.loop-turns in
-        record { near = (simp (length-take, length-drop) (omega (arith, l.invariant.0, l.invariant.1, l.invariant.2, l.invariant.4, c.requires.near.3)), omega (arith, l.invariant.3, c.requires.near.4)); stands = some_sampled (l.invariant.5 _ _ _ c.requires.stands.state) }
+    record { near = (simp (length-take, length-drop) (omega (arith, l.invariant.0, l.invariant.1, l.invariant.2, l.invariant.4, c.requires.near.3)), omega (arith, l.invariant.3, c.requires.near.4)); stands = some_sampled (l.invariant.5 _ _ _ c.requires.stands.state) }
 
 pub slice_bounds-tell-end-in-loop-turns : goal.slice_bounds-tell-end-in-loop-turns
 slice_bounds-tell-end-in-loop-turns c = sym (length-take-le _ _ (omega (arith, c.carry_lines-batch.ensures.fits.2)))

@@ -56,8 +56,11 @@ pub returns-then-not-done : goal.returns-then-not-done
 returns-then-not-done c = let l = c.loop-out in
     let x = c.piece_end-stop.ensures in
     let y = c.carry_line-done in
-    rw c.so_far-then-not-done.ensures (record { carries = λ d s X S. let R = l.invariant.4 d s X S in
-          ends R _ l.invariant.0 x c.if-stop-text.false (omega (arith, c.if-out-end.false, l.invariant.3)) y.result _ _ _ _ _ _ _ (y.ensures.carries d s _ R.so_far.state) c.if-not-done.true; fits = (omega (arith, x.most, c.if-stop-text.false), omega (arith, l.invariant.1, x.from), omega (arith, y.ensures.fits, c.if-out-end.false, l.invariant.3)) })
+    rw c.so_far-then-not-done.ensures (record {
+      carries = λ d s X S. let R = l.invariant.4 d s X S in
+          ends R _ l.invariant.0 x c.if-stop-text.false (omega (arith, c.if-out-end.false, l.invariant.3)) y.result _ _ _ _ _ _ _ (y.ensures.carries d s _ R.so_far.state) c.if-not-done.true;
+      fits = (omega (arith, x.most, c.if-stop-text.false), omega (arith, l.invariant.1, x.from), omega (arith, y.ensures.fits, c.if-out-end.false, l.invariant.3));
+    })
 
 pub loop-out-smaller : goal.loop-out-smaller
 loop-out-smaller c = omega (arith, c.piece_end-stop.ensures.from, c.piece_end-stop.ensures.most, c.if-stop-text.false)

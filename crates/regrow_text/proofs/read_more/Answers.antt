@@ -9,7 +9,7 @@ use borrow.Author.Rules.{rules}
 use Rattle.regrow_text.proofs.read_more.Goals as goal
 
 pub returns : goal.returns
-returns c =     let k = length c.args.text.now - c.args.at in
+returns c = let k = length c.args.text.now - c.args.at in
     let ys = c.read-got.new.buf in
     let after = put_mid c.args.at k c.args.text.now ys in
     let l : length after ≡ length c.args.text.now = same_len_mid c.args.at k c.args.text.now ys c.read-got.auto.buf in

@@ -45,7 +45,7 @@ pub grow_branch-returns-clause-grown : goal.grow_branch-returns-clause-grown
 grow_branch-returns-clause-grown t c =
     let a = c.args in
     sides_grown (capacity_of a.sizes.now) (cached_of a.sizes.now) a.node a.nodes.now a.points.now a.boxes.now c.requires.branch _ _ _ _ _ _
-        (rw c.side_of-left.ensures at c.grow_ends.ensures.grown) (rw c.side_of-right.ensures at c.grow_ends-2.ensures.grown)
+    (rw c.side_of-left.ensures at c.grow_ends.ensures.grown) (rw c.side_of-right.ensures at c.grow_ends-2.ensures.grown)
 
 pub grow_ends-returns-then-at_hand-clause-grown : goal.grow_ends-returns-then-at_hand-clause-grown
 grow_ends-returns-then-at_hand-clause-grown t c =

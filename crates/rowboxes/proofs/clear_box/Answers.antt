@@ -52,7 +52,7 @@ loop-at-preserved c = let at = c.loop-at in
 pub returns : goal.returns
 returns c = let at = c.loop-at in
     let F = at.invariant.1 in
-        let A = c.args in
+    let A = c.args in
     let d = channels_of A.sizes.now in
     let m = small c.args.index (cached_of c.args.sizes.now) c.if-sizes-index.false c.requires.few.0 in
     let P = c.requires.padded.slots A.index m in

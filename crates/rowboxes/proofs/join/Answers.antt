@@ -62,7 +62,7 @@ loop-at-preserved c = let at = c.loop-at in
 
 pub returns : goal.returns
 returns c = let F = c.loop-at.invariant.1 in
-        let A = c.args in
+    let A = c.args in
     let n = capacity_of A.sizes.now in
     let k = cached_of A.sizes.now in
     let d = channels_of A.sizes.now in

@@ -39,7 +39,7 @@ loop-at-preserved c = let at = c.loop-at in
 pub returns : goal.returns
 returns c = let at = c.loop-at in
     let F = at.invariant.1 in
-        let A = c.args in
+    let A = c.args in
     let d = channels_of A.sizes.now in
     let P = c.requires.padded.0.slots A.index c.requires.few.0 in
     let Q = c.requires.padded.1 in

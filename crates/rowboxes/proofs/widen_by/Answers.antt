@@ -17,7 +17,7 @@ pub high_of-upper-requires : goal.high_of-upper-requires
 high_of-upper-requires c = in_arrays _ (cached_of c.args.sizes.now) _ c.requires.few.1 c.requires.hand
 
 pub widen-requires : goal.widen-requires
-widen-requires c =     let lo = c.low_of-lower in
+widen-requires c = let lo = c.low_of-lower in
     let hi = c.high_of-upper in
     let k : ℕ = cached_of c.args.sizes.now in
     let n : ℕ = capacity_of c.args.sizes.now in
@@ -28,7 +28,7 @@ widen-requires c =     let lo = c.low_of-lower in
     record { few = c.requires.few.2; padded = (P.2, L, H) }
 
 pub returns : goal.returns
-returns c =     let lo = c.low_of-lower in
+returns c = let lo = c.low_of-lower in
     let hi = c.high_of-upper in
     let k : ℕ = cached_of c.args.sizes.now in
     let n : ℕ = capacity_of c.args.sizes.now in

@@ -9,5 +9,5 @@ use Rattle.rowcalls.proofs.Fields.{first_fields}
 use Rattle.rowcalls.proofs.add_row.Goals as goal
 
 pub returns : goal.returns
-returns c =     let first = first_fields (λ p. number_or_zero (word_of p)) (pieces_from 32 c.args.row.now c.args.start) _ _ capacity_limit _ _ refl c.read_words-given.ensures.value c.at_most-n.ensures c.read_words-given.ensures.words_after in
+returns c = let first = first_fields (λ p. number_or_zero (word_of p)) (pieces_from 32 c.args.row.now c.args.start) _ _ capacity_limit _ _ refl c.read_words-given.ensures.value c.at_most-n.ensures c.read_words-given.ensures.words_after in
     c.add.ensures _ first

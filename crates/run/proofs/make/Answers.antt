@@ -20,12 +20,12 @@ pub is_sampled-requires : goal.is_sampled-requires
 is_sampled-requires c = omega (arith, making_five c.args.run.now c.requires)
 
 pub double_at-requires-then-is_sampled : goal.double_at-requires-then-is_sampled
-double_at-requires-then-is_sampled c =     omega (arith, making_fits c.args.run.now c.requires, sampled_width c.args.run.now (sym c.is_sampled.ensures ∙ c.if-is_sampled.true))
+double_at-requires-then-is_sampled c = omega (arith, making_fits c.args.run.now c.requires, sampled_width c.args.run.now (sym c.is_sampled.ensures ∙ c.if-is_sampled.true))
 
 pub returns-then-is_sampled : goal.returns-then-is_sampled
-returns-then-is_sampled c =     of_sampled c.args.run.now _ _ _ _ _ _ c.number_at-dimensions.ensures.0 c.number_at-capacity.ensures.0 (c.double_of-share.ensures ∙ ap (of_bits binary64) c.double_at.ensures) _ _ _ _ _
+returns-then-is_sampled c = of_sampled c.args.run.now _ _ _ _ _ _ c.number_at-dimensions.ensures.0 c.number_at-capacity.ensures.0 (c.double_of-share.ensures ∙ ap (of_bits binary64) c.double_at.ensures) _ _ _ _ _
     (c.double_of-initial.ensures ∙ ap (of_bits binary64) c.double_at-then-is_sampled.ensures) (sym c.is_sampled.ensures ∙ c.if-is_sampled.true) c.new.ensures
 
 pub returns : goal.returns
-returns c =     of_bare c.args.run.now _ _ _ _ _ _ c.number_at-dimensions.ensures.0 c.number_at-capacity.ensures.0 (c.double_of-share.ensures ∙ ap (of_bits binary64) c.double_at.ensures) _ _ _
+returns c = of_bare c.args.run.now _ _ _ _ _ _ c.number_at-dimensions.ensures.0 c.number_at-capacity.ensures.0 (c.double_of-share.ensures ∙ ap (of_bits binary64) c.double_at.ensures) _ _ _
     c.as_sampled.ensures (sym c.is_sampled.ensures ∙ c.if-is_sampled.false) c.new-2.ensures

@@ -18,37 +18,37 @@ below : (p n m : ℕ) → p < n → n ≡ m → p < m
 below p n m h e = omega arith
 
 pub making_width-p-requires : goal.making_width-p-requires
-making_width-p-requires c =     omega (arith, making_five c.args.run.now c.requires.making)
+making_width-p-requires c = omega (arith, making_five c.args.run.now c.requires.making)
 
 pub number_or_none-kind-requires : goal.number_or_none-kind-requires
-number_or_none-kind-requires c =     making_whole c.args.run.now c.requires.making
+number_or_none-kind-requires c = making_whole c.args.run.now c.requires.making
 
 pub loop-p-init : goal.loop-p-init
-loop-p-init c =     let e = c.making_width-p.ensures.0 in
+loop-p-init c = let e = c.making_width-p.ensures.0 in
     (omega (arith, e, making_fits c.args.run.now c.requires.making), refl, c.number_or_none-kind.ensures.0, λ final count R. subst (λ (q : ℕ). Running c.args.run.now q 1 c.args.tree (kept (lent c.args.nodes.now c.args.cuts.now c.args.copies.now c.args.free.now c.args.boxes.now) c.args.points.now c.args.written.now c.args.weights.now c.args.held.now) c.args.answers.now final count) (sym e) R)
 
 pub answer_width-width-requires : goal.answer_width-width-requires
 answer_width-width-requires c = (c.requires.making, below _ _ _ c.loop-p-test.true c.size_of-n.ensures)
 
 pub width_at-requires : goal.width_at-requires
-width_at-requires c =     (below _ _ _ c.loop-p-test.true c.size_of-n.ensures, making_whole c.args.run.now c.requires.making)
+width_at-requires c = (below _ _ _ c.loop-p-test.true c.size_of-n.ensures, making_whole c.args.run.now c.requires.making)
 
 pub overflow_add-next : goal.overflow_add-next
-overflow_add-next c =     let h = below _ _ _ c.loop-p-test.true c.size_of-n.ensures in
+overflow_add-next c = let h = below _ _ _ c.loop-p-test.true c.size_of-n.ensures in
     omega (arith, h, c.width_at.ensures.2, c.well_formed)
 
 pub number_or_none-ahead-requires : goal.number_or_none-ahead-requires
-number_or_none-ahead-requires c =     making_whole c.args.run.now c.requires.making
+number_or_none-ahead-requires c = making_whole c.args.run.now c.requires.making
 
 pub step-current-requires : goal.step-current-requires
-step-current-requires c =     let l = c.loop-p in
+step-current-requires c = let l = c.loop-p in
     let R = l.invariant.3 _ _ c.requires.ready.running in
     let h = below _ _ _ c.loop-p-test.true c.size_of-n.ensures in
     let w = c.answer_width-width in
     record { stands = (stands c.args.run.now _ _ _ (kept (lent l.nodes l.cuts l.copies l.free l.boxes) l.points l.written l.weights l.held) _ _ _ R h, l.invariant.2); state = some_standing c.args.run.now _ _ _ (kept (lent l.nodes l.cuts l.copies l.free l.boxes) l.points l.written l.weights l.held) _ _ _ R h; room = (w.ensures.0, fits c.args.run.now _ _ _ (kept (lent l.nodes l.cuts l.copies l.free l.boxes) l.points l.written l.weights l.held) _ _ _ R h _ w.ensures.0) }
 
 pub overflow_add-out : goal.overflow_add-out
-overflow_add-out c =     let l = c.loop-p in
+overflow_add-out c = let l = c.loop-p in
     let R = l.invariant.3 _ _ c.requires.ready.running in
     let h = below _ _ _ c.loop-p-test.true c.size_of-n.ensures in
     let w = c.answer_width-width in
@@ -59,7 +59,7 @@ loop-p-smaller c = let h = below _ _ _ c.loop-p-test.true c.size_of-n.ensures in
     omega (arith, h, c.width_at.ensures.1)
 
 pub loop-p-preserved : goal.loop-p-preserved
-loop-p-preserved c =     let l = c.loop-p in
+loop-p-preserved c = let l = c.loop-p in
     let R = l.invariant.3 _ _ c.requires.ready.running in
     let h = below _ _ _ c.loop-p-test.true c.size_of-n.ensures in
     let w = c.answer_width-width in
@@ -76,4 +76,4 @@ shape_of-answers c = c.loop-p.invariant.1
 
 pub returns : goal.returns
 returns c = let l = c.loop-p in
-        λ final count R. last c.args.run.now _ _ _ (kept (lent l.nodes l.cuts l.copies l.free l.boxes) l.points l.written l.weights l.held) _ _ _ (l.invariant.3 final count R) (omega (arith, l.invariant.0, c.loop-p-test.false, c.size_of-n.ensures))
+    λ final count R. last c.args.run.now _ _ _ (kept (lent l.nodes l.cuts l.copies l.free l.boxes) l.points l.written l.weights l.held) _ _ _ (l.invariant.3 final count R) (omega (arith, l.invariant.0, c.loop-p-test.false, c.size_of-n.ensures))

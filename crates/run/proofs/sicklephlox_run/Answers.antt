@@ -24,11 +24,11 @@ pub returns-in-OutOfLayout : goal.returns-in-OutOfLayout
 returns-in-OutOfLayout c = out_of_layout c.args.run.now c.args.answers.now (sym c.begins_with_making.ensures ∙ c.if-not-begins_with_making.false) (sym c.in-OutOfLayout.is ∙ c.check_calls-checked.ensures)
 
 pub returns-in-TooFew : goal.returns-in-TooFew
-returns-in-TooFew c =     let m = (sym c.begins_with_making.ensures ∙ c.if-not-begins_with_making.false) in
+returns-in-TooFew c = let m = (sym c.begins_with_making.ensures ∙ c.if-not-begins_with_making.false) in
     let q = too_few c.args.run.now c.args.answers.now m (sym c.in-TooFew.is ∙ c.check_calls-checked.ensures) in
     gives c.args.run.now c.args.answers.now m _ q _ (c.run_made.ensures q)
 
 pub returns-in-Enough : goal.returns-in-Enough
-returns-in-Enough c =     let m = (sym c.begins_with_making.ensures ∙ c.if-not-begins_with_making.false) in
+returns-in-Enough c = let m = (sym c.begins_with_making.ensures ∙ c.if-not-begins_with_making.false) in
     let q = enough c.args.run.now c.args.answers.now m (sym c.in-Enough.is ∙ c.check_calls-checked.ensures) in
     gives c.args.run.now c.args.answers.now m _ q _ (c.run_made-in-Enough.ensures q)

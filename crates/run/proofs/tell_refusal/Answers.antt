@@ -12,5 +12,5 @@ pub returns-then-answers-lt4 : goal.returns-then-answers-lt4
 returns-then-answers-lt4 c = given-short (c.args.refusal ∷ []) c.args.answers.now c.if-answers-lt4.true
 
 pub returns : goal.returns
-returns c =     let r = c.args.refusal in
+returns c = let r = c.args.refusal in
     given-whole (r ∷ []) c.args.answers.now _ 4 refl c.if-answers-lt4.false (c.put_u32.ensures ∙ ap (λ (x : ℕ). sets c.args.answers.now 0 (bytes32 x)) c.wide8.ensures.0)

@@ -38,18 +38,18 @@ pub leave-remaining-requires : goal.leave-remaining-requires
 leave-remaining-requires c = leaving c.args.tree _ _ _ _ _ _ _ _ (some_offered _ _ _ _ _ _ _ _ _ _ _ c.test_arrival-offer.ensures c.requires.state)
 
 pub find-found-requires : goal.find-found-requires
-find-found-requires c =     seeking c.args.tree _ _ _ _ _ _ _ _ (some_offered _ _ _ _ _ _ _ _ _ _ _ c.test_arrival-offer.ensures c.requires.state) _ _ _ _ c.leave-remaining.ensures.done
+find-found-requires c = seeking c.args.tree _ _ _ _ _ _ _ _ (some_offered _ _ _ _ _ _ _ _ _ _ _ c.test_arrival-offer.ensures c.requires.state) _ _ _ _ c.leave-remaining.ensures.done
 
 pub overflow_add-p-5 : goal.overflow_add-p-5
 overflow_add-p-5 c = omega (arith, arrival-inside c.args.run.now _ c.requires.there, c.well_formed.1.1.1.1.1.1.1.1.1.1.0)
 
 pub read_words-requires : goal.read_words-requires
-read_words-requires c =         let few = c.at_most-used.ensures in
+read_words-requires c = let few = c.at_most-used.ensures in
     let n = c.at_most-n.ensures in
     (omega (arith, few, n), omega (arith, few, n, arrival-inside c.args.run.now _ c.requires.there, c.number_at.ensures.0))
 
 pub enter-requires : goal.enter-requires
-enter-requires c =                 (omega (arith, c.at_most-n.ensures), entering c.args.tree _ _ _ _ _ _ _ _ (some_offered _ _ _ _ _ _ _ _ _ _ _ c.test_arrival-offer.ensures c.requires.state) _ _ _ _ c.leave-remaining.ensures.done _ _ _ c.find-found.ensures)
+enter-requires c = (omega (arith, c.at_most-n.ensures), entering c.args.tree _ _ _ _ _ _ _ _ (some_offered _ _ _ _ _ _ _ _ _ _ _ c.test_arrival-offer.ensures c.requires.state) _ _ _ _ c.leave-remaining.ensures.done _ _ _ c.find-found.ensures)
 
 pub returns : goal.returns
 returns c = let it = arrival-given c.args.run.now _ _ (lent c.args.nodes.now c.args.cuts.now c.args.copies.now c.args.free.now c.args.boxes.now) _ _ _ _ _ _ _ _ _ _ _ c.number_at-index.ensures.0 c.bits_at.ensures c.float_of-weight.ensures c.double_at-chance.ensures c.number_at.ensures.0 c.at_most-n.ensures c.test_arrival-offer.ensures _ _ _ _ c.leave-remaining.ensures.done c.args.path.now _ _ c.leave-remaining.ensures.path _ c.find-found.ensures _ c.at_most-used.ensures c.args.words.now _ (c.read_words.ensures.all, c.read_words.ensures.first) _ _ _ _ _ c.enter.ensures.done in record { done = it.0; words = it.1.0; path = it.1.1 }

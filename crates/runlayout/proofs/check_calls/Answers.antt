@@ -70,15 +70,15 @@ pub making_width-p-requires : goal.making_width-p-requires
 making_width-p-requires c = omega (arith, making_five c.args.run.now c.requires.0)
 
 pub loop-p-init : goal.loop-p-init
-loop-p-init c =     let e = c.making_width-p.ensures.0 in
+loop-p-init c = let e = c.making_width-p.ensures.0 in
     let r = c.args.run.now in
     (omega (arith, e, making_fits r c.requires.0), omega arith, ap (λ (p : ℕ). verdict (channels r) (capacity r) c.args.lent 1 (rest_from r (channels r) p)) e)
 
 pub stands_at-requires : goal.stands_at-requires
-stands_at-requires c =     (omega (arith, c.loop-p-test.true, c.size_of-n.ensures), making_whole c.args.run.now c.requires.0, c.is_sampled-sampled.ensures)
+stands_at-requires c = (omega (arith, c.loop-p-test.true, c.size_of-n.ensures), making_whole c.args.run.now c.requires.0, c.is_sampled-sampled.ensures)
 
 pub returns-then-not-stands_at : goal.returns-then-not-stands_at
-returns-then-not-stands_at c =     let l = c.loop-p in
+returns-then-not-stands_at c = let l = c.loop-p in
     let r = c.args.run.now in
     let o : l.p < size r = omega (arith, c.loop-p-test.true, c.size_of-n.ensures) in
     at_out (channels r) (capacity r) c.args.lent l.used (rest_from r (channels r) l.p) _
@@ -91,7 +91,7 @@ pub width_at-p-requires : goal.width_at-p-requires
 width_at-p-requires c = (omega (arith, c.loop-p-test.true, c.size_of-n.ensures), making_whole c.args.run.now c.requires.0)
 
 pub loop-p-preserved : goal.loop-p-preserved
-loop-p-preserved c =     let l = c.loop-p in
+loop-p-preserved c = let l = c.loop-p in
     let r = c.args.run.now in
     let t : stands_at r l.p ≡ true = sym c.stands_at.ensures ∙ c.if-not-stands_at.false in
     let o : l.p < size r = omega (arith, c.loop-p-test.true, c.size_of-n.ensures) in
@@ -102,13 +102,13 @@ loop-p-preserved c =     let l = c.loop-p in
     )
 
 pub returns-then-used-lent : goal.returns-then-used-lent
-returns-then-used-lent c =     let l = c.loop-p in
+returns-then-used-lent c = let l = c.loop-p in
     let r = c.args.run.now in
     let e : l.p ≡ size r = omega (arith, c.loop-p-test.false, c.size_of-n.ensures, l.invariant.0) in
     enough (channels r) (capacity r) c.args.lent l.used (rest_from r (channels r) l.p) _ (ended r l.p e) l.invariant.2 c.if-used-lent.true
 
 pub returns : goal.returns
-returns c =     let l = c.loop-p in
+returns c = let l = c.loop-p in
     let r = c.args.run.now in
     let e : l.p ≡ size r = omega (arith, c.loop-p-test.false, c.size_of-n.ensures, l.invariant.0) in
     too_few (channels r) (capacity r) c.args.lent l.used (rest_from r (channels r) l.p) _ (ended r l.p e) l.invariant.2 c.if-used-lent.false

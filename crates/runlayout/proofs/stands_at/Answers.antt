@@ -16,7 +16,7 @@ stands : (z : Bool) (k j p w w₁ s s₁ : ℕ) (y r : Bool) → y ≡ z → j �
 stands z k j p w w₁ s s₁ y r a e f t g h = let x : is_call z k ≡ true = ap (λ (x : Bool). is_call x k) (sym a) ∙ ap (is_call y) (sym e) ∙ sym f ∙ not-false r t in rw (x, g, h)
 
 pub returns-then-not-is_call : goal.returns-then-not-is_call
-returns-then-not-is_call c =     out (is_sampled c.args.run.now) (number c.args.run.now c.args.p) _ _ _ _ c.requires.2 c.number_at.ensures.0 c.is_call.ensures (ap not c.if-not-is_call.true)
+returns-then-not-is_call c = out (is_sampled c.args.run.now) (number c.args.run.now c.args.p) _ _ _ _ c.requires.2 c.number_at.ensures.0 c.is_call.ensures (ap not c.if-not-is_call.true)
 
 pub returns : goal.returns
-returns c =     stands (is_sampled c.args.run.now) (number c.args.run.now c.args.p) _ _ _ _ _ _ _ _ c.requires.2 c.number_at.ensures.0 c.is_call.ensures (ap not c.if-not-is_call.false) c.width_at.ensures.0 c.size_of.ensures
+returns c = stands (is_sampled c.args.run.now) (number c.args.run.now c.args.p) _ _ _ _ _ _ _ _ c.requires.2 c.number_at.ensures.0 c.is_call.ensures (ap not c.if-not-is_call.false) c.width_at.ensures.0 c.size_of.ensures

@@ -62,4 +62,4 @@ pub returns-then-kind-eq11 : goal.returns-then-kind-eq11
 returns-then-kind-eq11 c = (eleven c.args.d c.args.c c.args.kind c.args.second c.if-kind-eq11.true, omega arith)
 
 pub returns : goal.returns
-returns c =     (other c.args.d c.args.c c.args.kind c.args.second c.if-kind-eq3.false c.if-kind-eq4.false c.if-kind-eq6.false c.if-kind-eq7.false c.if-kind-eq9.false c.if-kind-eq10.false c.if-kind-eq11.false, omega arith)
+returns c = (other c.args.d c.args.c c.args.kind c.args.second c.if-kind-eq3.false c.if-kind-eq4.false c.if-kind-eq6.false c.if-kind-eq7.false c.if-kind-eq9.false c.if-kind-eq10.false c.if-kind-eq11.false, omega arith)

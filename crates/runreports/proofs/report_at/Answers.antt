@@ -14,10 +14,10 @@ pub report_first-answer-requires : goal.report_first-answer-requires
 report_first-answer-requires c = record { lent = (omega (arith, firsts_long _ _ _ _ c.read_coordinates.ensures), search rules); state = c.requires.state }
 
 pub write_report-requires : goal.write_report-requires
-write_report-requires c =                     (rows_limit _ _ _ _ _ _ (take c.at_most-k.result c.read_coordinates.new.coordinates) _ _ c.at_most.ensures _ _ _ c.report_first-answer.ensures.told c.requires.state, omega (arith, c.requires.room, c.number_at-n.ensures.0))
+write_report-requires c = (rows_limit _ _ _ _ _ _ (take c.at_most-k.result c.read_coordinates.new.coordinates) _ _ c.at_most.ensures _ _ _ c.report_first-answer.ensures.told c.requires.state, omega (arith, c.requires.room, c.number_at-n.ensures.0))
 
 pub returns : goal.returns
-returns c =                     let s = c.args in
+returns c = let s = c.args in
     let j = c.number_at.ensures.0 in
     let k = c.at_most-k.ensures in
     let xs = firsts_taken _ _ _ _ c.read_coordinates.ensures (omega arith) in

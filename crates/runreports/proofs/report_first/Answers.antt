@@ -14,5 +14,5 @@ pub slice_bounds-traverse_in-end-3 : goal.slice_bounds-traverse_in-end-3
 slice_bounds-traverse_in-end-3 c = sym (length-take-le c.args.n c.args.rows.now (omega arith))
 
 pub returns : goal.returns
-returns c =     let s = c.args in
+returns c = let s = c.args in
     record { told = first_told _ _ _ _ _ _ (take s.k s.coordinates.now) s.n s.rows.now _ _ _ (omega arith) refl c.traverse_in.ensures.told; memory = c.traverse_in.ensures.memory }

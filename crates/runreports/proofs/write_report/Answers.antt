@@ -4,5 +4,5 @@ use borrow.Author.Rules.{rules}
 use Rattle.runreports.proofs.write_report.Goals as goal
 
 pub returns : goal.returns
-returns c =             let s = c.args in
+returns c = let s = c.args in
     report_put s.answer s.rows.now s.n s.out s.answers.now _ _ _ _ _ c.count_of-count.ensures c.refusal_of.ensures c.put_u32.ensures c.put_u32-2.ensures c.write_rows.ensures

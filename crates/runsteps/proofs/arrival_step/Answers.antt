@@ -8,15 +8,15 @@ use borrow.Author.Rules.{rules}
 use Rattle.runsteps.proofs.arrival_step.Goals as goal
 
 pub arrival_at-next-requires : goal.arrival_at-next-requires
-arrival_at-next-requires c =     let q = c.requires.state in
+arrival_at-next-requires c = let q = c.requires.state in
     record { there = c.requires.arrival; state = record { channels = _; share = _; world = q.world; state = q.standing.sample_is (sampled c.args.run.now c.args.p c.requires.arrival.0 c.requires.arrival.1) } }
 
 pub write_reply-requires : goal.write_reply-requires
-write_reply-requires c =     let q = c.requires.state in
+write_reply-requires c = let q = c.requires.state in
     let r = room c.args.words.now c.args.reply.now [] c.args.answers.now in
     let d = c.arrival_at-next.ensures in
     (few c.args.run.now c.args.p c.requires.arrival.0 c.requires.arrival.1 c.args.out c.args.current (kept (lent c.args.nodes.now c.args.cuts.now c.args.copies.now c.args.free.now c.args.boxes.now) c.args.points.now c.args.written.now c.args.weights.now c.args.held.now) r _ _ _ _ _ _ [] d.done d.words q.world q.standing, c.requires.room)
 
 pub returns : goal.returns
-returns c =     let d = c.arrival_at-next.ensures in
+returns c = let d = c.arrival_at-next.ensures in
     record { done = λ rows X S. stepped c.args.run.now c.args.p c.requires.arrival.0 c.requires.arrival.1 c.args.out c.args.current (kept (lent c.args.nodes.now c.args.cuts.now c.args.copies.now c.args.free.now c.args.boxes.now) c.args.points.now c.args.written.now c.args.weights.now c.args.held.now) (room c.args.words.now c.args.reply.now rows c.args.answers.now) _ _ _ _ _ _ _ d.done d.words X S c.write_reply.ensures; path = d.path }

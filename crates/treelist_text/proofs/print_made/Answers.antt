@@ -8,23 +8,23 @@ pub piece_end-a-requires : goal.piece_end-a-requires
 piece_end-a-requires c = omega arith
 
 pub overflow_add-a : goal.overflow_add-a
-overflow_add-a c =     let t = c.args.text.now in
+overflow_add-a c = let t = c.args.text.now in
     omega (arith, after_first t c.requires _ c.piece_end-a.ensures, short t c.requires)
 
 pub piece_end-b-requires : goal.piece_end-b-requires
-piece_end-b-requires c =     let t = c.args.text.now in
+piece_end-b-requires c = let t = c.args.text.now in
     after_first t c.requires _ c.piece_end-a.ensures
 
 pub overflow_add-b : goal.overflow_add-b
-overflow_add-b c =     let t = c.args.text.now in
+overflow_add-b c = let t = c.args.text.now in
     omega (arith, after_second t c.requires _ c.piece_end-a.ensures _ c.piece_end-b.ensures, short t c.requires)
 
 pub piece_end-c-requires : goal.piece_end-c-requires
-piece_end-c-requires c =     let t = c.args.text.now in
+piece_end-c-requires c = let t = c.args.text.now in
     after_second t c.requires _ c.piece_end-a.ensures _ c.piece_end-b.ensures
 
 pub overflow_add-a-2 : goal.overflow_add-a-2
-overflow_add-a-2 c =     let t = c.args.text.now in
+overflow_add-a-2 c = let t = c.args.text.now in
     omega (arith, after_first t c.requires _ c.piece_end-a.ensures, short t c.requires)
 
 pub slice_bounds-read_making-count : goal.slice_bounds-read_making-count
@@ -40,18 +40,18 @@ pub share_of-requires : goal.share_of-requires
 share_of-requires c = few _ _ c.read_making.ensures _ _ _ c.in-Make.is
 
 pub overflow_add-c : goal.overflow_add-c
-overflow_add-c c =     let t = c.args.text.now in
+overflow_add-c c = let t = c.args.text.now in
     omega (arith, after_third t c.requires _ c.piece_end-a.ensures _ c.piece_end-b.ensures _ c.piece_end-c.ensures, short t c.requires)
 
 pub print_few-requires : goal.print_few-requires
-print_few-requires c =     let t = c.args.text.now in
+print_few-requires c = let t = c.args.text.now in
     record { within = (after_third t c.requires _ c.piece_end-a.ensures _ c.piece_end-b.ensures _ c.piece_end-c.ensures, short t c.requires); rows = record { ops = _; rest = rows_are t c.requires _ c.piece_end-a.ensures _ c.piece_end-b.ensures _ c.piece_end-c.ensures } }
 
 pub returns-in-NoMaking : goal.returns-in-NoMaking
-returns-in-NoMaking c =     let t = c.args.text.now in
+returns-in-NoMaking c = let t = c.args.text.now in
     absurd (no_making _ _ c.read_making.ensures _ (making_is t c.requires _ c.piece_end-a.ensures _ c.piece_end-b.ensures _ c.piece_end-c.ensures) c.in-NoMaking.is)
 
 pub returns-in-Make : goal.returns-in-Make
-returns-in-Make c =     let t = c.args.text.now in
+returns-in-Make c = let t = c.args.text.now in
     by_making _ _ c.read_making.ensures _ _ _ c.in-Make.is t c.requires (making_is t c.requires _ c.piece_end-a.ensures _ c.piece_end-b.ensures _ c.piece_end-c.ensures) _ _ _ c.wide64.ensures c.wide64-in-Make.ensures c.share_of.ensures
     (c.print_few.ensures c.requires.ops (rows_are t c.requires _ c.piece_end-a.ensures _ c.piece_end-b.ensures _ c.piece_end-c.ensures))

@@ -29,7 +29,7 @@ pub bounds-points-index-2 : goal.bounds-points-index-2
 bounds-points-index-2 c = c.requires.sought.index_small
 
 pub same_point-held-requires : goal.same_point-held-requires
-same_point-held-requires c =     let s = c.requires.sought in
+same_point-held-requires c = let s = c.requires.sought in
     record { narrow = s.channels_few; padded = (leaf_padded s _ _ c.set_path-n.ensures.walked _ c.leaf_at-leaf.ensures, index_padded s) }
 
 pub returns : goal.returns

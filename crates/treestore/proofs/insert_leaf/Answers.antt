@@ -29,10 +29,14 @@ pub overflow_sub-n : goal.overflow_sub-n
 overflow_sub-n c = top_low c.requires.entering _ c.wide16.ensures.0 _ c.highest_cut-highest.ensures
 
 pub grow_ancestors-requires : goal.grow_ancestors-requires
-grow_ancestors-requires c = let E = c.requires.entering in record { few = (above_few E _, cached_few E, E.walking.channels_few); stands = (
-      some_grafted E _ c.wide16.ensures.0 _ c.highest_cut-highest.ensures _ _ _ _ c.get-got.ensures.answer c.get-got.ensures.rows_after c.in-Index.is _ refl _ _ _ c.place_branch.ensures _ c.wide16-in-Index.ensures.0 _ c.keep_new_box.ensures.kept,
-      hold_before E _ c.wide16.ensures.0 _ c.highest_cut-highest.ensures _ _ _ _ c.get-got.ensures.answer c.get-got.ensures.rows_after c.in-Index.is _ refl _ _ _ c.place_branch.ensures _ c.wide16-in-Index.ensures.0 _ c.keep_new_box.ensures.kept,
-    ); padded = (E.walking.row_padded, c.keep_new_box.ensures.padded) }
+grow_ancestors-requires c = let E = c.requires.entering in record {
+  few = (above_few E _, cached_few E, E.walking.channels_few);
+  stands = (
+    some_grafted E _ c.wide16.ensures.0 _ c.highest_cut-highest.ensures _ _ _ _ c.get-got.ensures.answer c.get-got.ensures.rows_after c.in-Index.is _ refl _ _ _ c.place_branch.ensures _ c.wide16-in-Index.ensures.0 _ c.keep_new_box.ensures.kept,
+    hold_before E _ c.wide16.ensures.0 _ c.highest_cut-highest.ensures _ _ _ _ c.get-got.ensures.answer c.get-got.ensures.rows_after c.in-Index.is _ refl _ _ _ c.place_branch.ensures _ c.wide16-in-Index.ensures.0 _ c.keep_new_box.ensures.kept,
+  );
+  padded = (E.walking.row_padded, c.keep_new_box.ensures.padded);
+}
 
 pub returns-in-Index : goal.returns-in-Index
 returns-in-Index c = λ t u p E. (

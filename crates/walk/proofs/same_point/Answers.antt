@@ -37,5 +37,5 @@ returns-else-a-i c = let a = c.args in
     sym (every_fails (λ (j : ℕ). eq (channel a.a.now j) (channel a.b.now j)) width c.loop-i.i (omega arith) c.if-a-i.false)
 
 pub returns : goal.returns
-returns c =     let e : c.loop-i.i ≡ c.args.dimensions = omega arith in
+returns c = let e : c.loop-i.i ≡ c.args.dimensions = omega arith in
     sym (same_padded _ _ _ c.requires.narrow c.requires.padded.0 c.requires.padded.1 ∙ rw e at c.loop-i.invariant.1)

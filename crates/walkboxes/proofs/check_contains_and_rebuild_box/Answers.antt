@@ -16,11 +16,14 @@ holds-requires c = let p = c.requires in
     record { few = (small _ _ c.if-sizes-index.false p.few.1, p.few.2); padded = (p.padded.0, p.padded.2) }
 
 pub returns-then-holds : goal.returns-then-holds
-returns-then-holds c = record { rebuilt = record {
+returns-then-holds c = record {
+  rebuilt = record {
     answer = rw (lt-ltb _ _ c.if-sizes-index.false) (sym c.if-holds.true ∙ c.holds.ensures);
     kept = λ _. refl;
     moved = λ x. absurd (true≢false x);
-  }; padded = c.requires.padded.2 }
+  };
+  padded = c.requires.padded.2;
+}
 
 pub rebuild_box-requires : goal.rebuild_box-requires
 rebuild_box-requires c = let p = c.requires in
@@ -28,8 +31,11 @@ rebuild_box-requires c = let p = c.requires in
     record { few = p.few; stands = (h, p.stands h); padded = (p.padded.1, p.padded.2) }
 
 pub returns : goal.returns
-returns c = let E = c.rebuild_box.ensures in record { rebuilt = record {
-        answer = rw (lt-ltb _ _ c.if-sizes-index.false) (sym c.if-holds.false ∙ c.holds.ensures);
-        kept = λ x. absurd (false≢true x);
-        moved = λ _. E.kept;
-      }; padded = E.padded }
+returns c = let E = c.rebuild_box.ensures in record {
+  rebuilt = record {
+    answer = rw (lt-ltb _ _ c.if-sizes-index.false) (sym c.if-holds.false ∙ c.holds.ensures);
+    kept = λ x. absurd (false≢true x);
+    moved = λ _. E.kept;
+  };
+  padded = E.padded;
+}

@@ -11,10 +11,10 @@ use borrow.Author.Rules.{rules}
 use Rattle.wordsource.proofs.key_of.Goals as goal
 
 pub loop-i-preserved : goal.loop-i-preserved
-loop-i-preserved c =     let key = c.args.key.now in
+loop-i-preserved c = let key = c.args.key.now in
     (omega arith, rw (c.loop-i.invariant.1, add-one) (ap (λ (n : ℕ). set (paste (replicate 32 0) 0 key c.loop-i.i) n (get_or key c.loop-i.i 0)) (sym (zero-add c.loop-i.i)) ∙ paste-suc (replicate 32 0) 0 key c.loop-i.i 0 (omega arith) (omega arith)))
 
 pub returns : goal.returns
-returns c =     let key = c.args.key.now in
+returns c = let key = c.args.key.now in
     let e : c.loop-i.i ≡ 32 = omega arith in
     c.loop-i.invariant.1 ∙ ap (paste (replicate 32 0) 0 key) e ∙ append-nil (take 32 key) ∙ take_all 32 key (omega arith)

@@ -19,7 +19,7 @@ loop-i-init c = (omega arith, refl, refl)
 
 pub loop-i-preserved : goal.loop-i-preserved
 loop-i-preserved c = let p = c.put_words-i in
-            let key = c.args.key.now in
+    let key = c.args.key.now in
     let n = c.args.start + c.loop-i.i in
     let block : c.block_of.new.block ≡ block_at key (n / 8)
     = c.block_of.ensures ∙ ap block_of (c.at_block.ensures ∙ ap (λ (x : List ℕ). set x 12 (n / 8)) c.state_of-first.ensures) in
@@ -28,5 +28,5 @@ loop-i-preserved c = let p = c.put_words-i in
     (omega (arith, p.ensures.count), p.auto.words ∙ c.loop-i.invariant.1, block_more key c.args.start c.loop-i.i p.result c.loop-i.words p.new.words (omega (arith, p.ensures.count)) (omega (arith, p.ensures.count)) c.loop-i.invariant.2 words)
 
 pub returns : goal.returns
-returns c =         let e : c.loop-i.i ≡ length c.args.words.now = omega arith in
+returns c = let e : c.loop-i.i ≡ length c.args.words.now = omega arith in
     sym (take_all c.loop-i.i c.loop-i.words (omega arith)) ∙ c.loop-i.invariant.2 ∙ ap (stream_words c.args.key.now c.args.start) e

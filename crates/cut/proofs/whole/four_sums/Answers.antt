@@ -7,7 +7,7 @@ pub overflow_add-b : goal.overflow_add-b
 overflow_add-b c = omega arith
 
 pub returns-then-dimensions-le8 : goal.returns-then-dimensions-le8
-returns-then-dimensions-le8 c =     let a = first_four _ _ c.sum_four-a.ensures.grows in
+returns-then-dimensions-le8 c = let a = first_four _ _ c.sum_four-a.ensures.grows in
     let b = four_more _ 4 _ _ a c.sum_four.ensures.grows in
     fours_two _ _ _ a b (sums_stay _ _ c.requires.padded 8 c.if-dimensions-le8.true)
 
@@ -18,7 +18,7 @@ pub overflow_add-d : goal.overflow_add-d
 overflow_add-d c = omega arith
 
 pub returns-then-dimensions-le16 : goal.returns-then-dimensions-le16
-returns-then-dimensions-le16 c =     let a = first_four _ _ c.sum_four-a.ensures.grows in
+returns-then-dimensions-le16 c = let a = first_four _ _ c.sum_four-a.ensures.grows in
     let b = four_more _ 4 _ _ a c.sum_four.ensures.grows in
     let c₁ = four_more _ 8 _ _ b c.sum_four-2.ensures.grows in
     let d = four_more _ 12 _ _ c₁ c.sum_four-3.ensures.grows in

@@ -9,7 +9,7 @@ pub overflow_add-eight : goal.overflow_add-eight
 overflow_add-eight c = omega arith
 
 pub returns-then-dimensions-le8 : goal.returns-then-dimensions-le8
-returns-then-dimensions-le8 c =     sum_eight _ _ _ c.sides_four.ensures.grows c.sides_four-2.ensures.grows ∙ sym (padded_sides c.args.low.now c.args.high.now _ width c.requires.padded.0 c.requires.padded.1 8 c.if-dimensions-le8.true (leb→le 8 width tt))
+returns-then-dimensions-le8 c = sum_eight _ _ _ c.sides_four.ensures.grows c.sides_four-2.ensures.grows ∙ sym (padded_sides c.args.low.now c.args.high.now _ width c.requires.padded.0 c.requires.padded.1 8 c.if-dimensions-le8.true (leb→le 8 width tt))
 
 pub overflow_add-sixteen : goal.overflow_add-sixteen
 overflow_add-sixteen c = omega arith
@@ -18,7 +18,7 @@ pub overflow_add-sixteen-2 : goal.overflow_add-sixteen-2
 overflow_add-sixteen-2 c = omega arith
 
 pub returns-then-dimensions-le16 : goal.returns-then-dimensions-le16
-returns-then-dimensions-le16 c =     sum_on _ 8 _ _ _ (sum_eight _ _ _ c.sides_four.ensures.grows c.sides_four-2.ensures.grows) c.sides_four-3.ensures.grows c.sides_four-4.ensures.grows ∙ sym (padded_sides c.args.low.now c.args.high.now _ width c.requires.padded.0 c.requires.padded.1 16 c.if-dimensions-le16.true (leb→le 16 width tt))
+returns-then-dimensions-le16 c = sum_on _ 8 _ _ _ (sum_eight _ _ _ c.sides_four.ensures.grows c.sides_four-2.ensures.grows) c.sides_four-3.ensures.grows c.sides_four-4.ensures.grows ∙ sym (padded_sides c.args.low.now c.args.high.now _ width c.requires.padded.0 c.requires.padded.1 16 c.if-dimensions-le16.true (leb→le 16 width tt))
 
 pub overflow_add-most : goal.overflow_add-most
 overflow_add-most c = omega arith

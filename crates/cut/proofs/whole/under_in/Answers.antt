@@ -8,7 +8,7 @@ pub loop-i-init : goal.loop-i-init
 loop-i-init c = (search rules, passed_none _ _ _ _ c.requires.start.1)
 
 pub overflow_add-sum-in-loop-i : goal.overflow_add-sum-in-loop-i
-overflow_add-sum-in-loop-i c =     let at = c.loop-i in
+overflow_add-sum-in-loop-i c = let at = c.loop-i in
     omega (arith, next_fits _ _ _ at.i _ _ _ at.invariant.1 _ refl (small_sum c.args.sides.now c.requires.small (c.args.at + (at.i + 1)) (omega (arith, c.loop-i-test.true, c.requires.start.0))))
 
 pub overflow_add-count : goal.overflow_add-count

@@ -13,5 +13,8 @@ use Rattle.sampler.proofs.Sampler.evict_max.Goals as goal
 
 pub returns : goal.returns
 unfolding of_bits
-returns c = record { answer = refl; slots = λ ks ws ps at.
-      c.swap_down.ensures (refilled beyond ks) (nought ∷ ws) (0 ∷ ps) (slots_refilled at (c.args.self.current_size - 1) (omega arith)) }
+returns c = record {
+  answer = refl;
+  slots = λ ks ws ps at.
+      c.swap_down.ensures (refilled beyond ks) (nought ∷ ws) (0 ∷ ps) (slots_refilled at (c.args.self.current_size - 1) (omega arith));
+}

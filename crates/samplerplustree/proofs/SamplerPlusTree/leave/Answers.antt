@@ -6,7 +6,7 @@ use borrow.Author.Rules.{rules}
 use Rattle.samplerplustree.proofs.SamplerPlusTree.leave.Goals as goal
 
 pub returns-then-not-is_evicting : goal.returns-then-not-is_evicting
-returns-then-not-is_evicting c =     let e = sym c.is_evicting.ensures ∙ c.if-not-is_evicting.true in
+returns-then-not-is_evicting c = let e = sym c.is_evicting.ensures ∙ c.if-not-is_evicting.true in
     record { done = none_leaves c.args.self _ _ _ _ _ e; path = path_stays c.args.self _ _ _ _ c.args.offer e _ }
 
 pub evict_max-evicted-requires : goal.evict_max-evicted-requires
@@ -16,7 +16,7 @@ pub delete_leaf-left-requires : goal.delete_leaf-left-requires
 delete_leaf-left-requires c = evict_copy c.args.self _ _ c.args.weights.now c.args.held.now _ c.evict_max-evicted.ensures.answer _ c.wide16-gone.ensures.0 _ (sym c.is_evicting.ensures ∙ c.if-not-is_evicting.false) c.requires
 
 pub returns : goal.returns
-returns c =     let v = c.evict_max-evicted.ensures in
-        let e = sym c.is_evicting.ensures ∙ c.if-not-is_evicting.false in
+returns c = let v = c.evict_max-evicted.ensures in
+    let e = sym c.is_evicting.ensures ∙ c.if-not-is_evicting.false in
     let left = c.delete_leaf-left.ensures in
     record { done = evict_done c.args.self _ _ c.args.weights.now c.args.held.now _ v.answer _ c.wide16-gone.ensures.0 _ e c.requires _ _ _ _ v.slots left.done; path = evict_path c.args.self _ _ c.args.weights.now c.args.held.now _ v.answer _ c.wide16-gone.ensures.0 c.args.offer e _ _ left.path }
