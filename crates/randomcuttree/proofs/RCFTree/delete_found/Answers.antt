@@ -9,7 +9,7 @@ pub returns-then-total-eq0 : goal.returns-then-total-eq0
 returns-then-total-eq0 c = λ d e s W marks p H P. empty H _ P c.if-total-eq0.true
 
 pub returns-then-not-found : goal.returns-then-not-found
-returns-then-not-found c = λ d e s W marks p H P. not_held_lem H _ P c.if-total-eq0.false (c.requires.seen.walked c.if-total-eq0.false) c.if-not-found.true
+returns-then-not-found c = λ d e s W marks p H P. not_held_lem H _ P c.if-total-eq0.false (c.requires.seen.walked c.if-total-eq0.false) (not-true _ c.if-not-found.true)
 
 pub offset_bounds-points-index : goal.offset_bounds-points-index
 offset_bounds-points-index c = let q = c.requires in omega (arith, q.state.reachable.sound.inside _ _ q.is_written)
@@ -18,7 +18,7 @@ pub bounds-points-index : goal.bounds-points-index
 bounds-points-index c = let q = c.requires in omega (arith, q.state.reachable.sound.inside _ _ q.is_written)
 
 pub remove_copy-edited-requires : goal.remove_copy-edited-requires
-remove_copy-edited-requires c = let q = c.requires in record { held = held q.state _ q.is_written c.if-total-eq0.false (q.seen.walked c.if-total-eq0.false) c.if-not-found.false }
+remove_copy-edited-requires c = let q = c.requires in record { held = held q.state _ q.is_written c.if-total-eq0.false (q.seen.walked c.if-total-eq0.false) (not-false _ c.if-not-found.false) }
 
 pub returns : goal.returns
-returns c = λ d e s W marks p H P. one_less H _ P c.if-total-eq0.false (c.requires.seen.walked c.if-total-eq0.false) c.if-not-found.false _ _ c.remove_copy-edited.ensures _ c.headed_by-tree.ensures
+returns c = λ d e s W marks p H P. one_less H _ P c.if-total-eq0.false (c.requires.seen.walked c.if-total-eq0.false) (not-false _ c.if-not-found.false) _ _ c.remove_copy-edited.ensures _ c.headed_by-tree.ensures
