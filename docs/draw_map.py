@@ -20,6 +20,8 @@ def read(lines):
             layers.append((line[2:].strip().rstrip("."), []))
         elif ":" in line:
             name, rest = line.split(":", 1)
+            # a static library has that word behind its name
+            name = name.split()[0]
             used, _, unused = rest.partition("# beside:")
             layers[-1][1].append(name)
             needs[name] = [other for other in used.split() if other not in unused.split()]

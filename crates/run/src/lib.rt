@@ -1,4 +1,5 @@
 // The C entry: a byte run, a making and the calls after it, carried out whole (docs/LAYOUT.md). No state outlives it. Beside it, in `words`, that of the source of words.
+// Crate `run_c` exports both to C.
 #![tactic(auto)]
 
 pub mod words;
@@ -224,8 +225,7 @@ fn run_made(run: &[u8], answers: &mut [u8], enough: bool, written: &mut Marks) -
 // Carries out a whole run, and writes its answers to the lent bytes; or refuses it, and writes nothing.
 // The table's marks are made before anything is tested, so that the compiled function has its frame from the start (docs/DECISIONS.md, 69).
 // Rules out a run taken that ends inside a call, and a byte written beyond the answers.
-#[unsafe(no_mangle)]
-pub extern "C" fn sicklephlox_run(run: &[u8], answers: &mut [u8]) -> usize
+pub fn sicklephlox_run(run: &[u8], answers: &mut [u8]) -> usize
     ensures { (result, answers.new) ≡ outcome run.now answers.old }
 {
     let mut written = pointstore::no_marks();
