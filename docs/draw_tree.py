@@ -1,9 +1,9 @@
 #!/usr/bin/env python3
 """Draws a printed tree as SVG, each leaf with its reading.
 
-    target/bin/treelist < TEXT | docs/draw_tree.py TEXT > PICTURE.svg
-    target/bin/treelist < TEXT | docs/draw_tree.py TEXT --mark 5 > PICTURE.svg
-    target/bin/regrow < TEXT | docs/draw_tree.py TEXT > PICTURE.svg
+    crates/treelist/out/treelist < TEXT | docs/draw_tree.py TEXT > PICTURE.svg
+    crates/treelist/out/treelist < TEXT | docs/draw_tree.py TEXT --mark 5 > PICTURE.svg
+    crates/regrow/out/regrow < TEXT | docs/draw_tree.py TEXT > PICTURE.svg
 
 TEXT is what the program was given: it says which reading an index is. Without it a leaf is drawn with its id alone. What is printed
 before the tree is skipped, and refused rows are left out of the picture.

@@ -25,12 +25,12 @@ if [ "${1:-}" = --beside ]; then
   before=${2:?usage: harness/bench.sh --beside BEFORE.a [NOW.a]}
   shift 2
   now=target/staticlib/librun.a
-  case ${1:-} in *.a) now=$1; shift ;; *) rt staticlib run >&2 ;; esac
+  case ${1:-} in *.a) now=$1; shift ;; *) harness/made.sh run >&2 ;; esac
   beside=(--beside "$(shared "$before" before)" "$(shared "$now" now)")
   export SICKLEPHLOX_LIB=$root/$now
   case $now in /*) SICKLEPHLOX_LIB=$now ;; esac
 else
-  rt staticlib run >&2
+  harness/made.sh run >&2
 fi
 
 echo "$(sed -n 's/^model name[^:]*: //p' /proc/cpuinfo | head -n 1), $(date -u +%F), $(rustc --version)"

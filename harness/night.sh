@@ -10,13 +10,11 @@ seed=${2:-$(date -u +%Y%m%d)}
 root=$(cd "$(dirname "$0")/.." && pwd)
 cd "$root"
 harness/copy_given.sh "${KRCF_SRC:-../shared/docs/src}"
-rt staticlib run
-rt staticlib leaves
-rt check treelist
+harness/made.sh run leaves treelist
 regrown=
 if grep -q '^regrow:' crates.txt; then
   regrown=yes
-  rt check regrow
+  harness/made.sh regrow
 fi
 
 compared() {

@@ -2,8 +2,9 @@
 # Holds the rules of docs/ARCHIVE.md against the recorded answers, the oracle against document 01, the recorded
 # answers against the Rust, the generated runs against faults in the Rust, the port, its leaves and the
 # programs treelist and regrow against the Rust, and the port's words of a key against RFC 8439.
-#   harness/run.sh [--rust | --port] [--digests]
-# --rust does what needs no port, --port the rest; without either both are done.
+#   harness/run.sh [--rust | --port [--after-ci]] [--digests]
+# --rust does what needs no port, --port the rest; without either both are done. --after-ci: `rt ci` has just passed here, and
+# what it built is taken (made.sh).
 # KRCF_SRC names the folder that holds crates/rcflib/src, seen from the project's root; the default
 # is ../shared/docs/src. COMPARE says for how long the port is compared, 30s if unset, LEAVES on how many
 # values each leaf is, 1000000 if unset, WORDS on how many words of keys it is, 1000000 if unset, TEXTS on how many
@@ -19,6 +20,8 @@ source=${KRCF_SRC:-../shared/docs/src}
 cd "$root"
 part=
 case ${1:-} in --rust | --port) part=$1; shift ;; esac
+after=()
+if [ "${1:-}" = --after-ci ]; then after=(--after-ci); shift; fi
 
 if [ "$part" = --port ]; then
   :
@@ -52,18 +55,18 @@ if [ "$part" != --port ]; then
 fi
 [ "$part" != --rust ] || exit 0
 
-rt staticlib leaves
+harness/made.sh "${after[@]}" leaves
 listed=
 if grep -q '^treelist:' crates.txt; then
   listed=yes
-  rt check treelist
+  harness/made.sh "${after[@]}" treelist
 else
   echo "harness: crates.txt has no treelist, no texts are compared"
 fi
 regrown=
 if grep -q '^regrow:' crates.txt; then
   regrown=yes
-  rt check regrow
+  harness/made.sh "${after[@]}" regrow
 else
   echo "harness: crates.txt has no regrow, no archives are compared"
 fi
@@ -90,9 +93,9 @@ joined() {
 }
 (leaves_and_texts) >"$compared" 2>&1 &
 beside=$!
-rt staticlib run
+harness/made.sh "${after[@]}" run
 joined
-harness/frames.sh target/staticlib/lib*.a ${listed:+target/bin/treelist} ${regrown:+target/bin/regrow}
+harness/frames.sh target/staticlib/lib{run,leaves}.a ${listed:+crates/treelist/out/treelist} ${regrown:+crates/regrow/out/regrow}
 
 built run --package compare -- --fault
 # The comparison of byte runs has one core for its time; words and archives are compared on the other meanwhile.

@@ -5,7 +5,7 @@
 # at capacity 8 and half a million at 16; and behind each the same with keyed arrivals, a fifth of a million where there are
 # more, which stand for 256 words each beside that of the starting chance. Then 8 archives of a folder, one at a time and two
 # at a time. SCALE divides all numbers of arrivals, 1 if not given; each time is the least of 3 repetitions if not told
-# otherwise. REGROW names the program, target/bin/regrow if unset. KRCF_SRC as for run.sh. Needs cargo and the Rust; about 400
+# otherwise. REGROW names the program, crates/regrow/out/regrow if unset. KRCF_SRC as for run.sh. Needs cargo and the Rust; about 400
 # MB of disk.
 set -euo pipefail
 
@@ -13,7 +13,7 @@ root=$(cd "$(dirname "$0")/.." && pwd)
 cd "$root"
 scale=${1:-1}
 repetitions=${2:-3}
-regrow=$(readlink -f "${REGROW:-target/bin/regrow}")
+regrow=$(readlink -f "${REGROW:-crates/regrow/out/regrow}")
 [ -x "$regrow" ] || { echo "speed: the program $regrow is not there"; exit 1; }
 harness/copy_given.sh "${KRCF_SRC:-../shared/docs/src}"
 cargo build --quiet --offline --locked --manifest-path harness/Cargo.toml --profile timed --package archives --bin make_archive

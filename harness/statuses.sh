@@ -1,6 +1,6 @@
 #!/bin/bash
 # The exit statuses of ./regrow: 0 where the tree is printed, 1 where the archive is refused, 2 where there is none. What it
-# prints is what the program prints. Needs target/bin/regrow.
+# prints is what the program prints. Needs crates/regrow/out/regrow.
 set -uo pipefail
 
 root=$(cd "$(dirname "$0")/.." && pwd)
@@ -21,7 +21,7 @@ expects() {
 }
 # prints_as_program ARCHIVE WHAT
 prints_as_program() {
-  if ! target/bin/regrow <"$1" | cmp -s - "$folder/printed"; then
+  if ! crates/regrow/out/regrow <"$1" | cmp -s - "$folder/printed"; then
     echo "statuses: $2: not what the program prints"
     failed=1
   fi

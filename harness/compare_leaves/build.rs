@@ -1,4 +1,4 @@
-//! Links what `rt staticlib leaves` writes below the project's root.
+//! Links what `harness/made.sh leaves` makes below the project's root.
 use std::path::Path;
 
 fn main() {

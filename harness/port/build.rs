@@ -1,5 +1,5 @@
-//! Links the port's static library: the file that SICKLEPHLOX_LIB names, or what `rt staticlib run`
-//! writes below the project's root.
+//! Links the port's static library: the file that SICKLEPHLOX_LIB names, or what `harness/made.sh run`
+//! makes below the project's root.
 use std::path::PathBuf;
 
 fn main() {

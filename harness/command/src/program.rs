@@ -40,13 +40,13 @@ impl Printed {
 }
 
 impl Program {
-    /// The file that the variable of that name in capitals names, or else the program of that name below the
-    /// project's root.
+    /// The file that the variable of that name in capitals names, or else the program of the crate of that
+    /// name, as rt makes it.
     pub fn find(name: &str) -> Result<Self, String> {
-        let built = PathBuf::from(env!("CARGO_MANIFEST_DIR")).join("../../target/bin");
+        let crates = PathBuf::from(env!("CARGO_MANIFEST_DIR")).join("../../crates");
         let path = match std::env::var_os(name.to_uppercase()) {
             Some(path) => PathBuf::from(path),
-            None => built.join(name),
+            None => crates.join(name).join("out").join(name),
         };
         let failed = |e| format!("the program {} is not there: {e}", path.display());
         let path = path.canonicalize().map_err(failed)?;

@@ -8,7 +8,7 @@
 //!   archives --expect             reads an archive and writes what is expected and nothing else
 //!
 //! SEED is a whole number; the same one gives the same archives. REGROW names the program; if it is unset, that is
-//! target/bin/regrow below the project's root. The last line says how many archives were compared, how many of them
+//! crates/regrow/out/regrow below the project's root. The last line says how many archives were compared, how many of them
 //! are in form, and how many differ; the exit status is 0 only if none does and no fewer were compared than
 //! asked for. An archive differs where the program prints something else, exits with a status other than
 //! 0, or is ended by a signal; or where `sicklephlox_run`, asked for the same calls, sample and tree, says

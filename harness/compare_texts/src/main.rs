@@ -7,7 +7,7 @@
 //!   texts --replay          reads a text and shows what is expected and what is printed
 //!
 //! SEED is a whole number; the same one gives the same texts. TREELIST names the program; if it is
-//! unset, that is target/bin/treelist below the project's root. The last line says how many texts
+//! unset, that is crates/treelist/out/treelist below the project's root. The last line says how many texts
 //! were compared, how many of them are in form, and how many differ; the exit status is 0 only if
 //! none does and no fewer were compared than asked for. A text differs where the program prints
 //! something else, exits with a status other than 0, or is ended by a signal.
