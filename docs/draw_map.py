@@ -4,8 +4,7 @@
     docs/draw_map.py < crates.txt > docs/map.svg
 
 A comment line of crates.txt opens a layer. A line is drawn from a crate to each crate that it needs by itself: not to those that it
-needs only through another, and not to those of the lowest layer, which nearly all need. What stands behind `# beside:` is listed for
-the order of checks alone, and left out.
+needs only through another, and not to those of the lowest layer, which nearly all need.
 """
 import sys
 
@@ -22,9 +21,8 @@ def read(lines):
             name, rest = line.split(":", 1)
             # a static library has that word behind its name
             name = name.split()[0]
-            used, _, unused = rest.partition("# beside:")
             layers[-1][1].append(name)
-            needs[name] = [other for other in used.split() if other not in unused.split()]
+            needs[name] = rest.split()
     return [layer for layer in layers if layer[1]], needs
 
 
