@@ -10,4 +10,4 @@ pub returns-in-Added : goal.returns-in-Added
 returns-in-Added c = record { small = leaf_small _ _ _ c.args.index c.args.words.now _ _ c.add_found.ensures c.requires _ _ _ c.in-Added.is; adds = leaf_added _ _ _ c.args.index c.args.words.now _ _ c.add_found.ensures _ _ _ c.in-Added.is }
 
 pub returns-in-NotAdded : goal.returns-in-NotAdded
-returns-in-NotAdded c = let it = absurd (never_refused _ _ _ c.args.index c.args.words.now _ _ c.add_found.ensures c.requires _ c.in-NotAdded.is) in record { small = it.0; adds = it.1 }
+returns-in-NotAdded c = absurd (never_refused _ _ _ c.args.index c.args.words.now _ _ c.add_found.ensures c.requires _ c.in-NotAdded.is)

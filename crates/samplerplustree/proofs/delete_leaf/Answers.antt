@@ -15,4 +15,4 @@ pub returns-in-Deleted : goal.returns-in-Deleted
 returns-in-Deleted c = record { done = leaf_deleted _ _ _ c.args.index _ _ c.delete_found.ensures c.requires _ _ c.in-Deleted.is; path = λ d n t W marks S. path_seen S (written_there c.requires S).1 c.find-found.ensures }
 
 pub returns-in-NotDeleted : goal.returns-in-NotDeleted
-returns-in-NotDeleted c = let it = absurd (always_held _ _ _ c.args.index _ _ c.delete_found.ensures c.requires _ c.in-NotDeleted.is) in record { done = it.0; path = it.1 }
+returns-in-NotDeleted c = absurd (always_held _ _ _ c.args.index _ _ c.delete_found.ensures c.requires _ c.in-NotDeleted.is)
