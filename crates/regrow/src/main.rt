@@ -2,62 +2,67 @@
 // and the tree.
 #![tactic(auto)]
 
-ghost use Rattle.std.specs.Prelude.{◌≡◌, true, ◌≤◌, ◌<◌, length};
+ghost use Rattle.std.specs.Prelude.{◌≡◌, true, IfOk, ◌≤◌, ◌<◌, length};
 ghost use Rattle.treestore.specs.Arrays.{lent};
 ghost use Rattle.samplerplustree.specs.State.{SomeSampled};
 ghost use Rattle.archiveend.specs.Prints.{SomeEnd};
 
 use archivecalls::Rows;
 use archiveend::END;
-use libc::STDOUT_FILENO;
 use limits::{
     BRANCHES, Boxes, CAPACITY, CHANNELS, Copies, Cuts, Free, Held, Marks, Nodes, POINTS, Points,
     Weights,
 };
 use regrow_text::{Head, Next};
 use samplerplustree::{MadeSampled, SamplerPlusTree};
+use std::io;
+use std::io::Read;
 
 // A proved loop has to end, and nothing says that an archive does: turns are counted down from a number that no archive uses up.
 const TURNS: usize = 1 << 40;
+
+// So many bytes of an archive's text are there at a time, and of the answers to its rows.
+const TEXT: usize = 65536;
 
 // The refusal of a text out of form.
 const OUT_OF_FORM: usize = 17;
 
 // Writes `refused N R`.
-fn refuse(number: usize, row: usize) {
+fn refuse(rt: &impl Print, number: usize, row: usize) -> io::Result<()> {
     let mut line = [0u8; 64];
     let n = lines::put_refused(&mut line, 0, number, row);
-    io::write_all(STDOUT_FILENO, &line[..n]);
+    rt.write_all(&line[..n])
 }
 
 // Writes answers; whether the rows go on, which they do not where an answer can't be written.
-fn tell(answers: &[u8], goes_on: bool) -> bool
-    ensures { result ≡ true → goes_on ≡ true }
+fn tell(rt: &impl Print, answers: &[u8], goes_on: bool) -> io::Result<bool>
+    ensures { IfOk result (λ r. r ≡ true → goes_on ≡ true) }
 {
-    if !io::write_all(STDOUT_FILENO, answers) {
-        return false;
-    }
-    goes_on
+    rt.write_all(answers)?;
+    Ok(goes_on)
 }
 
 // The archive's end: the sample and the tree.
 fn finish(
+    rt: &impl Print,
     tree: SamplerPlusTree,
     nodes: &Nodes,
     cuts: &Cuts,
     copies: &Copies,
     weights: &Weights,
     held: &Held,
-)
+) -> io::Result<()>
     requires { SomeEnd tree nodes.now cuts.now copies.now weights.now held.now }
 {
     let mut out = [0u8; END];
     let n = archiveend::print_end(tree, nodes, cuts, copies, weights, held, &mut out, 0);
-    io::write_all(STDOUT_FILENO, &out[..n]);
+    rt.write_all(&out[..n])
 }
 
 // The rows as they come, from a place of the text on.
 fn grow(
+    rt: &impl Print,
+    input: &mut impl Read,
     tree: SamplerPlusTree,
     nodes: &mut Nodes,
     cuts: &mut Cuts,
@@ -73,7 +78,7 @@ fn grow(
     start: usize,
     come: usize,
     out: &mut [u8],
-)
+) -> io::Result<()>
     requires near { (start ≤ come) × (come ≤ length text.old) × (8192 ≤ length text.old) × (length text.old ≤ 65536) × (length out.old < 10000000000) }
     requires stands { SomeSampled tree (lent nodes.old cuts.old copies.old free.old boxes.old) points.old written.old weights.old held.old }
 {
@@ -103,28 +108,36 @@ fn grow(
         current = left;
         number = batch.number;
         let end = batch.end;
-        if !tell(&out[..end], batch.goes_on) {
-            return;
+        if !tell(rt, &out[..end], batch.goes_on)? {
+            return Ok(());
         }
-        match regrow_text::follow(text, from, to, batch.read) {
+        match regrow_text::follow(input, text, from, to, batch.read) {
             Next::Part(start, end) => {
                 from = start;
                 to = end;
             }
             Next::Ended => {
-                return finish(current, nodes, cuts, copies, weights, held);
+                return finish(rt, current, nodes, cuts, copies, weights, held);
             }
             Next::Failed => {
-                return refuse(OUT_OF_FORM, number);
+                return refuse(rt, OUT_OF_FORM, number);
             }
         }
         turns -= 1;
     }
-    refuse(OUT_OF_FORM, number)
+    refuse(rt, OUT_OF_FORM, number)
 }
 
 // A head in form: the making of its second line, then the rows from a place of the text on.
-fn make_and_grow(text: &mut [u8], a: usize, b: usize, start: usize, come: usize)
+fn make_and_grow(
+    rt: &impl Print,
+    input: &mut impl Read,
+    text: &mut [u8],
+    a: usize,
+    b: usize,
+    start: usize,
+    come: usize,
+) -> io::Result<()>
     requires { (a ≤ b) × (b ≤ length text.old) × (start ≤ come) × (come ≤ length text.old) × (8192 ≤ length text.old) × (length text.old ≤ 65536) }
 {
     let mut nodes = [[0u16; 4]; BRANCHES];
@@ -147,11 +160,13 @@ fn make_and_grow(text: &mut [u8], a: usize, b: usize, start: usize, come: usize)
         &mut held,
     );
     match made {
-        MadeSampled::NotMade(refusal) => refuse(casts::wide8(refusal), 0),
+        MadeSampled::NotMade(refusal) => refuse(rt, casts::wide8(refusal), 0),
         MadeSampled::Tree(tree) => {
             let mut rows = [[0u64; 4]; CAPACITY];
-            let mut out = io::large_buffer();
+            let mut out = [0u8; TEXT];
             grow(
+                rt,
+                input,
                 tree,
                 &mut nodes,
                 &mut cuts,
@@ -173,26 +188,27 @@ fn make_and_grow(text: &mut [u8], a: usize, b: usize, start: usize, come: usize)
 }
 
 // The archive by what has come of it: its first three lines, then the rows.
-fn begin(text: &mut [u8], come: usize)
+fn begin(rt: &impl Print, input: &mut impl Read, text: &mut [u8], come: usize) -> io::Result<()>
     requires { (come ≤ length text.old) × (8192 ≤ length text.old) × (length text.old ≤ 65536) }
 {
     let head = &text[..come];
     match regrow_text::find_head(head) {
-        Head::NotThere => refuse(OUT_OF_FORM, 0),
+        Head::NotThere => refuse(rt, OUT_OF_FORM, 0),
         Head::At(a, b, c) => {
             if !archivehead::is_making_names(&head[..a]) {
-                return refuse(OUT_OF_FORM, 0);
+                return refuse(rt, OUT_OF_FORM, 0);
             }
             if !archivehead::is_row_names(&head[b + 1..c]) {
-                return refuse(OUT_OF_FORM, 0);
+                return refuse(rt, OUT_OF_FORM, 0);
             }
-            make_and_grow(text, a + 1, b, c + 1, come)
+            make_and_grow(rt, input, text, a + 1, b, c + 1, come)
         }
     }
 }
 
-fn main() {
-    let mut text = io::large_buffer();
-    let come = regrow_text::read_head(&mut text);
-    begin(&mut text, come);
+fn main(rt: HostRuntime) -> io::Result<()> {
+    let mut input = rt.reader();
+    let mut text = [0u8; TEXT];
+    let come = regrow_text::read_head(&mut input, &mut text);
+    begin(&rt, &mut input, &mut text, come)
 }

@@ -5,7 +5,7 @@
 ghost use Rattle.std.specs.Prelude.{◌≡◌, ◌+◌, ◌-◌, ◌≤◌, ◌<◌, length, take, drop};
 ghost use Rattle.regrow_text.specs.Reading.{Brings, ReadsOn, Stays, Follows, Heads};
 
-use libc::STDIN_FILENO;
+use std::io::Read;
 
 // The first three lines have fewer bytes, if they are in form.
 const HEAD: usize = 120;
@@ -37,19 +37,15 @@ pub enum Head {
 }
 
 // One read, behind the bytes that are in the text. There is room for one at least, so that a read of none is the archive's end.
-fn read_more(text: &mut [u8], at: usize) -> More
+fn read_more(input: &mut impl Read, text: &mut [u8], at: usize) -> More
     requires { at < length text.old }
     ensures { Brings at text.old result text.new }
 {
-    let got = libc::read(STDIN_FILENO, &mut text[at..]);
-    if got < 0 {
-        return More::Failed;
+    match input.read(&mut text[at..]) {
+        Ok(0) => More::Ended,
+        Ok(n) => More::To(at + n),
+        Err(_) => More::Failed,
     }
-    let n = io::count(got, &text[at..]);
-    if n == 0 {
-        return More::Ended;
-    }
-    More::To(at + n)
 }
 
 // Where the first three lines of a text end, if they are there.
@@ -82,13 +78,13 @@ fn is_there(head: Head) -> bool {
 // Reads until the first three lines are there, or more bytes than they may have, or no more comes; how many bytes are in the text. Which bytes come is free, and
 // so is what stands in the text beyond them: the logic says nothing of what a read brings.
 // Rules out a count beyond the text, and a wait without end for lines that do not come.
-pub fn read_head(text: &mut [u8]) -> usize
+pub fn read_head(input: &mut impl Read, text: &mut [u8]) -> usize
     requires { 8192 ≤ length text.old }
     ensures { result ≤ length text.old }
 {
     let mut to: usize = 0;
     while to <= HEAD && !is_there(find_head(&text[..to])) {
-        match read_more(text, to) {
+        match read_more(input, text, to) {
             More::To(next) => {
                 to = next;
             }
@@ -120,7 +116,7 @@ fn move_up(text: &mut [u8], from: usize, to: usize) -> usize
 
 // What comes after the bytes between two places, which have no line feed: more of their line, or the archive's end where they are none. A line that is too long,
 // or that the archive ends in, counts as a failure.
-fn read_on(text: &mut [u8], from: usize, to: usize) -> More
+fn read_on(input: &mut impl Read, text: &mut [u8], from: usize, to: usize) -> More
     requires { (from ≤ to) × (to ≤ length text.old) × (8192 ≤ length text.old) }
     ensures { ReadsOn (to - from) (drop from text.old) result text.new }
 {
@@ -128,7 +124,7 @@ fn read_on(text: &mut [u8], from: usize, to: usize) -> More
         return More::Failed;
     }
     let left = move_up(text, from, to);
-    match read_more(text, left) {
+    match read_more(input, text, left) {
         More::To(next) => More::To(next),
         More::Failed => More::Failed,
         More::Ended => {
@@ -142,7 +138,7 @@ fn read_on(text: &mut [u8], from: usize, to: usize) -> More
 
 // What follows a batch that read so many of the bytes between two places: what it left, or where it read none more of the archive.
 // Rules out a wait for more while whole lines are left, and an archive that is cut off within a line taken for one that ends.
-pub fn follow(text: &mut [u8], from: usize, to: usize, read: usize) -> Next
+pub fn follow(input: &mut impl Read, text: &mut [u8], from: usize, to: usize, read: usize) -> Next
     requires { (from + read ≤ to) × (to ≤ length text.old) × (8192 ≤ length text.old) }
     ensures stays { Stays from to read text.old result text.new }
     ensures follows { Follows (to - (from + read)) (drop (from + read) text.old) result text.new }
@@ -150,7 +146,7 @@ pub fn follow(text: &mut [u8], from: usize, to: usize, read: usize) -> Next
     if read > 0 {
         return Next::Part(from + read, to);
     }
-    match read_on(text, from, to) {
+    match read_on(input, text, from, to) {
         More::To(next) => Next::Part(0, next),
         More::Ended => Next::Ended,
         More::Failed => Next::Failed,

@@ -6,8 +6,9 @@ ghost use Rattle.std.specs.Prelude.{◌≡◌, ◌≤◌, length};
 ghost use Rattle.records.specs.Records.{room};
 ghost use Rattle.replay.specs.Answers.{answered};
 
-use libc::STDOUT_FILENO;
 use records::{Counts, KINDS, LENT, ROOM};
+use std::io;
+use std::io::Read;
 
 // So many records that differ are said; the others are only counted.
 const SAID: usize = 20;
@@ -47,95 +48,110 @@ fn answer(kind: usize, given: &[u8], out: &mut [u8]) -> usize
 }
 
 // Prints a number, after a space.
-fn say_number(n: usize) {
+fn say_number(rt: &impl Print, n: usize) -> io::Result<()> {
     let mut field = [b' '; FIELD];
     let end = 1 + lines::put_decimal(&mut field, 1, n);
-    io::write_all(STDOUT_FILENO, &field[..end]);
+    rt.write_all(&field[..end])
 }
 
 // Prints a line: a word, and numbers.
-fn say(word: &[u8], numbers: &[usize]) {
-    io::write_all(STDOUT_FILENO, word);
+fn say(rt: &impl Print, word: &[u8], numbers: &[usize]) -> io::Result<()> {
+    rt.write_all(word)?;
     let mut i: usize = 0;
     while i < numbers.len() {
-        say_number(numbers[i]);
+        say_number(rt, numbers[i])?;
         i += 1;
     }
-    io::write_all(STDOUT_FILENO, b"\n");
+    rt.write_all(b"\n")
 }
 
 // Says that a record differs, if not too many did: what was returned and what was to be, and how many bytes of the buffer are as recorded, from its
 // start on.
-fn told(number: usize, before: State, returned: usize, got: usize, same: usize) -> State {
+fn told(
+    rt: &impl Print,
+    number: usize,
+    before: State,
+    returned: usize,
+    got: usize,
+    same: usize,
+) -> io::Result<State> {
     if before.said >= SAID {
-        return before;
+        return Ok(before);
     }
-    say(b"differs", &[number, returned, got, same]);
-    State {
+    say(rt, b"differs", &[number, returned, got, same])?;
+    Ok(State {
         said: before.said + 1,
         going: true,
-    }
+    })
 }
 
 // The end of the replay, with a word on it where a record is not whole or there is none at all.
-fn ended(why: usize, number: usize) -> State {
+fn ended(rt: &impl Print, why: usize, number: usize) -> io::Result<State> {
     if why == records::SHORT {
-        say(b"short", &[number]);
+        say(rt, b"short", &[number])?;
     }
     if why == records::EMPTY {
-        say(b"empty", &[number]);
+        say(rt, b"empty", &[number])?;
     }
     if why == records::MALFORMED {
-        say(b"malformed", &[number]);
+        say(rt, b"malformed", &[number])?;
     }
-    State {
+    Ok(State {
         said: 0,
         going: false,
-    }
+    })
 }
 
 // The replay after one more record, or at its end.
-fn replay_one(number: usize, before: State, counts: &mut Counts) -> State {
+fn replay_one(
+    rt: &impl Print,
+    input: &mut impl Read,
+    number: usize,
+    before: State,
+    counts: &mut Counts,
+) -> io::Result<State> {
     let mut given = [0u8; ROOM];
     let mut expected = [LENT; ROOM];
-    let head = records::read(number, &mut given, &mut expected);
+    let head = records::read(input, number, &mut given, &mut expected)?;
     if !head.whole {
-        return ended(head.why, number);
+        return ended(rt, head.why, number);
     }
     let size = head.size;
     let mut answers = [LENT; ROOM];
     let got = answer(head.kind, &given[..size], &mut answers);
     let judged = records::judge(head, got, &expected, &answers, counts);
     if judged.agrees {
-        return before;
+        return Ok(before);
     }
-    told(number, before, head.returned, got, judged.same)
+    told(rt, number, before, head.returned, got, judged.same)
 }
 
 // A proved loop has to end, and nothing says that the input does; so records are counted up to a number that no input has.
-fn replay_all(counts: &mut Counts) {
+fn replay_all(rt: &impl Print, input: &mut impl Read, counts: &mut Counts) -> io::Result<()> {
     let mut state = State {
         said: 0,
         going: true,
     };
     let mut number: usize = 0;
     while number < usize::MAX && state.going {
-        state = replay_one(number, state, counts);
+        state = replay_one(rt, input, number, state, counts)?;
         number += 1;
     }
+    Ok(())
 }
 
 // The line of a kind.
-fn say_kind(kind: usize, counts: [usize; 2]) {
-    say(b"kind", &[kind, counts[0], counts[1]]);
+fn say_kind(rt: &impl Print, kind: usize, counts: [usize; 2]) -> io::Result<()> {
+    say(rt, b"kind", &[kind, counts[0], counts[1]])
 }
 
-fn main() {
+fn main(rt: HostRuntime) -> io::Result<()> {
     let mut counts = [[0usize; 2]; KINDS];
-    replay_all(&mut counts);
+    replay_all(&rt, &mut rt.reader(), &mut counts)?;
     let mut kind: usize = 0;
     while kind < KINDS {
-        say_kind(kind, counts[kind]);
+        say_kind(&rt, kind, counts[kind])?;
         kind += 1;
     }
+    Ok(())
 }

@@ -8,7 +8,11 @@ ghost use Rattle.hexbytes.specs.Hex.{read_hex};
 ghost use Rattle.chacha20.specs.Block.{chacha20_block};
 ghost use Rattle.rfc8439.specs.Vectors.{counter_of, holds, holding};
 
-use libc::{STDIN_FILENO, STDOUT_FILENO};
+use std::io;
+use std::io::Read;
+
+// So many bytes of standard input are read at most.
+const READ: u64 = 65536;
 
 // The bytes of a line, without its line feed.
 const LINE: usize = 227;
@@ -102,17 +106,16 @@ fn count(text: &[u8]) -> Counts
 }
 
 // Prints a number and a word after it.
-fn say(number: usize, word: &[u8]) {
-    io::print_decimal(STDOUT_FILENO, number as u64);
-    io::write_all(STDOUT_FILENO, word);
+fn say(rt: &impl Print, number: usize, word: &str) -> io::Result<()> {
+    print!(rt; "{number}{word}")
 }
 
-fn main() {
-    let mut text = io::large_buffer();
-    let come = io::read_full(STDIN_FILENO, &mut text);
-    let counts = count(&text[..come]);
+fn main(rt: HostRuntime) -> io::Result<()> {
+    let mut text = Vec::new(rt.alloc());
+    rt.reader().take(READ).read_to_end(&mut text)?;
+    let counts = count(&text);
     if counts.pieces > 0 {
-        say(counts.pieces - 1, b" lines, ");
+        say(&rt, counts.pieces - 1, " lines, ")?;
     }
-    say(counts.held, b" hold\n");
+    say(&rt, counts.held, " hold\n")
 }

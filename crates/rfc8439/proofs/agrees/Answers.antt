@@ -1,0 +1,6 @@
+-- `rfc8439::agrees` meets its contract. Assumes nothing.
+use borrow.Author.Rules.{rules}
+use Rattle.rfc8439.proofs.agrees.Goals as goal
+
+pub returns : goal.returns
+returns c = rw (← c.chacha20_block.ensures) c.same_block.ensures
