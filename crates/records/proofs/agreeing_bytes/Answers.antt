@@ -1,6 +1,5 @@
 -- `agreeing_bytes` meets its contract. Assumes nothing.
-use Rattle.std.proofs.Common.{◌-◌, length, rules}
-use Rattle.records.proofs.Agreeing.{Same, same_start, first_ends, second_ends, differs, same_step}
+use Rattle.records.proofs.Agreeing.{same_start, first_ends, second_ends, differs, same_step}
 use Rattle.records.proofs.agreeing_bytes.Goals as goal
 
 pub loop-i-init : goal.loop-i-init

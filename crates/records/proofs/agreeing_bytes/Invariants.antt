@@ -1,5 +1,5 @@
-use Rattle.std.proofs.Common.{◌-◌, length, rules}
-use Rattle.records.proofs.Agreeing.{Same, same_start, first_ends, second_ends, differs, same_step}
+use Rattle.std.proofs.Common.{◌-◌, length}
+use Rattle.records.proofs.Agreeing.{Same}
 use Rattle.records.proofs.agreeing_bytes.Given as goal
 
 abbrev pub invariant-loop-i : goal.invariant-loop-i

@@ -1,5 +1,5 @@
 -- `judge` meets its contract. Assumes nothing.
-use Rattle.std.proofs.Common.{refl, rules}
+use Rattle.std.proofs.Common.{refl}
 use Rattle.records.proofs.judge.Goals as goal
 
 pub returns : goal.returns

@@ -1,5 +1,4 @@
 -- `tally` meets its contract. Assumes nothing.
-use Rattle.std.proofs.Common.{rules}
 use Rattle.records.proofs.tally.Goals as goal
 
 pub returns : goal.returns

@@ -1,5 +1,4 @@
 -- `rfc8439::agrees` meets its contract. Assumes nothing.
-use borrow.Author.Rules.{rules}
 use Rattle.rfc8439.proofs.agrees.Goals as goal
 
 pub returns : goal.returns

@@ -1,9 +1,6 @@
-use mathlib.Core.Logic.{⊎_elim}
 use Prim.Native.Nat.{◌+◌, ◌-◌}
-use native.Mathlib.Omega.{arith}
 use lib.ListN.{length}
-use borrow.Author.Rules.{rules}
-use Rattle.rfc8439.proofs.Lines.{Counting, count_start, count_step, count_end}
+use Rattle.rfc8439.proofs.Lines.{Counting}
 use Rattle.rfc8439.proofs.count.Given as goal
 
 abbrev pub invariant-loop-at : goal.invariant-loop-at

@@ -1,5 +1,4 @@
 -- `rfc8439::counter_at` meets its contract. Assumes nothing.
-use borrow.Author.Rules.{rules}
 use Rattle.rfc8439.proofs.counter_at.Goals as goal
 
 pub returns : goal.returns

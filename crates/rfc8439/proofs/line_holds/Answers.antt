@@ -1,7 +1,5 @@
 -- `rfc8439::line_holds` meets its contract. Assumes nothing.
 use lib.ListN.{replicate}
-use borrow.Author.Tests.{not-true, not-false}
-use borrow.Author.Rules.{rules}
 use Rattle.rfc8439.proofs.Lines.{other_length, no_key, no_nonce, no_block, compared}
 use Rattle.rfc8439.specs.Vectors.{key, nonce, block}
 use Rattle.hexbytes.proofs.Digits.{read_tells}
@@ -12,22 +10,22 @@ returns-then-line-ne-LINE c = other_length c.args.line.now c.if-line-ne-LINE.tru
 
 pub returns-then-not-hex_at : goal.returns-then-not-hex_at
 returns-then-not-hex_at c = let line = c.args.line.now in
-    no_key line c.if-line-ne-LINE.false (read_tells (key line) (replicate 32 0) _ _ c.hex_at.ensures).tells (not-true _ c.if-not-hex_at.true)
+    no_key line c.if-line-ne-LINE.false (read_tells (key line) (replicate 32 0) _ _ c.hex_at.ensures).tells c.if-not-hex_at.true
 
 pub returns-then-not-hex_at-2 : goal.returns-then-not-hex_at-2
 returns-then-not-hex_at-2 c = let line = c.args.line.now in
-    no_nonce line c.if-line-ne-LINE.false (read_tells (key line) (replicate 32 0) _ _ c.hex_at.ensures).tells (not-false _ c.if-not-hex_at.false) (read_tells (nonce line) (replicate 12 0) _ _ c.hex_at-2.ensures).tells (not-true _ c.if-not-hex_at-2.true)
+    no_nonce line c.if-line-ne-LINE.false (read_tells (key line) (replicate 32 0) _ _ c.hex_at.ensures).tells c.if-not-hex_at.false (read_tells (nonce line) (replicate 12 0) _ _ c.hex_at-2.ensures).tells c.if-not-hex_at-2.true
 
 pub returns-then-not-hex_at-3 : goal.returns-then-not-hex_at-3
 returns-then-not-hex_at-3 c = let line = c.args.line.now in
-    no_block line c.if-line-ne-LINE.false (read_tells (key line) (replicate 32 0) _ _ c.hex_at.ensures).tells (not-false _ c.if-not-hex_at.false) (read_tells (nonce line) (replicate 12 0) _ _ c.hex_at-2.ensures).tells (not-false _ c.if-not-hex_at-2.false) (read_tells (block line) (replicate 64 0) _ _ c.hex_at-3.ensures).tells (not-true _ c.if-not-hex_at-3.true)
+    no_block line c.if-line-ne-LINE.false (read_tells (key line) (replicate 32 0) _ _ c.hex_at.ensures).tells c.if-not-hex_at.false (read_tells (nonce line) (replicate 12 0) _ _ c.hex_at-2.ensures).tells c.if-not-hex_at-2.false (read_tells (block line) (replicate 64 0) _ _ c.hex_at-3.ensures).tells c.if-not-hex_at-3.true
 
 pub returns : goal.returns
 returns c = let line = c.args.line.now in
     let k = read_tells (key line) (replicate 32 0) _ _ c.hex_at.ensures in
     let n = read_tells (nonce line) (replicate 12 0) _ _ c.hex_at-2.ensures in
     let b = read_tells (block line) (replicate 64 0) _ _ c.hex_at-3.ensures in
-    let key-good = not-false _ c.if-not-hex_at.false in
-    let nonce-good = not-false _ c.if-not-hex_at-2.false in
-    let block-good = not-false _ c.if-not-hex_at-3.false in
+    let key-good = c.if-not-hex_at.false in
+    let nonce-good = c.if-not-hex_at-2.false in
+    let block-good = c.if-not-hex_at-3.false in
     compared line c.if-line-ne-LINE.false k.tells key-good n.tells nonce-good b.tells block-good _ _ _ _ (k.holds key-good) c.counter_at.ensures (n.holds nonce-good) (b.holds block-good) _ c.agrees.ensures
