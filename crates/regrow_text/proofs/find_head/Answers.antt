@@ -1,6 +1,5 @@
 -- `regrow_text::find_head` meets its contract. Assumes nothing.
 use Rattle.regrow_text.proofs.Heads.{no_first, no_second, no_third}
-use borrow.Author.Rules.{rules}
 use Rattle.regrow_text.proofs.find_head.Goals as goal
 
 pub returns-then-a-text : goal.returns-then-a-text

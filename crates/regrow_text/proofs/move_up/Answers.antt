@@ -1,9 +1,8 @@
 -- `regrow_text::move_up` meets its contract. Assumes nothing.
 use mathlib.Core.Path.{◌≡◌, refl}
-use Prim.Native.Nat.{◌-◌, ◌≤◌}
+use Prim.Native.Nat.{◌-◌}
 use native.Mathlib.Omega.{arith}
-use Rattle.regrow_text.proofs.Moving.{Moving, move_start, move_step}
-use borrow.Author.Rules.{rules}
+use Rattle.regrow_text.proofs.Moving.{move_start, move_step}
 use Rattle.regrow_text.proofs.move_up.Goals as goal
 
 pub loop-i-init : goal.loop-i-init

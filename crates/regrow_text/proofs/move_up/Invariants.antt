@@ -1,8 +1,5 @@
-use mathlib.Core.Path.{◌≡◌, refl}
 use Prim.Native.Nat.{◌-◌, ◌≤◌}
-use native.Mathlib.Omega.{arith}
-use Rattle.regrow_text.proofs.Moving.{Moving, move_start, move_step}
-use borrow.Author.Rules.{rules}
+use Rattle.regrow_text.proofs.Moving.{Moving}
 use Rattle.regrow_text.proofs.move_up.Given as goal
 
 abbrev pub invariant-loop-i : goal.invariant-loop-i
