@@ -45,7 +45,7 @@ module _ (d : ℕ) (s : Float) (X : Sampled (whole d)) (l : Remaining) (a : Lent
       let R = ready d X i w ws L.agrees x o told t in
       let S = L.arrays.tree_is in
       let A = add_admits (whole d) (whole_laws d) X.capacity (world_remaining d X o) i R.point ws S.reachable.sound R.is_written R.room (omega (arith, S.limits.3)) R.enough in
-      headed_new _ A.leaf_index (evicted_by o X.sample) _ (R.is_call ∙ admitted_as d X i w ws (entries_remaining o X.sample) (evicted_by o X.sample) (Bare.call (whole d) X.capacity (world_remaining d X o) (Bare.add i ws)) A.leaf_index A.words A.answer)
+      headed_new _ A.leaf_index (evicted_by o X.sample) _ (R.is_call_lem ∙ admitted_as d X i w ws (entries_remaining o X.sample) (evicted_by o X.sample) (Bare.call (whole d) X.capacity (world_remaining d X o) (Bare.add i ws)) A.leaf_index A.words A.answer)
 
   -- any other leaves the header, which the first step left too
   head_after : (o : Offer) → RemainingState d s X o l a points marks weights held → o ≡ offered d X i w x (length ws) → Headed (call (whole d) X (arrive i w x ws))

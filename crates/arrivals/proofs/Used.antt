@@ -61,7 +61,7 @@ module _ {d : ℕ} {s : Float} {X : Sampled (whole d)} {o : Offer} {l : Remainin
         let B : Ready d X i w ws o (call (whole d) X (arrive i w x ws)) = ready d X i w ws L.agrees x o (told ∙ ap (offered d X i w x) (sym long')) t in
         let m = walk_in (whole d) W.tree (W.table i) in
         let P = A.is_written in
-        A.is_call
+        A.is_call_lem
         ∙ ap (admitted (whole d) X (entries_remaining o X.sample) (evicted_by o X.sample) w) (add_within (whole d) X.capacity m first ws (alike_below m (rw t at y)) (long ∙ sym long') W i A.point P (rw P (omega arith)))
-        ∙ sym B.is_call)
+        ∙ sym B.is_call_lem)
         (λ t. untaken_alike d X i w x n first ws (sym (ap takes told) ∙ t) long long')
