@@ -9,4 +9,4 @@ pub slice_bounds-traverse-end : goal.slice_bounds-traverse-end
 slice_bounds-traverse-end c = sym (length-take-le c.args.n c.args.coordinates.now (omega arith))
 
 pub returns : goal.returns
-returns c = record { long = omega (arith, c.traverse-arg2.given); told = c.traverse.ensures }
+returns c = record { long = omega (arith, c.traverse-arg-1.given); told = c.traverse.ensures }

@@ -18,7 +18,7 @@ run_made-requires c = let m = (sym c.begins_with_making.ensures ∙ c.if-not-beg
 
 pub run_made-requires-in-Enough : goal.run_made-requires-in-Enough
 run_made-requires-in-Enough c = let m = (sym c.begins_with_making.ensures ∙ c.if-not-begins_with_making.false) in
-    (m, (enough c.args.run.now c.args.answers.now m (sym c.in-Enough.is ∙ c.check_calls-checked.ensures), c.no_marks-written.ensures))
+    record { making = m; calls = enough c.args.run.now c.args.answers.now m (sym c.in-Enough.is ∙ c.check_calls-checked.ensures); empty = c.no_marks-written.ensures }
 
 pub returns-in-OutOfLayout : goal.returns-in-OutOfLayout
 returns-in-OutOfLayout c = out_of_layout c.args.run.now c.args.answers.now (sym c.begins_with_making.ensures ∙ c.if-not-begins_with_making.false) (sym c.in-OutOfLayout.is ∙ c.check_calls-checked.ensures)

@@ -17,7 +17,7 @@ use Rattle.treelist_text.proofs.Turns.{Running, begin, some_state, last, some_op
 use Rattle.treelist_text.proofs.run_rows.Goals as goal
 
 pub loop-reply-init : goal.loop-reply-init
-loop-reply-init c = (c.requires.within.0, omega arith, omega arith, λ d c c W os S. begin S)
+loop-reply-init c = (c.requires.within.0, omega arith, omega arith, λ d k h W os S. begin S)
 
 pub piece_end-end-requires : goal.piece_end-end-requires
 piece_end-end-requires c = c.loop-reply.invariant.0
