@@ -58,7 +58,7 @@ returns-then-not-done c = let l = c.loop-out in
     let y = c.carry_line-done in
     rw c.so_far-then-not-done.ensures (record {
       carries = λ d s X S. let R = l.invariant.4 d s X S in
-          ends R _ l.invariant.0 x c.if-stop-text.false (omega (arith, c.if-out-end.false, l.invariant.3)) y.result _ _ _ _ _ _ _ (y.ensures.carries d s _ R.so_far.state) c.if-not-done.true;
+          ends R _ l.invariant.0 x c.if-stop-text.false (omega (arith, c.if-out-end.false, l.invariant.3)) y.result _ _ _ _ _ _ _ (y.ensures.carries d s _ R.so_far.state) (not-true _ c.if-not-done.true);
       fits = (omega (arith, x.most, c.if-stop-text.false), omega (arith, l.invariant.1, x.from), omega (arith, y.ensures.fits, c.if-out-end.false, l.invariant.3));
     })
 
@@ -74,5 +74,5 @@ loop-out-preserved c = let l = c.loop-out in
       omega (arith, y.ensures.fits, c.if-out-end.false, l.invariant.3),
       long (y.ensures.carries _ _ _ (l.invariant.4 _ _ _ c.requires.stands.state).so_far.state).wrote ∙ l.invariant.3,
       λ d s X S. let R = l.invariant.4 d s X S in
-          turn R _ l.invariant.0 x c.if-stop-text.false (omega (arith, c.if-out-end.false, l.invariant.3)) y.result _ _ _ _ _ _ _ (y.ensures.carries d s _ R.so_far.state) c.if-not-done.false,
+          turn R _ l.invariant.0 x c.if-stop-text.false (omega (arith, c.if-out-end.false, l.invariant.3)) y.result _ _ _ _ _ _ _ (y.ensures.carries d s _ R.so_far.state) (not-false _ c.if-not-done.false),
     )
