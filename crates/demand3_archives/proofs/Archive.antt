@@ -18,7 +18,7 @@ use Rattle.samplerplustree.specs.State.{head_of}
 use Rattle.samplerplustree.specs.Updates.{update_says}
 use Rattle.form.specs.Making.{sixteenths_of}
 use Rattle.lines.specs.Lines.{refused_line}
-use Rattle.demand3.specs.Answered.{ArrivalClaim}
+use Rattle.demand3.specs.Answered.{ArrivalClaim, SameTree}
 use Rattle.runlayout.proofs.OfKind.{AllOfKind}
 use Rattle.treelist_text.specs.Output.{told_row}
 use Rattle.archiverow.specs.Rows.{ArchiveRow, puts, arrives, reports, beyond, out_of_form}
@@ -71,7 +71,7 @@ module _ (d c : ℕ) (s : Float) where
     rows_told_lem X r G K (puts i xs ∷ rows) (S, (H, C, A)) = ap₂ ◌++◌ (put_told X i xs r) (rows_told_lem (row_leaves d X (puts i xs)) (r + 1) H _ rows A)
     rows_told_lem X r G K (arrives i w x ws ∷ rows) (S, (H, C, A)) =
         let (o, Y) = call (whole d) X (arrive i w x ws) in
-        ap₂ ◌++◌ (arrival_told_lem (head_of d s Y) G _ _ K i ws r o C) (rows_told_lem Y (r + 1) H _ rows A)
+        ap₂ ◌++◌ (arrival_told_lem (head_of d s Y) G (λ I. SameTree d c I H) (λ ks bs. Unit {0}) K i ws r o C) (rows_told_lem Y (r + 1) H _ rows A)
     rows_told_lem X r G K (reports xs ∷ rows) (S, (H, C, A)) = ap (λ (l : List ℕ). lines_of_report (report_to d X xs) r ++ l) (rows_told_lem X (r + 1) H _ rows A)
     rows_told_lem X r G K (beyond ∷ rows) A = ap (λ (l : List ℕ). refused_line beyond_number r ++ l) (rows_told_lem X (r + 1) G K rows A)
     rows_told_lem X r G K (out_of_form ∷ rows) A = ap (λ (l : List ℕ). refused_line out_number r ++ l) (rows_told_lem X (r + 1) G K rows A)
