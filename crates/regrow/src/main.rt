@@ -108,7 +108,8 @@ fn grow(
         current = left;
         number = batch.number;
         let end = batch.end;
-        if !tell(rt, &out[..end], batch.goes_on)? {
+        let goes_on = tell(rt, &out[..end], batch.goes_on)?;
+        if !goes_on {
             return Ok(());
         }
         match regrow_text::follow(input, text, from, to, batch.read) {
