@@ -1,5 +1,7 @@
 -- What reads leave of an archive's text, and where its first three lines end. Definitions.
-use Rattle.std.specs.Prelude.{◌≡◌, List, ℕ, ◌+◌, ◌≤◌, ◌<◌, length, take, drop}
+use Rattle.std.specs.Prelude.{◌≡◌, List, [], ℕ, ◌+◌, ◌≤◌, ◌<◌, length, take, drop}
+use Rattle.std.specs.declared.option.Option.{Option}
+use Rattle.std.specs.Io.KnownBytes.{Consumes, IsAtEnd}
 use Rattle.text.specs.Pieces.{pieces, PieceEnds}
 use Rattle.regrow_text.specs.declared.More.{More}
 use Rattle.regrow_text.specs.declared.More.TheVariants.{To, Ended, Failed}
@@ -8,7 +10,7 @@ use Rattle.regrow_text.specs.declared.Next.TheVariants.{Part, Ended as NextEnded
 use Rattle.regrow_text.specs.declared.Head.{Head}
 use Rattle.regrow_text.specs.declared.Head.TheVariants.{At, NotThere}
 
--- one byte at least came behind the first k, which are as they were. What came no contract can say.
+-- one byte at least came behind the first k, which are as they were
 pub record Came (k : ℕ) (before : List ℕ) (n : ℕ) (after : List ℕ) : Type 0 where
   pub more : k < n
   pub most : n ≤ length after
@@ -40,6 +42,19 @@ Follows k before NextFailed after = Unit {0}
 -- where a batch read something nothing more is read: what it left is next, where it stands
 abbrev pub Stays : (from to read : ℕ) → List ℕ → Next → List ℕ → Type 0
 Stays from to read before r after = 0 < read → (r ≡ Part (from + read) to) × (after ≡ before)
+
+-- What an input has left, where that is known, begins with what came behind the first k bytes of a text, and loses it: no byte is lost, and none comes twice.
+-- At its end nothing is left, and a read that fails takes nothing.
+abbrev pub Takes : ℕ → Option (List ℕ) → Option (List ℕ) → More → List ℕ → Type 0
+Takes k had has (To n) after = Consumes had has (drop k (take n after))
+Takes k had has Ended after = Consumes had has [] × IsAtEnd has
+Takes k had has Failed after = Consumes had has []
+
+-- the same of what follows a batch that left k bytes
+abbrev pub FollowTakes : ℕ → Option (List ℕ) → Option (List ℕ) → Next → List ℕ → Type 0
+FollowTakes k had has (Part from to) after = Consumes had has (drop (from + k) (take to after))
+FollowTakes k had has NextEnded after = Consumes had has [] × IsAtEnd has
+FollowTakes k had has NextFailed after = Consumes had has []
 
 -- the first three lines of a text end at line feeds, bytes 10, in it
 pub record HeadEnds (text : List ℕ) (a b c : ℕ) : Type 0 where

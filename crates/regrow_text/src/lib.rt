@@ -1,9 +1,10 @@
-// The text of an archive as it comes: one read at a time, behind what is left of the text, which moves to its front. No contract can say what a read brings; each
-// says where it stands, and that what was left is kept.
+// The text of an archive as it comes: one read at a time, behind what is left of the text, which moves to its front. No contract can say what standard input
+// brings; each says where what came stands, that it is what the input had next, where that is known, and that what was left is kept.
 #![tactic(auto)]
 
 ghost use Rattle.std.specs.Prelude.{◌≡◌, ◌+◌, ◌-◌, ◌≤◌, ◌<◌, length, take, drop};
-ghost use Rattle.regrow_text.specs.Reading.{Brings, ReadsOn, Stays, Follows, Heads};
+ghost use Rattle.std.specs.Io.KnownBytes.{Consumes};
+ghost use Rattle.regrow_text.specs.Reading.{Brings, Takes, ReadsOn, Stays, Follows, FollowTakes, Heads};
 
 use std::io::Read;
 
@@ -37,9 +38,11 @@ pub enum Head {
 }
 
 // One read, behind the bytes that are in the text. There is room for one at least, so that a read of none is the archive's end.
-fn read_more(input: &mut impl Read, text: &mut [u8], at: usize) -> More
+fn read_more<R: Read>(input: &mut R, text: &mut [u8], at: usize) -> More
     requires { at < length text.old }
-    ensures { Brings at text.old result text.new }
+    ensures brings { Brings at text.old result text.new }
+    ensures kept { take at text.new ≡ take at text.old }
+    ensures takes { Takes at (R.remaining input.old) (R.remaining input.new) result text.new }
 {
     match input.read(&mut text[at..]) {
         Ok(0) => More::Ended,
@@ -75,12 +78,13 @@ fn is_there(head: Head) -> bool {
     }
 }
 
-// Reads until the first three lines are there, or more bytes than they may have, or no more comes; how many bytes are in the text. Which bytes come is free, and
-// so is what stands in the text beyond them: the logic says nothing of what a read brings.
-// Rules out a count beyond the text, and a wait without end for lines that do not come.
-pub fn read_head(input: &mut impl Read, text: &mut [u8]) -> usize
+// Reads until the first three lines are there, or more bytes than they may have, or no more comes; how many bytes are in the text, which are those that the
+// input had next. What stands in the text beyond them is free.
+// Rules out a count beyond the text, a byte lost, and a wait without end for lines that do not come.
+pub fn read_head<R: Read>(input: &mut R, text: &mut [u8]) -> usize
     requires { 8192 ≤ length text.old }
-    ensures { result ≤ length text.old }
+    ensures within { result ≤ length text.old }
+    ensures takes { Consumes (R.remaining input.old) (R.remaining input.new) (take result text.new) }
 {
     let mut to: usize = 0;
     while to <= HEAD && !is_there(find_head(&text[..to])) {
@@ -116,9 +120,10 @@ fn move_up(text: &mut [u8], from: usize, to: usize) -> usize
 
 // What comes after the bytes between two places, which have no line feed: more of their line, or the archive's end where they are none. A line that is too long,
 // or that the archive ends in, counts as a failure.
-fn read_on(input: &mut impl Read, text: &mut [u8], from: usize, to: usize) -> More
+fn read_on<R: Read>(input: &mut R, text: &mut [u8], from: usize, to: usize) -> More
     requires { (from ≤ to) × (to ≤ length text.old) × (8192 ≤ length text.old) }
-    ensures { ReadsOn (to - from) (drop from text.old) result text.new }
+    ensures reads { ReadsOn (to - from) (drop from text.old) result text.new }
+    ensures takes { Takes (to - from) (R.remaining input.old) (R.remaining input.new) result text.new }
 {
     if to - from > LONGEST {
         return More::Failed;
@@ -138,10 +143,11 @@ fn read_on(input: &mut impl Read, text: &mut [u8], from: usize, to: usize) -> Mo
 
 // What follows a batch that read so many of the bytes between two places: what it left, or where it read none more of the archive.
 // Rules out a wait for more while whole lines are left, and an archive that is cut off within a line taken for one that ends.
-pub fn follow(input: &mut impl Read, text: &mut [u8], from: usize, to: usize, read: usize) -> Next
+pub fn follow<R: Read>(input: &mut R, text: &mut [u8], from: usize, to: usize, read: usize) -> Next
     requires { (from + read ≤ to) × (to ≤ length text.old) × (8192 ≤ length text.old) }
     ensures stays { Stays from to read text.old result text.new }
     ensures follows { Follows (to - (from + read)) (drop (from + read) text.old) result text.new }
+    ensures takes { FollowTakes (to - (from + read)) (R.remaining input.old) (R.remaining input.new) result text.new }
 {
     if read > 0 {
         return Next::Part(from + read, to);
