@@ -1,7 +1,6 @@
 -- `answer` meets its contract, kind by kind. Assumes nothing.
 use mathlib.Core.Path.{◌∙◌}
 use Rattle.replay.proofs.Laws.{all_written, at_0, at_1, at_2, at_3, at_12, at_others}
-use borrow.Author.Rules.{rules}
 use Rattle.replay.proofs.answer.Goals as goal
 
 pub returns-then-kind-eq0 : goal.returns-then-kind-eq0
