@@ -16,9 +16,6 @@ use Rattle.regrow_line.specs.Archive.{rows_of, rows_leave}
 use Rattle.regrow_lines.specs.declared.Batch.{Batch}
 use Rattle.regrow_lines.specs.Batch.{all_in_form, LinesDone}
 use Rattle.regrow_lines.proofs.Joins.{in_parts, form_both}
-use Rattle.regrow_text.specs.declared.Next.{Next}
-use Rattle.regrow_text.specs.declared.Next.TheVariants.{Part}
-use Rattle.regrow_text.specs.Reading.{Left, Follows}
 
 -- lines, all in form, are carried out of X, and the next is row `number`
 pub record Grown (d : ℕ) (s : Float) (X : Sampled (whole d)) (number : ℕ) (tree : SamplerPlusTree) (a : Lent) (points : List (List Float)) (marks : List ℕ) (weights : List Float) (held : List ℕ) : Type 0 where

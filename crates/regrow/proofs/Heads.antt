@@ -2,11 +2,10 @@
 use mathlib.Core.Path.{◌≡◌}
 use mathlib.Core.Option.{Option, none, some}
 use mathlib.Core.List.{List}
-use Prim.Native.Nat.{ℕ, ◌≤◌, ◌<◌}
+use Prim.Native.Nat.{ℕ}
 use native.Mathlib.Omega.{arith}
 use lib.Ieee.{Float}
-use lib.ListN.{length, take, replicate}
-use lib.Seq.{length-take-le}
+use lib.ListN.{replicate}
 use Rattle.limits.specs.Limits.{point_limit}
 use Rattle.layout.specs.Layout.{no_ends}
 use Rattle.pointstore.proofs.Empty.{unwritten}
@@ -16,9 +15,6 @@ use Rattle.samplerplustree.specs.declared.MadeSampled.TheVariants.{Tree}
 use Rattle.samplerplustree.specs.State.{SomeSampled}
 use Rattle.archivehead.specs.Head.{ArchiveMaking}
 use Rattle.archivemaking.specs.Makes.{Room, MadeBy}
-use Rattle.regrow_text.specs.declared.Head.{Head}
-use Rattle.regrow_text.specs.declared.Head.TheVariants.{At}
-use Rattle.regrow_text.specs.Reading.{HeadEnds, Heads}
 
 -- the tree of a making that is not refused, with an unwritten table
 pub some_made : (m : Option ArchiveMaking) (before after : Room) {r : MadeSampled} (h : SamplerPlusTree) → MadeBy m before after r → r ≡ Tree h

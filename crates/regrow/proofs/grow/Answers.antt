@@ -1,15 +1,8 @@
 -- `regrow::grow` is safe and ends: at each turn the tree is what the rows so far leave of the one that was made. Assumes nothing.
-use mathlib.Core.Path.{◌≡◌, refl, sym, ◌∙◌}
-use Prim.Native.Nat.{ℕ, ◌+◌, ◌*◌, ◌≤◌}
+use mathlib.Core.Path.{refl, ◌∙◌}
 use native.Mathlib.Omega.{arith}
-use lib.Ieee.{Float}
-use lib.ListN.{length, length-take, length-drop}
-use lib.Seq.{length-take-le}
-use Rattle.wholetree.specs.Whole.{whole}
-use Rattle.sampledtree.specs.Sampled.{Sampled}
-use Rattle.treestore.specs.Arrays.{lent}
-use Rattle.samplerplustree.specs.State.{SampledState}
-use Rattle.regrow.proofs.Growing.{Grown, made, some_sampled, grown_on, some_end}
+use lib.ListN.{length-take, length-drop}
+use Rattle.regrow.proofs.Growing.{made, some_sampled, grown_on, some_end}
 use Rattle.regrow.proofs.grow.Goals as goal
 
 pub loop-turns-init : goal.loop-turns-init
