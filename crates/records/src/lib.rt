@@ -1,11 +1,10 @@
 // Records of what the Rust answers (crates/replay/RECORDED.md): read from an input, held to what the port answers and counted. Nothing is written.
 #![tactic(auto)]
 
-ghost use Rattle.std.specs.Prelude.{◌≡◌, ◌+◌, ◌<◌, ◌≤◌, true, false, ◌&&◌, [], IfOk, length, drop, ◌==◌, nat_le, nat_lt, slice_index_or, slice_set};
+ghost use Rattle.std.specs.Prelude.{◌≡◌, ◌+◌, ◌<◌, ◌≤◌, true, false, ◌&&◌, [], length, drop, ◌==◌, nat_le, nat_lt, slice_index_or, slice_set};
 ghost use Rattle.records.specs.Agreeing.{agreeing};
 ghost use Rattle.records.specs.Records.{kinds, room, counted, Read, judgement, agreed, no_record};
 
-use std::io;
 use std::io::Read;
 
 // The kinds of records are the numbers below this.
@@ -50,22 +49,14 @@ pub struct Judgement {
     pub same: usize,
 }
 
-// Reads n bytes of an input to the start of a buffer, or fewer where it ends, and gives how many came. Which bytes come is free, and how many, up to n; the
-// bytes from n on stay as they were, also where a read fails.
-fn read_bytes(input: &mut impl Read, bytes: &mut [u8], n: usize) -> io::Result<usize>
+// Reads n bytes of an input to the start of a buffer, and gives how many came. Which bytes come is free, and how many, up to n; the bytes from n
+// on stay as they were.
+fn read_bytes(input: &mut impl Read, bytes: &mut [u8], n: usize) -> usize
     requires { n ≤ length bytes.old }
-    ensures few { IfOk result (λ came. came ≤ n) }
+    ensures few { result ≤ n }
     ensures beyond { drop n bytes.new ≡ drop n bytes.old }
 {
-    let mut came: usize = 0;
-    while came < n {
-        let more = input.read(&mut bytes[came..n])?;
-        if more == 0 {
-            return Ok(came);
-        }
-        came += more;
-    }
-    Ok(came)
+    inputs::read_full(input, &mut bytes[..n])
 }
 
 // No record, and why.
@@ -123,33 +114,32 @@ fn is_head(head: Record) -> bool
 }
 
 // Reads a record, what is given and what was recorded to the start of two buffers; or tells why there is none. Which bytes come is free; of a record that
-// is read whole, the bytes beyond what is given and what was recorded stay as they were. Where there is none, or a read fails, what stands in the buffers is
-// free too.
+// is read whole, the bytes beyond what is given and what was recorded stay as they were. Where there is none, so is what stands in the buffers.
 // Rules out a kind taken that there is not, and a length that has no room.
 pub fn read(
     input: &mut impl Read,
     number: usize,
     given: &mut [u8; ROOM],
     expected: &mut [u8; ROOM],
-) -> io::Result<Record>
-    ensures whole { IfOk result (λ r. r.whole ≡ true → Read r given.old given.new expected.old expected.new) }
-    ensures none { IfOk result (λ r. r.whole ≡ false → r ≡ no_record r.why) }
+) -> Record
+    ensures whole { result.whole ≡ true → Read result given.old given.new expected.old expected.new }
+    ensures none { result.whole ≡ false → result ≡ no_record result.why }
 {
     let mut bytes = [0u8; HEAD];
-    let came = read_bytes(input, &mut bytes, HEAD)?;
+    let came = read_bytes(input, &mut bytes, HEAD);
     if came < HEAD {
-        return Ok(none(stopped(number, came)));
+        return none(stopped(number, came));
     }
     let head = head_of(&bytes);
     if !is_head(head) {
-        return Ok(none(MALFORMED));
+        return none(MALFORMED);
     }
-    let first = read_bytes(input, given, head.size)?;
-    let second = read_bytes(input, expected, head.count)?;
+    let first = read_bytes(input, given, head.size);
+    let second = read_bytes(input, expected, head.count);
     if first + second < head.size + head.count {
-        return Ok(none(SHORT));
+        return none(SHORT);
     }
-    Ok(head)
+    head
 }
 
 // How many bytes at the start of both are the same.

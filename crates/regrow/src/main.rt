@@ -2,7 +2,7 @@
 // and the tree.
 #![tactic(auto)]
 
-ghost use Rattle.std.specs.Prelude.{◌≡◌, true, IfOk, ◌≤◌, ◌<◌, length};
+ghost use Rattle.std.specs.Prelude.{◌≡◌, true, ◌≤◌, ◌<◌, length};
 ghost use Rattle.treestore.specs.Arrays.{lent};
 ghost use Rattle.samplerplustree.specs.State.{SomeSampled};
 ghost use Rattle.archiveend.specs.Prints.{SomeEnd};
@@ -35,11 +35,13 @@ fn refuse(rt: &impl Print, number: usize, row: usize) -> io::Result<()> {
 }
 
 // Writes answers; whether the rows go on, which they do not where an answer can't be written.
-fn tell(rt: &impl Print, answers: &[u8], goes_on: bool) -> io::Result<bool>
-    ensures { IfOk result (λ r. r ≡ true → goes_on ≡ true) }
+fn tell(rt: &impl Print, answers: &[u8], goes_on: bool) -> bool
+    ensures { result ≡ true → goes_on ≡ true }
 {
-    rt.write_all(answers)?;
-    Ok(goes_on)
+    match rt.write_all(answers) {
+        Ok(()) => goes_on,
+        Err(_) => false,
+    }
 }
 
 // The archive's end: the sample and the tree.

@@ -9,10 +9,9 @@ ghost use Rattle.chacha20.specs.Block.{chacha20_block};
 ghost use Rattle.rfc8439.specs.Vectors.{counter_of, holds, holding};
 
 use std::io;
-use std::io::Read;
 
 // So many bytes of standard input are read at most.
-const READ: u64 = 65536;
+const READ: usize = 65536;
 
 // The bytes of a line, without its line feed.
 const LINE: usize = 227;
@@ -111,9 +110,9 @@ fn say(rt: &impl Print, number: usize, word: &str) -> io::Result<()> {
 }
 
 fn main(rt: HostRuntime) -> io::Result<()> {
-    let mut text = Vec::new(rt.alloc());
-    rt.reader().take(READ).read_to_end(&mut text)?;
-    let counts = count(&text);
+    let mut text = [0u8; READ];
+    let come = inputs::read_full(&mut rt.reader(), &mut text);
+    let counts = count(&text[..come]);
     if counts.pieces > 0 {
         say(&rt, counts.pieces - 1, " lines, ")?;
     }

@@ -2,16 +2,15 @@
 #![tactic(auto)]
 
 use std::io;
-use std::io::Read;
 use treelist_text::PRINTED;
 
 // One byte more than a text may have, so that an over-long one is seen.
-const TEXT: u64 = 32769;
+const TEXT: usize = 32769;
 
 fn main(rt: HostRuntime) -> io::Result<()> {
-    let mut text = Vec::new(rt.alloc());
-    rt.reader().take(TEXT).read_to_end(&mut text)?;
+    let mut text = [0u8; TEXT];
+    let n = inputs::read_full(&mut rt.reader(), &mut text);
     let mut out = [0u8; PRINTED];
-    let n = treelist_text::treelist_output(&text, &mut out);
-    rt.write_all(&out[..n])
+    let m = treelist_text::treelist_output(&text[..n], &mut out);
+    rt.write_all(&out[..m])
 }

@@ -1,27 +1,10 @@
--- `read_bytes` meets its contract: what lies beyond the part that is read stays, read by read. Assumes nothing.
-use Rattle.std.proofs.Common.{◌-◌, ◌∙◌, arith, length-take, length-drop}
-use borrow.Rule.Slice.PartMut.{same_len_mid}
-use Rattle.std.proofs.lemmas.Slice.{drop-put_mid}
+-- `read_bytes` meets its contract. Assumes nothing.
+use Rattle.std.proofs.Common.{◌≡◌, length, sym, ◌∙◌, arith, length-take-le, rules}
+use Rattle.records.proofs.Laws.{beyond}
 use Rattle.records.proofs.read_bytes.Goals as goal
 
-pub returns-in_err-more-clause-beyond : goal.returns-in_err-more-clause-beyond
-returns-in_err-more-clause-beyond g c =
-    let l = c.loop-came in
-    let long = simp (length-take, length-drop) at c.read.auto.buf in
-    drop-put_mid l.came (c.args.n - l.came) l.bytes c.read.new.buf c.args.n (omega arith) (omega arith) (omega arith) ∙ l.invariant.beyond
+pub slice_bounds-read_full-end-2 : goal.slice_bounds-read_full-end-2
+slice_bounds-read_full-end-2 g c = sym (length-take-le c.args.n c.args.bytes.now c.requires)
 
-pub returns-then-more-eq0-clause-beyond : goal.returns-then-more-eq0-clause-beyond
-returns-then-more-eq0-clause-beyond g c =
-    let l = c.loop-came in
-    let long = simp (length-take, length-drop) at c.read.auto.buf in
-    drop-put_mid l.came (c.args.n - l.came) l.bytes c.read.new.buf c.args.n (omega arith) (omega arith) (omega arith) ∙ l.invariant.beyond
-
-pub loop-came-preserved : goal.loop-came-preserved
-loop-came-preserved g c =
-    let l = c.loop-came in
-    let long = simp (length-take, length-drop) at c.read.auto.buf in
-    record {
-      within = omega (arith, c.in_ok-more.ensures.bound);
-      room = omega (arith, same_len_mid l.came (c.args.n - l.came) l.bytes c.read.new.buf c.read.auto.buf);
-      beyond = drop-put_mid l.came (c.args.n - l.came) l.bytes c.read.new.buf c.args.n (omega arith) (omega arith) (omega arith) ∙ l.invariant.beyond;
-    }
+pub returns : goal.returns
+returns g c = let w = c.read_full in let l : length w.new.bytes ≡ c.args.n = w.auto.bytes ∙ length-take-le c.args.n c.args.bytes.now c.requires in record { few = omega (arith, w.ensures, length-take-le c.args.n c.args.bytes.now c.requires); beyond = beyond w.new.bytes c.args.bytes.now c.args.n l }
