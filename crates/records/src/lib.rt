@@ -5,7 +5,7 @@ ghost use Rattle.std.specs.Prelude.{◌≡◌, ◌+◌, ◌<◌, ◌≤◌, true
 ghost use Rattle.records.specs.Agreeing.{agreeing};
 ghost use Rattle.records.specs.Records.{kinds, room, counted, Read, judgement, agreed, no_record};
 
-use std::io::Read;
+use std::io;
 
 // The kinds of records are the numbers below this.
 pub const KINDS: usize = 13;
@@ -51,7 +51,7 @@ pub struct Judgement {
 
 // Reads n bytes of an input to the start of a buffer, and gives how many came. Which bytes come is free, and how many, up to n; the bytes from n
 // on stay as they were.
-fn read_bytes(input: &mut impl Read, bytes: &mut [u8], n: usize) -> usize
+fn read_bytes(input: &mut impl io::Read, bytes: &mut [u8], n: usize) -> usize
     requires { n ≤ length bytes.old }
     ensures few { result ≤ n }
     ensures beyond { drop n bytes.new ≡ drop n bytes.old }
@@ -117,7 +117,7 @@ fn is_head(head: Record) -> bool
 // is read whole, the bytes beyond what is given and what was recorded stay as they were. Where there is none, so is what stands in the buffers.
 // Rules out a kind taken that there is not, and a length that has no room.
 pub fn read(
-    input: &mut impl Read,
+    input: &mut impl io::Read,
     number: usize,
     given: &mut [u8; ROOM],
     expected: &mut [u8; ROOM],

@@ -110,8 +110,7 @@ fn grow(
         current = left;
         number = batch.number;
         let end = batch.end;
-        let goes_on = tell(rt, &out[..end], batch.goes_on)?;
-        if !goes_on {
+        if !tell(rt, &out[..end], batch.goes_on) {
             return Ok(());
         }
         match regrow_text::follow(input, text, from, to, batch.read) {

@@ -21,7 +21,7 @@ follow-requires g c = let l = c.loop-turns in
 
 pub finish-requires : goal.finish-requires
 finish-requires g c = let G = c.loop-turns.invariant.5 _ _ _ c.requires.stands.state in
-    some_end (some_sampled (grown_on G (c.carry_lines-batch.ensures.carries _ _ _ G.state) (c.in_ok-goes_on.ensures c.if-not-goes_on.false)))
+    some_end (some_sampled (grown_on G (c.carry_lines-batch.ensures.carries _ _ _ G.state) (c.tell.ensures c.if-not-tell.false)))
 
 pub loop-turns-preserved : goal.loop-turns-preserved
 loop-turns-preserved g c = let l = c.loop-turns in
@@ -34,5 +34,5 @@ loop-turns-preserved g c = let l = c.loop-turns in
       y.auto.out ∙ l.invariant.3,
       omega (arith, l.invariant.0, l.invariant.1, l.invariant.2, l.invariant.4, r, y.ensures.fits.1, c.requires.near.3, c.loop-turns-test.true),
       λ d s X S. let G = l.invariant.5 d s X S in
-          grown_on G (y.ensures.carries d s _ G.state) (c.in_ok-goes_on.ensures c.if-not-goes_on.false),
+          grown_on G (y.ensures.carries d s _ G.state) (c.tell.ensures c.if-not-tell.false),
     )
