@@ -18,7 +18,7 @@ unfolding first
 channel_at g n q c = first g q c n 0
 
 -- The paper's place: 'counted back from the running sum that reached the drawn number, so from the upper end' of the side. The paper's cut lies the fraction
--- backAt / c above the lower end: as much as the running sum with that side in it lies above the number.
+-- back_at / c above the lower end: as much as the running sum with that side in it lies above the number.
 unfoldable pub back_at : (ℕ → ℕ) → ℕ → ℕ → ℕ → ℕ
 unfolding channel_at
 back_at g n q c = sum_to g (channel_at g n q c + 1) * c - q

@@ -16,6 +16,9 @@ use Rattle.regrow_line.specs.Archive.{rows_of, rows_leave}
 use Rattle.regrow_lines.specs.declared.Batch.{Batch}
 use Rattle.regrow_lines.specs.Batch.{all_in_form, LinesDone}
 use Rattle.regrow_lines.proofs.Joins.{in_parts, form_both}
+use Rattle.regrow_text.specs.declared.Next.{Next}
+use Rattle.regrow_text.specs.declared.Next.TheVariants.{Part}
+use Rattle.regrow_text.specs.Reading.{Left, Follows}
 
 -- lines, all in form, are carried out of X, and the next is row `number`
 pub record Grown (d : ℕ) (s : Float) (X : Sampled (whole d)) (number : ℕ) (tree : SamplerPlusTree) (a : Lent) (points : List (List Float)) (marks : List ℕ) (weights : List Float) (held : List ℕ) : Type 0 where
@@ -45,3 +48,6 @@ module _ {d : ℕ} {s : Float} {X : Sampled (whole d)} where
 pub some_end : {tree : SamplerPlusTree} {nodes : List (List ℕ)} {cuts : List Float} {copies : List ℕ} {free : List (List ℕ)} {boxes : List (List (List Float))} {points : List (List Float)} {marks : List ℕ} {weights : List Float} {held : List ℕ}
     → SomeSampled tree (lent nodes cuts copies free boxes) points marks weights held → SomeEnd tree nodes cuts copies weights held
 some_end w = record { lent = _; points = _; marks = _; read = record { nodes_are = refl; cuts_are = refl; copies_are = refl }; state = w }
+
+pub part : {k : ℕ} {before : List ℕ} {r : Next} {after : List ℕ} {from to : ℕ} → Follows k before r after → r ≡ Part from to → Left k before from to after
+part w e = rw e at w

@@ -1,11 +1,12 @@
--- The tree that is made. Laws.
+-- The first three lines and the making: where they stand in the text, and the tree that is made. Laws.
 use mathlib.Core.Path.{◌≡◌}
 use mathlib.Core.Option.{Option, none, some}
 use mathlib.Core.List.{List}
-use Prim.Native.Nat.{ℕ}
+use Prim.Native.Nat.{ℕ, ◌≤◌, ◌<◌}
 use native.Mathlib.Omega.{arith}
 use lib.Ieee.{Float}
-use lib.ListN.{replicate}
+use lib.ListN.{length, take, replicate}
+use lib.Seq.{length-take-le}
 use Rattle.limits.specs.Limits.{point_limit}
 use Rattle.layout.specs.Layout.{no_ends}
 use Rattle.pointstore.proofs.Empty.{unwritten}
@@ -15,6 +16,23 @@ use Rattle.samplerplustree.specs.declared.MadeSampled.TheVariants.{Tree}
 use Rattle.samplerplustree.specs.State.{SomeSampled}
 use Rattle.archivehead.specs.Head.{ArchiveMaking}
 use Rattle.archivemaking.specs.Makes.{Room, MadeBy}
+use Rattle.regrow_text.specs.declared.Head.{Head}
+use Rattle.regrow_text.specs.declared.Head.TheVariants.{At}
+use Rattle.regrow_text.specs.Reading.{HeadEnds, Heads}
+
+pub headed : {text : List ℕ} {h : Head} {a b c : ℕ} → Heads text h → h ≡ At a b c → HeadEnds text a b c
+headed w e = rw e at w
+
+-- in the part of the text that has come
+pub record Within (a b c come : ℕ) : Type 0 where
+  pub first : a < b
+  pub second : b < c
+  pub third : c < come
+
+pub within : (text : List ℕ) {a b c come : ℕ} → come ≤ length text → HeadEnds (take come text) a b c → Within a b c come
+within text {a} {b} {c} {come} h w =
+    let e : length (take come text) ≡ come = length-take-le come text h in
+    record { first = omega (arith, w.second.from); second = omega (arith, w.third.from); third = omega (arith, w.within) }
 
 -- the tree of a making that is not refused, with an unwritten table
 pub some_made : (m : Option ArchiveMaking) (before after : Room) {r : MadeSampled} (h : SamplerPlusTree) → MadeBy m before after r → r ≡ Tree h

@@ -7,4 +7,4 @@ pub slice_bounds-read_full-end-2 : goal.slice_bounds-read_full-end-2
 slice_bounds-read_full-end-2 g c = sym (length-take-le c.args.n c.args.bytes.now c.requires)
 
 pub returns : goal.returns
-returns g c = let w = c.read_full in let l : length w.new.bytes ≡ c.args.n = w.auto.bytes ∙ length-take-le c.args.n c.args.bytes.now c.requires in record { few = omega (arith, w.ensures, length-take-le c.args.n c.args.bytes.now c.requires); beyond = beyond w.new.bytes c.args.bytes.now c.args.n l }
+returns g c = let w = c.read_full in let l : length w.new.bytes ≡ c.args.n = w.auto.bytes ∙ length-take-le c.args.n c.args.bytes.now c.requires in record { few = omega (arith, w.ensures.within, length-take-le c.args.n c.args.bytes.now c.requires); beyond = beyond w.new.bytes c.args.bytes.now c.args.n l }

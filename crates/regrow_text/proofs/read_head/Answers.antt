@@ -1,7 +1,7 @@
 -- `regrow_text::read_head` meets its contract: each read brings a byte at least, and what came is what the input had. Assumes nothing.
 use Rattle.std.proofs.Common.{refl, ◌∙◌, arith}
 use Rattle.std.proofs.KnownBytes.{Consumes-nil}
-use Rattle.regrow_text.proofs.Taking.{takes_more, takes_none}
+use Rattle.inputs.proofs.Taking.{takes_more, takes_none}
 use Rattle.regrow_text.proofs.read_head.Goals as goal
 
 pub loop-to-init : goal.loop-to-init

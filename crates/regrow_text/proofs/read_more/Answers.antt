@@ -1,6 +1,6 @@
 -- `regrow_text::read_more` meets its contract: what the input gave stands behind what was there. Assumes nothing.
 use Rattle.std.proofs.Common.{◌-◌, length, arith}
-use Rattle.regrow_text.proofs.Taking.{behind}
+use Rattle.inputs.proofs.Taking.{behind}
 use Rattle.regrow_text.proofs.read_more.Goals as goal
 
 pub returns-in-Ok-clause-takes : goal.returns-in-Ok-clause-takes
