@@ -5,7 +5,7 @@ use Prim.Native.Nat.{ℕ, zero, suc, ◌+◌, ◌-◌, ◌*◌, ◌≤◌, ◌<�
 use native.Mathlib.Nat.{le_of_suc-le-suc, not-suc-le-zero}
 use native.Mathlib.Omega.{arith}
 use lib.Dec.{eqb, ltb}
-use lib.ListN.{length, get_or, set, length-set, length-append, get_or-append, get_or-eq_default}
+use lib.ListN.{replicate, length, get_or, set, length-set, length-append, get_or-append, get_or-eq_default}
 use lib.Seq.{ext_get_or, get_or-set_same, get_or-set_other, get_or-append-add}
 use borrow.Author.Tests.{eqb-true, eqb-false, ltb-true, ltb-false}
 use Rattle.limits.specs.Limits.{width}
@@ -19,6 +19,18 @@ unfolding filled
 filled_length zero xs = refl
 filled_length (suc n) [] = ap suc (filled_length n [])
 filled_length (suc n) (x ∷ xs) = ap suc (filled_length n xs)
+
+-- zeros at the end of the numbers are the same as none
+filled_zeros : (n k : ℕ) → filled n (replicate k 0) ≡ filled n []
+unfolding filled
+filled_zeros zero k = refl
+filled_zeros (suc n) zero = refl
+filled_zeros (suc n) (suc k) = ap (λ xs. 0 ∷ xs) (filled_zeros n k)
+
+-- the reply of a refusal: its number, and zeros
+pub refused_reply : (r k : ℕ) → r ∷ replicate (2 * width) 0 ≡ filled reply_width (r ∷ replicate k 0)
+unfolding filled
+refused_reply r k = ap (λ xs. r ∷ xs) (sym (filled_zeros (2 * width) k))
 
 filled_at : (n : ℕ) (xs : List ℕ) (i : ℕ) → i < n → get_or (filled n xs) i 0 ≡ get_or xs i 0
 unfolding filled

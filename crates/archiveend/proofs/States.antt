@@ -15,7 +15,7 @@ use Rattle.sampler.proofs.Places.{entries_read}
 use Rattle.wholetree.specs.Whole.{whole}
 use Rattle.sampledtree.specs.Sampled.{Sampled, SampledCall, sampled_after, fresh}
 use Rattle.layout.specs.Layout.{table_of}
-use Rattle.treestore.specs.Arrays.{Lent, arrays_of}
+use Rattle.treestore.specs.Arrays.{NodeStore, arrays_of}
 use Rattle.randomcuttree.specs.State.{cached_by}
 use Rattle.samplerplustree.specs.declared.SamplerPlusTree.{SamplerPlusTree}
 use Rattle.samplerplustree.specs.State.{weights_of, held_of, head_of, SampledState}
@@ -26,7 +26,7 @@ use Rattle.archiveend.specs.Prints.{SomeEnd, PrintsEnd}
 use Rattle.archiveend.proofs.Sizes.{end_fits}
 
 -- ---- a state's sample and tree
-module _ {d : ℕ} {s : Float} {X : Sampled (whole d)} {h : SamplerPlusTree} {a : Lent} {points : List (List Float)} {marks : List ℕ} {weights : List Float} {held : List ℕ} (S : SampledState d s X h a points marks weights held) where
+module _ {d : ℕ} {s : Float} {X : Sampled (whole d)} {h : SamplerPlusTree} {a : NodeStore} {points : List (List Float)} {marks : List ℕ} {weights : List Float} {held : List ℕ} (S : SampledState d s X h a points marks weights held) where
   size_is : h.sampler.current_size ≡ length X.sample
   size_is = ap (λ (x : SamplerPlusTree). x.sampler.current_size) S.head_is
 

@@ -8,7 +8,7 @@ use Rattle.lines.specs.Lines.{digit, decimal_in, decimal, hex, last_number_field
 use Rattle.sampler.specs.Sample.{Entry}
 use Rattle.wholetree.specs.Whole.{whole}
 use Rattle.sampledtree.specs.Sampled.{Sampled}
-use Rattle.treestore.specs.Arrays.{Lent}
+use Rattle.treestore.specs.Arrays.{NodeStore}
 use Rattle.samplerplustree.specs.declared.SamplerPlusTree.{SamplerPlusTree}
 use Rattle.samplerplustree.specs.State.{SampledState}
 use Rattle.printed.specs.Printed.{printed_tree, tree_limit}
@@ -41,5 +41,5 @@ end_limit = 13 + capacity_limit * 14 + tree_limit
 
 -- No sampled tree prints more. Proved in proofs/Sizes.antt.
 abbrev pub EndFits : Type 0
-EndFits = (d : ℕ) (s : Float) (X : Sampled (whole d)) (h : SamplerPlusTree) (a : Lent) (points : List (List Float)) (marks : List ℕ) (weights : List Float) (held : List ℕ)
+EndFits = (d : ℕ) (s : Float) (X : Sampled (whole d)) (h : SamplerPlusTree) (a : NodeStore) (points : List (List Float)) (marks : List ℕ) (weights : List Float) (held : List ℕ)
     → SampledState d s X h a points marks weights held → length (end_lines d X) ≤ end_limit

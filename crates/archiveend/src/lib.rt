@@ -8,9 +8,10 @@ ghost use Rattle.lines.specs.Lines.{Wrote};
 ghost use Rattle.archiveend.specs.End.{entry_line, entry_lines, end_limit};
 ghost use Rattle.archiveend.specs.Prints.{PrintsEnd, SomeEnd};
 
-use limits::{CAPACITY, Copies, Cuts, Held, Nodes, Weights};
+use limits::CAPACITY;
 use listing::TREE;
-use samplerplustree::SamplerPlusTree;
+use samplerplustree::{Sample, SamplerPlusTree};
+use treestore::NodeStore;
 
 // A buffer of so many bytes has room for what any sampled tree prints: `end_limit`.
 pub const END: usize = 13 + CAPACITY * 14 + TREE;
@@ -27,17 +28,15 @@ fn put_entry(out: &mut [u8], at: usize, bits: usize, index: usize) -> usize
 }
 
 // The lines of the first n slots.
-fn put_entries(weights: &Weights, held: &Held, n: usize, out: &mut [u8], at: usize) -> usize
+fn put_entries(sample: &Sample, n: usize, out: &mut [u8], at: usize) -> usize
     requires { (n ≤ capacity_limit) × (at < 10000000000) }
-    ensures wrote { Wrote out.old at (entry_lines (entries_in n weights.now held.now)) result out.new }
+    ensures wrote { Wrote out.old at (entry_lines (entries_in n sample.now.weights sample.now.held)) result out.new }
     ensures few { result ≤ at + 7680 }
 {
     let mut p = at;
-    let mut i: usize = 0;
-    while i < n {
-        let bits = casts::wide32(little::pattern_of(weights[i]));
-        p = put_entry(out, p, bits, casts::wide16(held[i]));
-        i += 1;
+    for i in 0..n {
+        let bits = casts::wide32(little::pattern_of(sample.weights[i]));
+        p = put_entry(out, p, bits, casts::wide16(sample.held[i]));
     }
     p
 }
@@ -46,22 +45,19 @@ fn put_entries(weights: &Weights, held: &Held, n: usize, out: &mut [u8], at: usi
 // Rules out a line for each slot in place of one for each arrival kept, and the tree before the sample.
 pub fn print_end(
     tree: SamplerPlusTree,
-    nodes: &Nodes,
-    cuts: &Cuts,
-    copies: &Copies,
-    weights: &Weights,
-    held: &Held,
+    store: &NodeStore,
+    sample: &Sample,
     out: &mut [u8],
     at: usize,
 ) -> usize
     requires near { at < 1000000000 }
-    requires stands { SomeEnd tree nodes.now cuts.now copies.now weights.now held.now }
-    ensures wrote { PrintsEnd tree nodes.now cuts.now copies.now weights.now held.now at out.old result out.new }
+    requires stands { SomeEnd tree store.now.nodes store.now.cuts store.now.copies sample.now.weights sample.now.held }
+    ensures wrote { PrintsEnd tree store.now.nodes store.now.cuts store.now.copies sample.now.weights sample.now.held at out.old result out.new }
     ensures fits { result ≤ at + end_limit }
 {
     let below = lines::put_bytes(out, at, b"weight index\n");
     let sampler = tree.sampler;
     let kept = casts::wide16(sampler.current_size);
-    let next = put_entries(weights, held, kept, out, below);
-    listing::print_tree(tree.tree, nodes, cuts, copies, out, next)
+    let next = put_entries(sample, kept, out, below);
+    listing::print_tree(tree.tree, store, out, next)
 }

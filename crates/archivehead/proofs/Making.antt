@@ -5,13 +5,11 @@ use mathlib.Core.Option.{none}
 use Prim.Native.Nat.{ℕ, ◌+◌, ◌-◌, ◌≤◌}
 use native.Mathlib.Omega.{arith}
 use lib.ListN.{length, take, drop}
-use Rattle.text.specs.declared.Number.{Number}
 use Rattle.text.specs.Pieces.{pieces_from, PieceEnds}
 use Rattle.text.specs.Numbers.{decimal_of}
 use Rattle.text.proofs.Pieces.{from_first, from_past, own_end}
 use Rattle.form.proofs.Lines.{one, two, three}
-use Rattle.archivehead.specs.declared.MakingLine.{MakingLine}
-use Rattle.archivehead.specs.Head.{archive_making_by, archive_making_of, making_of_line, making_says}
+use Rattle.archivehead.specs.Head.{archive_making_by, archive_making_of, making_of_line}
 
 -- the fields end at x, y, z and w
 module _ (s : List ℕ) {x : ℕ} (wx : PieceEnds 32 s 0 x) where
@@ -39,8 +37,7 @@ module _ (s : List ℕ) {x : ℕ} (wx : PieceEnds 32 s 0 x) where
             let g : w + 1 ≤ length s = omega arith in
             rw (three 32 s wx nx wy ny wz, fourth, from_first 32 s (w + 1) _ g (own_end 32 s (w + 1) g))
 
-        pub making_four : w ≡ length s → {i j k l : Number} → i ≡ decimal_of (take (x - 0) (drop 0 s)) → j ≡ decimal_of (take (y - (x + 1)) (drop (x + 1) s))
-            → k ≡ decimal_of (take (z - (y + 1)) (drop (y + 1) s)) → l ≡ decimal_of (take (w - (z + 1)) (drop (z + 1) s))
-            → (r : MakingLine) → archive_making_by i j k l ≡ making_says r → making_of_line s ≡ making_says r
+        pub making_four : w ≡ length s → making_of_line s ≡ archive_making_by (decimal_of (take (x - 0) (drop 0 s))) (decimal_of (take (y - (x + 1)) (drop (x + 1) s)))
+            (decimal_of (take (z - (y + 1)) (drop (y + 1) s))) (decimal_of (take (w - (z + 1)) (drop (z + 1) s)))
         unfolding archive_making_of
-        making_four h a b c d r e = rw (three 32 s wx nx wy ny wz, fourth, from_past 32 s (w + 1) (omega arith), ← a, ← b, ← c, ← d) e
+        making_four h = rw (three 32 s wx nx wy ny wz, fourth, from_past 32 s (w + 1) (omega arith))

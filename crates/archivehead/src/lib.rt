@@ -2,15 +2,15 @@
 #![tactic(auto)]
 
 ghost use Rattle.std.specs.Prelude.{◌≡◌};
-ghost use Rattle.archivehead.specs.Head.{is_making_names, is_row_names, archive_making_by, making_of_line, making_says};
-
-use text::Number;
+ghost use Rattle.archivehead.specs.Head.{is_making_names, is_row_names, making_of_line, making_says};
 
 // The making's row: channels, capacity, and the cached and the initial share in sixteenths.
-#[derive(Clone, Copy)]
-pub enum MakingLine {
-    Make(u64, u64, u64, u64),
-    NoMaking,
+#[derive(Clone, Copy, Debug, PartialEq, Eq)]
+pub struct MakingLine {
+    pub channels: u64,
+    pub capacity: u64,
+    pub cached: u64,
+    pub initial: u64,
 }
 
 // Whether a line is the first.
@@ -18,7 +18,8 @@ pub enum MakingLine {
 pub fn is_making_names(line: &[u8]) -> bool
     ensures { result ≡ is_making_names line.now }
 {
-    form::same_bytes(line, b"dimensions capacity cache16 initial16")
+    let names: &[u8] = b"dimensions capacity cache16 initial16";
+    line == names
 }
 
 // Whether a line is the third.
@@ -26,51 +27,39 @@ pub fn is_making_names(line: &[u8]) -> bool
 pub fn is_row_names(line: &[u8]) -> bool
     ensures { result ≡ is_row_names line.now }
 {
-    form::same_bytes(line, b"op index rest")
-}
-
-fn making_by(channels: Number, capacity: Number, cached: Number, initial: Number) -> MakingLine
-    ensures { archive_making_by channels capacity cached initial ≡ making_says result }
-{
-    match channels {
-        Number::NoNumber => MakingLine::NoMaking,
-        Number::Is(x) => match capacity {
-            Number::NoNumber => MakingLine::NoMaking,
-            Number::Is(y) => match cached {
-                Number::NoNumber => MakingLine::NoMaking,
-                Number::Is(z) => match initial {
-                    Number::NoNumber => MakingLine::NoMaking,
-                    Number::Is(w) => MakingLine::Make(x, y, z, w),
-                },
-            },
-        },
-    }
+    let names: &[u8] = b"op index rest";
+    line == names
 }
 
 // What the second line is: four numbers, whether the tree takes them or not.
 // Rules out the initial share told as the cached one, and a line of three numbers taken.
-pub fn read_making(line: &[u8]) -> MakingLine
+pub fn read_making(line: &[u8]) -> Option<MakingLine>
     ensures { making_of_line line.now ≡ making_says result }
 {
     let a = text::piece_end(line, 0, 32);
     if a == line.len() {
-        return MakingLine::NoMaking;
+        return None;
     }
     let b = text::piece_end(line, a + 1, 32);
     if b == line.len() {
-        return MakingLine::NoMaking;
+        return None;
     }
     let c = text::piece_end(line, b + 1, 32);
     if c == line.len() {
-        return MakingLine::NoMaking;
+        return None;
     }
     let d = text::piece_end(line, c + 1, 32);
     if d != line.len() {
-        return MakingLine::NoMaking;
+        return None;
     }
-    let channels = form::number_at(line, 0, a);
-    let capacity = form::number_at(line, a + 1, b);
-    let cached = form::number_at(line, b + 1, c);
-    let initial = form::number_at(line, c + 1, d);
-    making_by(channels, capacity, cached, initial)
+    let channels = text::read_number(&line[0..a])?;
+    let capacity = text::read_number(&line[a + 1..b])?;
+    let cached = text::read_number(&line[b + 1..c])?;
+    let initial = text::read_number(&line[c + 1..d])?;
+    Some(MakingLine {
+        channels,
+        capacity,
+        cached,
+        initial,
+    })
 }

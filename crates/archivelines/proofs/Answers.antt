@@ -12,7 +12,8 @@ use lib.Seq.{take-suc, take_all}
 use Rattle.text.specs.Quoted.{bytes}
 use Rattle.lines.specs.Lines.{hex, number_field, refused_line, Wrote}
 use Rattle.lines.proofs.Writes.{then}
-use Rattle.archivelines.specs.Answers.{passed_line, kept_line, evicted_line, report_line, report_lines, arrival_line, answer_lines}
+use Rattle.archivelines.specs.Answers.{passed_line, kept_line, evicted_line, report_line, report_lines, arrival_line, asked_lines, answer_lines}
+use Rattle.archivelines.specs.declared.Asks.{Asks}
 
 -- ---- one row, by its numbers as they are written
 pub row_written : (row : List ℕ) {a b m x : ℕ} {l : List ℕ} {at p : ℕ} {o : List ℕ} → a ≡ get_or row 0 0 → b ≡ get_or row 1 0 → m ≡ get_or row 2 0 → x ≡ get_or row 3 0
@@ -35,9 +36,6 @@ one_more rows i h =
     ap report_lines (ap (λ (j : ℕ). take j rows) (add-one i) ∙ take-suc rows i [] h)
     ∙ lines_append (take i rows) (get_or rows i [] ∷ [])
     ∙ ap (λ (l : List ℕ). report_lines (take i rows) ++ l) (append-nil (report_line (get_or rows i [])))
-
-pub row_start : {l : List ℕ} {at : ℕ} {rows : List (List ℕ)} {n : ℕ} → Writing l at rows n l at 0
-row_start = record { within = omega arith; wrote = record { next = omega arith; left = refl }; few = omega arith }
 
 pub row_step : {l : List ℕ} {at : ℕ} {rows : List (List ℕ)} {n : ℕ} {m : List ℕ} {p i : ℕ} → Writing l at rows n m p i → i < n → n ≤ length rows
     → {q : ℕ} {o : List ℕ} → Wrote m p (report_line (get_or rows i [])) q o → q ≤ p + 84 → Writing l at rows n o q (i + 1)
@@ -72,19 +70,11 @@ module _ (n : List ℕ) (r : ℕ) {l : List ℕ} {at p : ℕ} {o : List ℕ} whe
   unfolding arrival_line
   arrival_evicted e f w = rw (ne_eqb _ _ e, ne_eqb _ _ f) w
 
-  module _ (op : ℕ) (rows : List (List ℕ)) where
-    pub answer_refused : (get_or n 0 0 ≡ 0 → ⊥) → Wrote l at (refused_line (get_or n 0 0) r) p o → Wrote l at (answer_lines op n rows r) p o
+  module _ (x : Asks) (rows : List (List ℕ)) where
+    pub answer_refused : (get_or n 0 0 ≡ 0 → ⊥) → Wrote l at (refused_line (get_or n 0 0) r) p o → Wrote l at (answer_lines x n rows r) p o
     unfolding answer_lines
     answer_refused e w = rw (ne_eqb _ _ e) w
 
-    pub answer_arrival : get_or n 0 0 ≡ 0 → op ≡ 3 → Wrote l at (arrival_line n r) p o → Wrote l at (answer_lines op n rows r) p o
+    pub answer_asked : {y : Asks} → get_or n 0 0 ≡ 0 → x ≡ y → Wrote l at (asked_lines y n rows r) p o → Wrote l at (answer_lines x n rows r) p o
     unfolding answer_lines
-    answer_arrival e f w = rw (e, f) w
-
-    pub answer_report : get_or n 0 0 ≡ 0 → op ≡ 4 → Wrote l at (report_lines (take (get_or n 1 0) rows)) p o → Wrote l at (answer_lines op n rows r) p o
-    unfolding answer_lines
-    answer_report e f w = rw (e, f) w
-
-pub answer_none : (n : List ℕ) (r : ℕ) {l : List ℕ} {at : ℕ} (op : ℕ) (rows : List (List ℕ)) → get_or n 0 0 ≡ 0 → (op ≡ 3 → ⊥) → (op ≡ 4 → ⊥) → Wrote l at (answer_lines op n rows r) at l
-unfolding answer_lines
-answer_none n r {l} {at} op rows e f g = rw (e, ne_eqb _ _ f, ne_eqb _ _ g) (record { next = omega arith; left = refl })
+    answer_asked e f w = rw (e, f) w

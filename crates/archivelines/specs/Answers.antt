@@ -3,6 +3,8 @@ use Rattle.std.specs.Prelude.{◌≡◌, refl, cond, List, [], ◌∷◌, ◌++�
 use Rattle.limits.specs.Limits.{capacity_limit}
 use Rattle.text.specs.Quoted.{bytes}
 use Rattle.lines.specs.Lines.{digit, decimal_in, decimal, hex, number_field, last_number_field, refused_line}
+use Rattle.archivelines.specs.declared.Asks.{Asks}
+use Rattle.archivelines.specs.declared.Asks.TheVariants.{Nothing, Arrival, Report}
 
 -- What became of the arrival of row r: 'not accepted, or the leaf's index and the evicted index if any'.
 unfoldable pub passed_line : (r : ℕ) → List ℕ
@@ -37,10 +39,16 @@ report_lines (x ∷ xs) = report_line x ++ report_lines xs
 unfoldable pub arrival_line : List ℕ → ℕ → List ℕ
 arrival_line n r = cond (eqb (get_or n 1 0) 0) (passed_line r) (cond (eqb (get_or n 1 0) 1) (kept_line (get_or n 2 0) r) (evicted_line (get_or n 2 0) (get_or n 3 0) r))
 
--- THE LINES of the row r of an op, 3 of an arrival and 4 of a report, by its answer's numbers n, the refusal first, and by the lent rows, of which a report has
--- written as many as its second number says. A put that is done prints nothing.
-unfoldable pub answer_lines : (op : ℕ) → List ℕ → List (List ℕ) → (r : ℕ) → List ℕ
-answer_lines op n rows r = cond (eqb (get_or n 0 0) 0) (cond (eqb op 3) (arrival_line n r) (cond (eqb op 4) (report_lines (take (get_or n 1 0) rows)) [])) (refused_line (get_or n 0 0) r)
+-- What is told beside a refusal, by the answer's numbers n and by the lent rows, of which a report has written as many as its second number says. A put that is
+-- done prints nothing.
+abbrev pub asked_lines : Asks → List ℕ → List (List ℕ) → (r : ℕ) → List ℕ
+asked_lines Nothing n rows r = []
+asked_lines Arrival n rows r = arrival_line n r
+asked_lines Report n rows r = report_lines (take (get_or n 1 0) rows)
+
+-- THE LINES of the row r that asks x, by its answer's numbers n, the refusal first, and by the lent rows
+unfoldable pub answer_lines : Asks → List ℕ → List (List ℕ) → (r : ℕ) → List ℕ
+answer_lines x n rows r = cond (eqb (get_or n 0 0) 0) (asked_lines x n rows r) (refused_line (get_or n 0 0) r)
 
 -- 21,504 bytes: a report has at most as many rows as a tree has leaves, and four numbers of 64 bits take at most 84 bytes with their names, spaces and line feed
 abbrev pub answer_limit : ℕ

@@ -11,6 +11,14 @@ use limits::CAPACITY;
 // A buffer of so many bytes has room for the answer of any row: `answer_limit`.
 pub const ANSWER: usize = CAPACITY * 84;
 
+// What a row asks to be told of beside a refusal: a put nothing, an arrival what became of it, a report its rows.
+#[derive(Clone, Copy, Debug, PartialEq, Eq)]
+pub enum Asks {
+    Nothing,
+    Arrival,
+    Report,
+}
+
 // Writes `passed R`.
 fn put_passed(out: &mut [u8], at: usize, row: usize) -> usize
     requires { at < 10000000000 }
@@ -67,51 +75,45 @@ fn put_report(out: &mut [u8], at: usize, rows: &[[u64; 4]], count: usize) -> usi
 {
     let n = casts::at_most(count, rows.len());
     let mut p = at;
-    let mut i: usize = 0;
-    while i < n {
+    for i in 0..n {
         p = put_report_row(out, p, rows[i]);
-        i += 1;
     }
     p
 }
 
-// Writes what became of an arrival, by its numbers.
+// Writes what became of an arrival, by its numbers, which are docs/LAYOUT.md's.
 fn put_arrival(out: &mut [u8], at: usize, numbers: [usize; 4], row: usize) -> usize
     requires { at < 10000000000 }
     ensures wrote { Wrote out.old at (arrival_line numbers row) result out.new }
     ensures few { result ≤ at + 76 }
 {
-    if numbers[1] == 0 {
-        return put_passed(out, at, row);
+    match numbers[1] {
+        0 => put_passed(out, at, row),
+        1 => put_kept(out, at, numbers[2], row),
+        _ => put_evicted(out, at, numbers[2], numbers[3], row),
     }
-    if numbers[1] == 1 {
-        return put_kept(out, at, numbers[2], row);
-    }
-    put_evicted(out, at, numbers[2], numbers[3], row)
 }
 
-// Writes the lines that answer a row, by its op, its answer's numbers and the lent rows; the next place, which is at most `ANSWER` bytes on.
+// Writes the lines that answer a row, by what it asks, its answer's numbers and the lent rows; the next place, which is at most `ANSWER` bytes on.
 // Rules out a report's rows from the root to the leaf, and `passed` printed of a refused arrival.
 pub fn put_answer(
     out: &mut [u8],
     at: usize,
-    op: usize,
+    asks: Asks,
     numbers: [usize; 4],
     rows: &[[u64; 4]; CAPACITY],
     row: usize,
 ) -> usize
     requires { at < 10000000000 }
-    ensures wrote { Wrote out.old at (answer_lines op numbers rows.now row) result out.new }
+    ensures wrote { Wrote out.old at (answer_lines asks numbers rows.now row) result out.new }
     ensures fits { result ≤ at + answer_limit }
 {
     if numbers[0] != 0 {
         return lines::put_refused(out, at, numbers[0], row);
     }
-    if op == 3 {
-        return put_arrival(out, at, numbers, row);
+    match asks {
+        Asks::Nothing => at,
+        Asks::Arrival => put_arrival(out, at, numbers, row),
+        Asks::Report => put_report(out, at, rows, numbers[1]),
     }
-    if op == 4 {
-        return put_report(out, at, rows, numbers[1]);
-    }
-    at
 }

@@ -1,4 +1,5 @@
 -- An arrival's rest by its fields: the weight, and the words in either spelling. Assumes nothing.
+use Rattle.std.specs.Prelude.{unwrap_or}
 use mathlib.Core.Path.{◌≡◌, refl, sym, ap, ◌∙◌}
 use mathlib.Core.Bool.{Bool, true, false}
 use mathlib.Core.List.{List, [], ◌∷◌}
@@ -6,10 +7,10 @@ use Prim.Native.Nat.{ℕ, ◌-◌, ◌≤◌, ◌<◌}
 use lib.ListN.{length, get_or, take, drop, length-map}
 use lib.Seq.{sets}
 use lib.Ieee.{Float, binary32, of_bits}
-use Rattle.text.specs.declared.Number.{Number}
+use Rattle.std.specs.Prelude.{Option}
 use Rattle.text.specs.Pieces.{pieces_from, PieceEnds}
 use Rattle.text.specs.Numbers.{word_of, bits_of}
-use Rattle.text.specs.Fields.{number_or_zero, word_in, words_from}
+use Rattle.text.specs.Fields.{word_in, words_from}
 use Rattle.text.proofs.Pieces.{from_first, from_past}
 use Rattle.text.proofs.Sizes.{bits_small}
 use Rattle.namedwords.specs.Named.{is_named, named_in}
@@ -20,10 +21,10 @@ module _ (s : List ℕ) (k : ℕ) where
   weight_none h = rw (from_past 32 s k h)
 
   module _ {e : ℕ} (h : k ≤ length s) (w : PieceEnds 32 s k e) where
-    pub weight_is : {n : Number} {v : ℕ} {x : Float} → n ≡ bits_of (take (e - k) (drop k s)) → v ≡ number_or_zero n → x ≡ of_bits binary32 v → x ≡ weight_in (pieces_from 32 s k)
+    pub weight_is : {n : Option ℕ} {v : ℕ} {x : Float} → n ≡ bits_of (take (e - k) (drop k s)) → v ≡ unwrap_or n 0 → x ≡ of_bits binary32 v → x ≡ weight_in (pieces_from 32 s k)
     weight_is p q r = rw (r, q, p, from_first 32 s k e h w)
 
-pub bits_fit : (s : List ℕ) {v : ℕ} {n : Number} → n ≡ bits_of s → v ≡ number_or_zero n → v < 4294967296
+pub bits_fit : (s : List ℕ) {v : ℕ} {n : Option ℕ} → n ≡ bits_of s → v ≡ unwrap_or n 0 → v < 4294967296
 bits_fit s e f = rw (f, e) (bits_small s)
 
 -- ---- the words after the weight, where their fields start at m

@@ -6,8 +6,8 @@ use Prim.Native.Nat.{ℕ}
 use native.Mathlib.Omega.{arith}
 use borrow.Author.Tests.{ne_eqb}
 use lib.ListN.{length, drop, length-map}
-use Rattle.text.specs.declared.Number.{Number}
-use Rattle.text.specs.declared.Number.TheVariants.{Is, NoNumber}
+use Rattle.std.specs.Prelude.{Option}
+use Rattle.std.specs.Prelude.{Some, None}
 use Rattle.text.specs.Numbers.{digit_value, digits_from, decimal_of}
 use Rattle.form.specs.Rows.{are_words}
 use Rattle.namedwords.specs.Named.{is_named, row_words, is_beyond}
@@ -16,10 +16,10 @@ use Rattle.archiverow.specs.Rows.{words_in, weight_in, given_in, is_arrival, arr
 use Rattle.archiverow.specs.Spellings.{NamedAsWritten}
 
 -- an arrival by what its rest's fields tell
-told_alike : (n : Number) (ps qs : List (List ℕ)) → is_arrival ps ≡ is_arrival qs → is_beyond (drop 1 ps) ≡ is_beyond (drop 1 qs) → weight_in ps ≡ weight_in qs → given_in (drop 1 ps) ≡ given_in (drop 1 qs)
+told_alike : (n : Option ℕ) (ps qs : List (List ℕ)) → is_arrival ps ≡ is_arrival qs → is_beyond (drop 1 ps) ≡ is_beyond (drop 1 qs) → weight_in ps ≡ weight_in qs → given_in (drop 1 ps) ≡ given_in (drop 1 qs)
     → arrival_by n ps ≡ arrival_by n qs
-told_alike NoNumber ps qs a b w g = refl
-told_alike (Is i) ps qs a b w g = rw (a, b, w, g)
+told_alike None ps qs a b w g = refl
+told_alike (Some i) ps qs a b w g = rw (a, b, w, g)
 
 -- so many fields name no words
 not_named : (xs : List (List ℕ)) → length xs ≡ row_words → is_named xs ≡ false

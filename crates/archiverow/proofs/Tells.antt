@@ -7,8 +7,8 @@ use native.Mathlib.Omega.{arith}
 use borrow.Author.Tests.{eqb-true, eqb-false, leb-true}
 use lib.Dec.{eqb, leb}
 use lib.ListN.{length, take, drop}
-use Rattle.text.specs.declared.Number.{Number}
-use Rattle.text.specs.declared.Number.TheVariants.{Is, NoNumber}
+use Rattle.std.specs.Prelude.{Option}
+use Rattle.std.specs.Prelude.{Some, None}
 use Rattle.text.specs.Pieces.{pieces_from, PieceEnds}
 use Rattle.text.specs.Numbers.{decimal_of}
 use Rattle.text.proofs.Pieces.{own_end}
@@ -32,13 +32,13 @@ module _ (s : List ℕ) (k : ℕ) where
   unless true r h = refl
   unless false r h = h
 
-  told_put : (n : Number) → Told (put_by n (pieces_from 32 s k))
-  told_put NoNumber = refl
-  told_put (Is i) = tested (are_coordinates (pieces_from 32 s k)) _ refl
+  told_put : (n : Option ℕ) → Told (put_by n (pieces_from 32 s k))
+  told_put None = refl
+  told_put (Some i) = tested (are_coordinates (pieces_from 32 s k)) _ refl
 
-  told_arrival : (n : Number) → Told (arrival_by n (pieces_from 32 s k))
-  told_arrival NoNumber = refl
-  told_arrival (Is i) = tested (is_arrival (pieces_from 32 s k)) _ (unless (is_beyond (drop 1 (pieces_from 32 s k))) _ refl)
+  told_arrival : (n : Option ℕ) → Told (arrival_by n (pieces_from 32 s k))
+  told_arrival None = refl
+  told_arrival (Some i) = tested (is_arrival (pieces_from 32 s k)) _ (unless (is_beyond (drop 1 (pieces_from 32 s k))) _ refl)
 
   told_report : (i : List ℕ) → Told (report_by i (pieces_from 32 s k))
   unfolding report_by
@@ -53,9 +53,9 @@ module _ (s : List ℕ) (k : ℕ) where
       go false true c x y z p q r = q
       go false false c x y z p q r = tested c z r
 
-  told : (o : Number) (i : List ℕ) → Told (row_by_number o i (pieces_from 32 s k))
-  told NoNumber i = refl
-  told (Is o) i = told_op o i
+  told : (o : Option ℕ) (i : List ℕ) → Told (row_by_number o i (pieces_from 32 s k))
+  told None i = refl
+  told (Some o) i = told_op o i
 
 pub line_tells : (s : List ℕ) → LineTells s
 unfolding read_line

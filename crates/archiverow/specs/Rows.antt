@@ -1,14 +1,11 @@
 -- What a row of an archive says, for every list of bytes: a put, an arrival or a report on a sampled tree. Definitions.
-use Rattle.std.specs.Prelude.{ℕ, ◌≡◌, refl, List, [], ◌∷◌, map, Bool, false, cond, ◌&&◌, ◌||◌, length, get_or, drop, eqb, leb, Float}
+use Rattle.std.specs.Prelude.{ℕ, ◌≡◌, refl, List, [], ◌∷◌, map, Bool, false, cond, ◌&&◌, ◌||◌, length, get_or, drop, eqb, leb, Float, Option, Some, None, is_some, unwrap_or}
 use Rattle.std.specs.Float.{binary32}
 use Rattle.std.specs.Float.Ieee.{of_bits, of_int}
-use Rattle.text.specs.declared.Number.{Number}
-use Rattle.text.specs.declared.Number.TheVariants.{Is, NoNumber}
 use Rattle.text.specs.Quoted.{bytes}
 use Rattle.text.specs.Pieces.{pieces}
 use Rattle.text.specs.Numbers.{digit_value, digits_from, decimal_of, word_of, bits_of}
 use Rattle.text.specs.Coordinates.{capped, coordinate_of}
-use Rattle.text.specs.Fields.{number_in_form, number_or_zero, coordinate_or_zero}
 use Rattle.form.specs.Rows.{are_coordinates, are_words}
 use Rattle.namedwords.specs.Named.{is_named, is_beyond, named_in}
 
@@ -23,16 +20,16 @@ pub data ArchiveRow : Type 0 where
 
 -- the values of fields: coordinates, and words
 abbrev pub coordinates_in : List (List ℕ) → List Float
-coordinates_in ps = map (λ (p : List ℕ). coordinate_or_zero (coordinate_of p)) ps
+coordinates_in ps = map (λ (p : List ℕ). unwrap_or (coordinate_of p) (of_bits binary32 0)) ps
 
 abbrev pub words_in : List (List ℕ) → List ℕ
-words_in ps = map (λ (p : List ℕ). number_or_zero (word_of p)) ps
+words_in ps = map (λ (p : List ℕ). unwrap_or (word_of p) 0) ps
 
 -- An arrival's rest by its fields: the weight by its bits, +0.0 where there is none; then words, written out or named, the first of them for the starting chance, 0 where
 -- there is none, and the others for the tree.
 abbrev pub weight_in : List (List ℕ) → Float
 weight_in [] = of_bits binary32 0
-weight_in (w ∷ ps) = of_bits binary32 (number_or_zero (bits_of w))
+weight_in (w ∷ ps) = of_bits binary32 (unwrap_or (bits_of w) 0)
 
 abbrev pub given_in : List (List ℕ) → List ℕ
 given_in qs = cond (is_named qs) (named_in qs) (words_in qs)
@@ -47,20 +44,20 @@ arrival_words_in ps = drop 1 (given_in (drop 1 ps))
 unfoldable pub is_arrival : List (List ℕ) → Bool
 is_arrival [] = false
 is_arrival (w ∷ []) = false
-is_arrival (w ∷ x ∷ ps) = number_in_form (bits_of w) && (are_words (x ∷ ps) || is_named (x ∷ ps))
+is_arrival (w ∷ x ∷ ps) = is_some (bits_of w) && (are_words (x ∷ ps) || is_named (x ∷ ps))
 
 -- "a dash where the index would be": one minus sign, byte 45
 unfoldable pub is_dash : List ℕ → Bool
 is_dash s = eqb (length s) 1 && eqb (get_or s 0 0) 45
 
 -- the put, the arrival and the report of the second field and the rest's fields: an index is a number
-abbrev pub put_by : Number → List (List ℕ) → ArchiveRow
-put_by NoNumber ps = out_of_form
-put_by (Is i) ps = cond (are_coordinates ps) (puts i (coordinates_in ps)) out_of_form
+abbrev pub put_by : Option ℕ → List (List ℕ) → ArchiveRow
+put_by None ps = out_of_form
+put_by (Some i) ps = cond (are_coordinates ps) (puts i (coordinates_in ps)) out_of_form
 
-abbrev pub arrival_by : Number → List (List ℕ) → ArchiveRow
-arrival_by NoNumber ps = out_of_form
-arrival_by (Is i) ps = cond (is_arrival ps) (cond (is_beyond (drop 1 ps)) beyond (arrives i (weight_in ps) (chance_in ps) (arrival_words_in ps))) out_of_form
+abbrev pub arrival_by : Option ℕ → List (List ℕ) → ArchiveRow
+arrival_by None ps = out_of_form
+arrival_by (Some i) ps = cond (is_arrival ps) (cond (is_beyond (drop 1 ps)) beyond (arrives i (weight_in ps) (chance_in ps) (arrival_words_in ps))) out_of_form
 
 unfoldable pub report_by : List ℕ → List (List ℕ) → ArchiveRow
 report_by i ps = cond (is_dash i) (cond (are_coordinates ps) (reports (coordinates_in ps)) out_of_form) out_of_form
@@ -70,9 +67,9 @@ report_by i ps = cond (is_dash i) (cond (are_coordinates ps) (reports (coordinat
 unfoldable pub row_by : ℕ → List ℕ → List (List ℕ) → ArchiveRow
 row_by o i ps = cond (eqb o 0) (put_by (decimal_of i) ps) (cond (eqb o 3) (arrival_by (decimal_of i) ps) (cond (eqb o 4) (report_by i ps) out_of_form))
 
-abbrev pub row_by_number : Number → List ℕ → List (List ℕ) → ArchiveRow
-row_by_number NoNumber i ps = out_of_form
-row_by_number (Is o) i ps = row_by o i ps
+abbrev pub row_by_number : Option ℕ → List ℕ → List (List ℕ) → ArchiveRow
+row_by_number None i ps = out_of_form
+row_by_number (Some o) i ps = row_by o i ps
 
 -- Document 01, 'Printed tree': the names line `op index rest`
 unfoldable pub row_of_fields : List (List ℕ) → ArchiveRow

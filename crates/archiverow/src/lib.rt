@@ -2,45 +2,30 @@
 // named. The line is given without its line feed. Coordinates are read by `text::read_coordinates`.
 #![tactic(auto)]
 
-ghost use Rattle.std.specs.Prelude.{◌≡◌, ◌+◌, ◌-◌, ◌≤◌, length, take, drop};
+ghost use Rattle.std.specs.Prelude.{◌≡◌, ◌+◌, ◌≤◌, length};
 ghost use Rattle.std.proofs.lemmas.List.Edits.{sets};
 ghost use Rattle.text.specs.Pieces.{pieces_from};
-ghost use Rattle.text.specs.Numbers.{bits_of};
-ghost use Rattle.archiverow.specs.Rows.{weight_in, chance_in, arrival_words_in, is_arrival, is_dash, put_by, arrival_by, report_by, row_by, row_by_number};
+ghost use Rattle.archiverow.specs.Rows.{weight_in, chance_in, arrival_words_in, is_arrival, is_dash, put_by, arrival_by, report_by, row_by};
 ghost use Rattle.archiverow.specs.Read.{answer_at, read_line};
 
-use text::Number;
+use refusals::Refusal;
 
 // The longest row in form, without its line feed.
 const LONGEST: usize = 8191;
 
-// A row: the index of a put or an arrival, and the place where the fields of the rest start; or an arrival that names words which the stream has not.
-#[derive(Clone, Copy)]
+// A row: the index of a put or an arrival, and the place where the fields of the rest start.
+#[derive(Clone, Copy, Debug, PartialEq, Eq)]
 pub enum Line {
-    Puts(u64, usize),
-    Arrives(u64, usize),
-    Reports(usize),
-    Beyond,
-    OutOfForm,
+    Puts { index: u64, start: usize },
+    Arrives { index: u64, start: usize },
+    Reports { start: usize },
 }
 
-fn bits_at(row: &[u8], start: usize, end: usize) -> Number
-    requires { (start ≤ end) × (end ≤ length row.now) }
-    ensures { result ≡ bits_of (take (end - start) (drop start row.now)) }
+#[tactic(auto, unfolding(crate::specs::Rows::is_dash))]
+fn is_dash(field: &[u8]) -> bool
+    ensures { result ≡ is_dash field.now }
 {
-    let field = &row[start..end];
-    text::read_bits(field)
-}
-
-fn is_dash(row: &[u8], start: usize, end: usize) -> bool
-    requires { (start ≤ end) × (end ≤ length row.now) }
-    ensures { result ≡ is_dash (take (end - start) (drop start row.now)) }
-{
-    let field = &row[start..end];
-    if field.len() != 1 {
-        return false;
-    }
-    field[0] == 45
+    field.len() == 1 && field[0] == b'-'
 }
 
 // Whether the fields from a place on are an arrival's rest.
@@ -55,7 +40,7 @@ fn is_arrival(row: &[u8], start: usize) -> bool
     if end == row.len() {
         return false;
     }
-    if !text::number_in_form(bits_at(row, start, end)) {
+    if text::read_bits(&row[start..end]).is_none() {
         return false;
     }
     let words = end + 1;
@@ -66,97 +51,79 @@ fn is_arrival(row: &[u8], start: usize) -> bool
 }
 
 // The put of an index, and the arrival of one, whose rest starts at a place.
-fn put_line(row: &[u8], index: Number, rest: usize) -> Line
-    requires { rest ≤ length row.now + 1 }
-    ensures { result ≡ answer_at rest (put_by index (pieces_from 32 row.now rest)) }
+fn put_line(row: &[u8], index: Option<u64>, start: usize) -> Result<Line, Refusal>
+    requires { start ≤ length row.now + 1 }
+    ensures { result ≡ answer_at start (put_by index (pieces_from 32 row.now start)) }
 {
     match index {
-        Number::NoNumber => Line::OutOfForm,
-        Number::Is(i) => {
-            if form::all_coordinates(row, rest) {
-                return Line::Puts(i, rest);
-            }
-            Line::OutOfForm
-        }
+        Some(index) if form::all_coordinates(row, start) => Ok(Line::Puts { index, start }),
+        _ => Err(Refusal::OutOfForm),
     }
 }
 
-fn arrival_line(row: &[u8], index: Number, rest: usize) -> Line
-    requires { rest ≤ length row.now + 1 }
-    ensures { result ≡ answer_at rest (arrival_by index (pieces_from 32 row.now rest)) }
+fn arrival_line(row: &[u8], index: Option<u64>, start: usize) -> Result<Line, Refusal>
+    requires { start ≤ length row.now + 1 }
+    ensures { result ≡ answer_at start (arrival_by index (pieces_from 32 row.now start)) }
 {
-    match index {
-        Number::NoNumber => Line::OutOfForm,
-        Number::Is(i) => {
-            if !is_arrival(row, rest) {
-                return Line::OutOfForm;
-            }
-            if namedwords::is_beyond(row, text::after_field(row, rest)) {
-                return Line::Beyond;
-            }
-            Line::Arrives(i, rest)
-        }
+    let Some(index) = index else {
+        return Err(Refusal::OutOfForm);
+    };
+    if !is_arrival(row, start) {
+        return Err(Refusal::OutOfForm);
     }
+    if namedwords::is_beyond(row, text::after_field(row, start)) {
+        return Err(Refusal::PastStream);
+    }
+    Ok(Line::Arrives { index, start })
 }
 
-// The report whose dash stands between two places.
-fn report_line(row: &[u8], start: usize, end: usize) -> Line
-    requires { (start ≤ end) × (end ≤ length row.now) }
-    ensures { result ≡ answer_at (end + 1) (report_by (take (end - start) (drop start row.now)) (pieces_from 32 row.now (end + 1))) }
+// The report whose dash is a field, and whose rest starts at a place.
+#[tactic(auto, unfolding(crate::specs::Rows::report_by))]
+fn report_line(row: &[u8], field: &[u8], start: usize) -> Result<Line, Refusal>
+    requires { start ≤ length row.now + 1 }
+    ensures { result ≡ answer_at start (report_by field.now (pieces_from 32 row.now start)) }
 {
-    if !is_dash(row, start, end) {
-        return Line::OutOfForm;
+    if !is_dash(field) {
+        return Err(Refusal::OutOfForm);
     }
-    let rest = end + 1;
-    if form::all_coordinates(row, rest) {
-        return Line::Reports(rest);
+    if !form::all_coordinates(row, start) {
+        return Err(Refusal::OutOfForm);
     }
-    Line::OutOfForm
+    Ok(Line::Reports { start })
 }
 
-// The row of an op whose second field stands between two places.
-fn line_by_op(row: &[u8], op: u64, start: usize, end: usize) -> Line
-    requires { (start ≤ end) × (end ≤ length row.now) }
-    ensures { result ≡ answer_at (end + 1) (row_by op (take (end - start) (drop start row.now)) (pieces_from 32 row.now (end + 1))) }
-{
-    if op == 0 {
-        return put_line(row, form::number_at(row, start, end), end + 1);
-    }
-    if op == 3 {
-        return arrival_line(row, form::number_at(row, start, end), end + 1);
-    }
-    if op == 4 {
-        return report_line(row, start, end);
-    }
-    Line::OutOfForm
-}
-
-fn line_by_number(row: &[u8], op: Number, start: usize, end: usize) -> Line
-    requires { (start ≤ end) × (end ≤ length row.now) }
-    ensures { result ≡ answer_at (end + 1) (row_by_number op (take (end - start) (drop start row.now)) (pieces_from 32 row.now (end + 1))) }
+// The row of an op and a second field, whose rest starts at a place.
+#[tactic(auto, unfolding(crate::specs::Rows::row_by))]
+fn line_by_op(row: &[u8], op: u64, field: &[u8], start: usize) -> Result<Line, Refusal>
+    requires { start ≤ length row.now + 1 }
+    ensures { result ≡ answer_at start (row_by op field.now (pieces_from 32 row.now start)) }
 {
     match op {
-        Number::NoNumber => Line::OutOfForm,
-        Number::Is(o) => line_by_op(row, o, start, end),
+        0 => put_line(row, text::read_number(field), start),
+        3 => arrival_line(row, text::read_number(field), start),
+        4 => report_line(row, field, start),
+        _ => Err(Refusal::OutOfForm),
     }
 }
 
-// What the row of a line is.
+// What the row of a line is; 17 where it is out of form, and 22 of an arrival that names words which the stream has not.
 // Rules out an arrival with no word for its starting chance taken, and a report with an index taken.
-pub fn read_line(row: &[u8]) -> Line
+pub fn read_line(row: &[u8]) -> Result<Line, Refusal>
     ensures { result ≡ read_line row.now }
 {
     if LONGEST < row.len() {
-        return Line::OutOfForm;
+        return Err(Refusal::OutOfForm);
     }
     let first = text::piece_end(row, 0, 32);
     if first == row.len() {
-        return Line::OutOfForm;
+        return Err(Refusal::OutOfForm);
     }
     let start = first + 1;
     let second = text::piece_end(row, start, 32);
-    let op = form::number_at(row, 0, first);
-    line_by_number(row, op, start, second)
+    let Some(op) = text::read_number(&row[0..first]) else {
+        return Err(Refusal::OutOfForm);
+    };
+    line_by_op(row, op, &row[start..second], second + 1)
 }
 
 // The weight of an arrival's rest that starts at a place, for every bit pattern.
@@ -168,7 +135,7 @@ pub fn read_weight(row: &[u8], start: usize) -> f32
         return 0.0;
     }
     let end = text::piece_end(row, start, 32);
-    let bits = text::number_or_zero(bits_at(row, start, end));
+    let bits = text::read_bits(&row[start..end]).unwrap_or(0);
     little::float_of(bits as u32)
 }
 

@@ -1,4 +1,6 @@
 -- An arrival with the first words of a long list answers and leaves what the arrival with all does, and one that is not taken what it does with any others. Assumes nothing.
+use Rattle.refusals.specs.declared.Refusal.TheVariants as Why
+use Rattle.std.specs.Prelude.{Err}
 use mathlib.Core.Path.{◌≡◌, refl, sym, ap, ◌∙◌}
 use mathlib.Core.Bool.{Bool, true, false, cond, not}
 use mathlib.Core.Option.{Option, none, some}
@@ -18,7 +20,6 @@ use Rattle.cuttree.proofs.Tests.{by-test, clash}
 use Rattle.wholetree.specs.Reading.{Reading}
 use Rattle.wholetree.specs.Whole.{whole}
 use Rattle.sampledtree.specs.Sampled.{Offer, passes, begins, evicts, offer, Sampled, SampledAnswer, admitted, taken, refuse, if_written, arrive, call}
-use Rattle.samplerplustree.specs.declared.Offer.TheVariants as Variants
 use Rattle.samplerplustree.specs.Offers.{said, if_marked, offered}
 use Rattle.samplerplustree.specs.Entering.{takes}
 use Rattle.calls.proofs.Edits.{add_alike}
@@ -51,7 +52,7 @@ module _ (d : ℕ) (X : Sampled (whole d)) (i : ℕ) (w : Float) where
   unfolding offered
   untaken_alike x n first ws t e f = rw (e, f) (go (leb point_limit i) (X.world.table i) (not (is_number w)) (ltb n X.capacity) (offer X.capacity X.initial X.sample w x) t)
     where
-      go : (above : Bool) (row : Option Reading) (bad few : Bool) (o : Offer) → takes (cond above (Variants.Refused 5) (if_marked row (cond bad (Variants.Refused 14) (cond few (Variants.Refused 11) (said o))))) ≡ false
+      go : (above : Bool) (row : Option Reading) (bad few : Bool) (o : Offer) → takes (cond above (Err Why.IndexAbove) (if_marked row (cond bad (Err Why.BadWeight) (cond few (Err Why.FewWords) (said o))))) ≡ false
           → refuse (whole d) X index_above above (if_written (whole d) X row (refuse (whole d) X bad_weight bad (refuse (whole d) X few_words few (taken (whole d) X i w first o))))
           ≡ refuse (whole d) X index_above above (if_written (whole d) X row (refuse (whole d) X bad_weight bad (refuse (whole d) X few_words few (taken (whole d) X i w ws o))))
       go true row bad few o h = refl

@@ -1,4 +1,6 @@
 -- What the second step of an arrival answers and leaves, and the header after it. Assumes nothing.
+use Rattle.refusals.specs.declared.Refusal.{Refusal}
+use Rattle.std.specs.Prelude.{Result, Ok, Err}
 use mathlib.Core.Path.{◌≡◌, refl, sym, ap, ◌∙◌, subst}
 use mathlib.Core.Bool.{true}
 use mathlib.Core.Option.{Option, none, some}
@@ -13,12 +15,13 @@ use Rattle.wholetree.specs.Whole.{whole}
 use Rattle.wholetree.proofs.Laws.{whole_laws}
 use Rattle.sampledtree.specs.Sampled.{Sampled, SampledAnswer, accepted, arrive, call}
 use Rattle.sampledtree.proofs.Admits.{add_admits}
-use Rattle.treestore.specs.Arrays.{Lent}
+use Rattle.treestore.specs.Arrays.{NodeStore}
 use Rattle.samplerplustree.specs.declared.SamplerPlusTree.{SamplerPlusTree}
-use Rattle.samplerplustree.specs.declared.UpdateAnswer.{UpdateAnswer}
+use Rattle.samplerplustree.specs.declared.Accepted.{Accepted}
+use Rattle.std.specs.Prelude as std
 use Rattle.samplerplustree.specs.declared.Remaining.{Remaining}
 use Rattle.samplerplustree.specs.declared.Offer.{Offer}
-use Rattle.samplerplustree.specs.declared.Offer.TheVariants.{Refused, Passes, Begins, Evicts}
+use Rattle.samplerplustree.specs.declared.Offer.TheVariants.{Passes, Begins, Evicts}
 use Rattle.samplerplustree.specs.State.{SampledState, head_of}
 use Rattle.samplerplustree.specs.Updates.{update_says, head_updated}
 use Rattle.samplerplustree.specs.Offers.{offered}
@@ -30,7 +33,7 @@ use Rattle.arrivals.specs.Arrived.{arrival_numbers, EntersBy}
 use Rattle.arrivals.proofs.Alike.{arrive_alike}
 use Rattle.arrivals.proofs.Used.{enough}
 
-module _ (d : ℕ) (s : Float) (X : Sampled (whole d)) (l : Remaining) (a : Lent) (points : List (List Float)) (marks : List ℕ) (weights : List Float) (held : List ℕ) (i : ℕ) (w : Float) (x : ℕ) (ws : List ℕ) where
+module _ (d : ℕ) (s : Float) (X : Sampled (whole d)) (l : Remaining) (a : NodeStore) (points : List (List Float)) (marks : List ℕ) (weights : List Float) (held : List ℕ) (i : ℕ) (w : Float) (x : ℕ) (ws : List ℕ) where
   -- the header after this answer is the sampled world's
   abbrev Headed : SampledAnswer (whole d) × Sampled (whole d) → Type 0
   Headed y = head_updated l.tree (update_says d (head_of d s y.1) y.0) ≡ head_of d s y.1
@@ -40,7 +43,7 @@ module _ (d : ℕ) (s : Float) (X : Sampled (whole d)) (l : Remaining) (a : Lent
   headed_new y j (some e) Y E = subst Headed (sym E) refl
 
   -- the add of an arrival that is taken is never refused
-  headed_taken : (o : Offer) → takes o ≡ true → RemainingState d s X o l a points marks weights held → o ≡ offered d X i w x (length ws) → Headed (call (whole d) X (arrive i w x ws))
+  headed_taken : (o : Result Offer Refusal) → takes o ≡ true → RemainingState d s X o l a points marks weights held → o ≡ offered d X i w x (length ws) → Headed (call (whole d) X (arrive i w x ws))
   headed_taken o t L told =
       let R = ready d X i w ws L.agrees x o told t in
       let S = L.arrays.tree_is in
@@ -48,14 +51,14 @@ module _ (d : ℕ) (s : Float) (X : Sampled (whole d)) (l : Remaining) (a : Lent
       headed_new _ A.leaf_index (evicted_by o X.sample) _ (R.is_call_lem ∙ admitted_as d X i w ws (entries_remaining o X.sample) (evicted_by o X.sample) (Bare.call (whole d) X.capacity (world_remaining d X o) (Bare.add i ws)) A.leaf_index A.words A.answer)
 
   -- any other leaves the header, which the first step left too
-  head_after : (o : Offer) → RemainingState d s X o l a points marks weights held → o ≡ offered d X i w x (length ws) → Headed (call (whole d) X (arrive i w x ws))
-  head_after (Refused n) L told = let (r, m, E) = call_of_lem d X i w ws L.agrees.room x (Refused n) told in subst Headed (sym E) L.arrays.head_is
-  head_after Passes L told = subst Headed (sym (call_of_lem d X i w ws L.agrees.room x Passes told)) L.arrays.head_is
-  head_after Begins L told = headed_taken Begins refl L told
-  head_after Evicts L told = headed_taken Evicts refl L told
+  head_after : (o : Result Offer Refusal) → RemainingState d s X o l a points marks weights held → o ≡ offered d X i w x (length ws) → Headed (call (whole d) X (arrive i w x ws))
+  head_after (Err n) L told = let (r, m, E) = call_of_lem d X i w ws L.agrees.room x (Err n) told in subst Headed (sym E) L.arrays.head_is
+  head_after (Ok Passes) L told = subst Headed (sym (call_of_lem d X i w ws L.agrees.room x (Ok Passes) told)) L.arrays.head_is
+  head_after (Ok Begins) L told = headed_taken (Ok Begins) refl L told
+  head_after (Ok Evicts) L told = headed_taken (Ok Evicts) refl L told
 
-pub enter_does : (l : Remaining) (o : Offer) (a : Lent) (points : List (List Float)) (weights : List Float) (held : List ℕ) (i : ℕ) (w : Float) (first : List ℕ)
-    (r : UpdateAnswer) (b : Lent) (weights' : List Float) (held' : List ℕ) (next : SamplerPlusTree) (reply : List ℕ) (n : ℕ)
+pub enter_does : (l : Remaining) (o : Result Offer Refusal) (a : NodeStore) (points : List (List Float)) (weights : List Float) (held : List ℕ) (i : ℕ) (w : Float) (first : List ℕ)
+    (r : Result (std.Option Accepted) Refusal) (b : NodeStore) (weights' : List Float) (held' : List ℕ) (next : SamplerPlusTree) (reply : List ℕ) (n : ℕ)
     → (length first ≡ n) × EnterDone l o a points weights held i w first r b weights' held' → next ≡ head_updated l.tree r → reply ≡ filled reply_width (arrival_numbers r)
     → (x : ℕ) (ws marks : List ℕ) → length (take capacity_limit ws) ≡ n → EntersBy o n i w x first ws l a points marks weights held next b weights' held' reply
 enter_does l o a points weights held i w first r b weights' held' next reply n (long, D) f g x ws marks m d s X L told used =

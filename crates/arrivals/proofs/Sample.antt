@@ -13,7 +13,7 @@ use Rattle.sampler.specs.Sample.{Entry, entries_in}
 use Rattle.sampler.proofs.Places.{entries_next}
 use Rattle.wholetree.specs.Whole.{whole}
 use Rattle.sampledtree.specs.Sampled.{Sampled}
-use Rattle.treestore.specs.Arrays.{Lent}
+use Rattle.treestore.specs.Arrays.{NodeStore}
 use Rattle.samplerplustree.specs.declared.SamplerPlusTree.{SamplerPlusTree}
 use Rattle.samplerplustree.specs.State.{SampledState}
 use Rattle.answers.specs.Said.{filled}
@@ -61,7 +61,7 @@ slots_filled (suc c) [] (suc m) h =
     let two : suc (suc (2 * c)) ≡ 2 * suc c = omega arith in
     ap {B = List ℕ} (λ l. 0 ∷ 0 ∷ l) (slots_filled c [] m (omega arith)) ∙ ap (λ (n : ℕ). filled n []) two
 
-sample_is : (d : ℕ) (s : Float) (X : Sampled (whole d)) (h : SamplerPlusTree) (a : Lent) (points : List (List Float)) (marks : List ℕ) (weights : List Float) (held : List ℕ)
+sample_is : (d : ℕ) (s : Float) (X : Sampled (whole d)) (h : SamplerPlusTree) (a : NodeStore) (points : List (List Float)) (marks : List ℕ) (weights : List Float) (held : List ℕ)
     → SampledState d s X h a points marks weights held → sample_read h weights held ≡ sample_numbers X.capacity X.sample
 sample_is d s X h a points marks weights held S =
     rw (S.head_is, S.weights_are, S.held_are) (ap {B = List ℕ} (λ l. 0 ∷ length X.sample ∷ l) (slots_filled X.capacity X.sample (capacity_limit - length X.sample) (omega (arith, S.agrees.room, S.tree_is.limits.3))))

@@ -1,4 +1,6 @@
 -- The walk between an arrival's steps: what it leaves of the path, that it tells how many of the words are looked at, and that no others are. Assumes nothing.
+use Rattle.refusals.specs.declared.Refusal.{Refusal}
+use Rattle.std.specs.Prelude.{Result, Ok, Err}
 use mathlib.Core.Path.{◌≡◌, refl, sym, ap, ◌∙◌}
 use mathlib.Core.Bool.{true, false}
 use mathlib.Core.List.{List}
@@ -12,10 +14,10 @@ use Rattle.cuttree.proofs.Tests.{by-test, clash, cond_true, cond_false}
 use Rattle.wholetree.specs.Whole.{whole}
 use Rattle.sampledtree.specs.Sampled.{Sampled, admitted, arrive, call}
 use Rattle.treestore.specs.declared.Found.{Found}
-use Rattle.treestore.specs.Arrays.{Lent}
+use Rattle.treestore.specs.Arrays.{NodeStore}
 use Rattle.samplerplustree.specs.declared.Remaining.{Remaining}
 use Rattle.samplerplustree.specs.declared.Offer.{Offer}
-use Rattle.samplerplustree.specs.declared.Offer.TheVariants.{Refused, Passes, Begins, Evicts}
+use Rattle.samplerplustree.specs.declared.Offer.TheVariants.{Passes, Begins, Evicts}
 use Rattle.samplerplustree.specs.Offers.{offered}
 use Rattle.samplerplustree.specs.Paths.{path_to}
 use Rattle.samplerplustree.specs.Entering.{takes, world_remaining, entries_remaining, RemainingState, path_left, SeesBy}
@@ -28,13 +30,13 @@ use Rattle.arrivals.proofs.Enough.{add_within}
 use Rattle.arrivals.proofs.Alike.{untaken_alike}
 
 -- an offer that doesn't take the arrival evicts nothing
-path_untaken : (d : ℕ) (X : Sampled (whole d)) (o : Offer) (path : List (List ℕ)) → takes o ≡ false → path_left d X o path ≡ path
-path_untaken d X (Refused n) path t = refl
-path_untaken d X Passes path t = refl
-path_untaken d X Begins path t = clash true refl t
-path_untaken d X Evicts path t = clash true refl t
+path_untaken : (d : ℕ) (X : Sampled (whole d)) (o : Result Offer Refusal) (path : List (List ℕ)) → takes o ≡ false → path_left d X o path ≡ path
+path_untaken d X (Err n) path t = refl
+path_untaken d X (Ok Passes) path t = refl
+path_untaken d X (Ok Begins) path t = clash true refl t
+path_untaken d X (Ok Evicts) path t = clash true refl t
 
-module _ {d : ℕ} {s : Float} {X : Sampled (whole d)} {o : Offer} {l : Remaining} {a : Lent} {points : List (List Float)} {marks : List ℕ} {weights : List Float} {held : List ℕ} (L : RemainingState d s X o l a points marks weights held)
+module _ {d : ℕ} {s : Float} {X : Sampled (whole d)} {o : Result Offer Refusal} {l : Remaining} {a : NodeStore} {points : List (List Float)} {marks : List ℕ} {weights : List Float} {held : List ℕ} (L : RemainingState d s X o l a points marks weights held)
     (i : ℕ) (w : Float) (x n : ℕ) (told : o ≡ offered d X i w x n) where
   abbrev W : World (whole d)
   W = world_remaining d X o

@@ -7,7 +7,7 @@ use Rattle.little.specs.Little.{bytes_of}
 use Rattle.sampler.specs.Sample.{Entry, entries_in}
 use Rattle.wholetree.specs.Whole.{whole}
 use Rattle.sampledtree.specs.Sampled.{Sampled}
-use Rattle.treestore.specs.Arrays.{Lent}
+use Rattle.treestore.specs.Arrays.{NodeStore}
 use Rattle.samplerplustree.specs.declared.SamplerPlusTree.{SamplerPlusTree}
 use Rattle.samplerplustree.specs.State.{SampledState}
 use Rattle.answers.specs.Said.{filled}
@@ -34,5 +34,5 @@ sample_read h weights held = 0 ∷ h.sampler.current_size ∷ entry_numbers (ent
 -- world whose state it is. Every other byte stays.
 pub record SampleWritten (h : SamplerPlusTree) (weights : List Float) (held before : List ℕ) (out : ℕ) (after : List ℕ) : Type 0 where
   pub read : after ≡ sets before (4 * out) (bytes_of (sample_read h weights held))
-  pub told : (d : ℕ) (s : Float) (X : Sampled (whole d)) (a : Lent) (points : List (List Float)) (marks : List ℕ) → SampledState d s X h a points marks weights held
+  pub told : (d : ℕ) (s : Float) (X : Sampled (whole d)) (a : NodeStore) (points : List (List Float)) (marks : List ℕ) → SampledState d s X h a points marks weights held
       → after ≡ sets before (4 * out) (bytes_of (sample_numbers X.capacity X.sample))

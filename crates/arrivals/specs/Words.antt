@@ -1,5 +1,6 @@
 -- How many of an arrival's words are looked at. Definitions.
-use Rattle.std.specs.Prelude.{cond, ℕ}
+use Rattle.std.specs.Prelude.{cond, ℕ, Result}
+use Rattle.refusals.specs.declared.Refusal.{Refusal}
 use Rattle.std.proofs.Math.Option.{Option, none, some}
 use Rattle.cuttree.specs.Setting.{Setting}
 use Rattle.cuttree.specs.Tree.{Tree, walk}
@@ -15,5 +16,5 @@ walk_in S (some t) none = 0
 walk_in S (some t) (some p) = walk S t p
 
 -- a word for each node of the walk of its reading, once what the offer evicts is gone; none where the offer doesn't take the arrival
-abbrev pub words_used : (d : ℕ) → Sampled (whole d) → ℕ → Offer → ℕ
+abbrev pub words_used : (d : ℕ) → Sampled (whole d) → ℕ → Result Offer Refusal → ℕ
 words_used d X i o = let W = world_remaining d X o in cond (takes o) (walk_in (whole d) W.tree (W.table i)) 0

@@ -23,7 +23,7 @@ nought_stays : T (stays nought nought nought nought)
 unfolding stays lt
 nought_stays = tt
 
-not_inside : (hi : Float) → inside nought hi nought ≡ false
+pub not_inside : (hi : Float) → inside nought hi nought ≡ false
 unfolding inside lt
 not_inside hi = refl
 

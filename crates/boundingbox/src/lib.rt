@@ -1,12 +1,13 @@
 // The boxes of a random cut tree: their ends, growing, the sum of their sides, and what lies inside. After boundingbox.rs, and `check_strictly_contains` of nodestore.rs.
 #![tactic(auto)]
 
-ghost use Rattle.std.specs.Prelude.{◌≡◌, ◌&&◌, ◌||◌, cond, ◌+◌, ◌-◌, ◌≤◌, min, T};
+ghost use Rattle.std.specs.Prelude.{◌≡◌, ◌&&◌, ◌||◌, cond, ℕ, ◌+◌, ◌-◌, ◌*◌, ◌≤◌, ◌<◌, min, T, Float};
 ghost use Rattle.readings.specs.Coordinate.{is_coordinate, rank};
 ghost use Rattle.limits.specs.Limits.{width};
 ghost use Rattle.boundingbox.specs.Ends.{least, greatest, joined};
 ghost use Rattle.boundingbox.specs.Sides.{gap_of, range_sum};
-ghost use Rattle.boundingbox.specs.Contained.{stays, contains, inside, strictly_contains, inside_to};
+ghost use Rattle.boundingbox.specs.Contained.{stays, contains, inside, strictly_contains};
+ghost use Rattle.boundingbox.specs.Wholes.{sum_to};
 ghost use Rattle.boundingbox.specs.Padding.{Padded};
 
 use limits::{CHANNELS, Row};
@@ -32,8 +33,8 @@ impl BoundingBox {
         ensures lower { result.min_values ≡ joined least first_values.now second_values.now }
         ensures upper { result.max_values ≡ joined greatest second_values.now first_values.now }
     {
-        let min_values = lowered(*first_values, second_values);
-        let max_values = raised(*second_values, first_values);
+        let min_values = moved(*first_values, second_values, least_of);
+        let max_values = moved(*second_values, first_values, greatest_of);
         BoundingBox {
             min_values,
             max_values,
@@ -72,8 +73,8 @@ impl BoundingBox {
         let contained = self.unmoved(minvalues, maxvalues);
         let lower = self.min_values;
         let upper = self.max_values;
-        let min_values = lowered(lower, minvalues);
-        let max_values = raised(upper, maxvalues);
+        let min_values = moved(lower, minvalues, least_of);
+        let max_values = moved(upper, maxvalues, greatest_of);
         let bounding_box = BoundingBox {
             min_values,
             max_values,
@@ -91,10 +92,8 @@ impl BoundingBox {
         let lower = self.min_values;
         let upper = self.max_values;
         let mut held = true;
-        let mut i: usize = 0;
-        while i < CHANNELS {
+        for i in 0..CHANNELS {
             held = and_stays(held, lower[i], upper[i], minvalues[i], maxvalues[i]);
-            i += 1;
         }
         held
     }
@@ -115,10 +114,8 @@ impl BoundingBox {
         let lower = self.min_values;
         let upper = self.max_values;
         let mut sum: f64 = 0.0;
-        let mut channel: usize = 0;
-        while channel < CHANNELS {
-            sum = sum + gap(lower[channel], upper[channel]);
-            channel += 1;
+        for i in 0..CHANNELS {
+            sum = sum + gap(lower[i], upper[i]);
         }
         sum
     }
@@ -131,10 +128,8 @@ impl BoundingBox {
         let lower = self.min_values;
         let upper = self.max_values;
         let mut held = true;
-        let mut i: usize = 0;
-        while i < CHANNELS {
+        for i in 0..CHANNELS {
             held = and_inside(held, dimensions <= i, lower[i], upper[i], point[i]);
-            i += 1;
         }
         held
     }
@@ -156,7 +151,7 @@ pub fn gap(a: f32, b: f32) -> f64
     rise(a, b) as f64
 }
 
-// The lower of two.
+// The lower of two. It and the greater stay two: one body would take the comparison as a closure, and be no shorter.
 // Rules out the greater, and the first whichever is lower.
 pub fn least_of(x: f32, y: f32) -> f32
     ensures { result ≡ least x y }
@@ -172,30 +167,15 @@ pub fn greatest_of(x: f32, y: f32) -> f32
     if x < y { y } else { x }
 }
 
-// Lower ends moved down to `values`.
-fn lowered(ends: Row, values: &Row) -> Row
-    ensures { result ≡ joined least ends values.now }
+// The ends in each channel as `pick` gives them of the old end and the new value.
+fn moved<F: Fn(f32, f32) -> f32>(mut ends: Row, values: &Row, pick: F) -> Row
+    requires { F.IsAlwaysCallable pick }
+    ensures { (f : Float → Float → Float) → ((x y r : Float) → F.post pick x y r → r ≡ f x y) → result ≡ joined f ends values.now }
 {
-    let mut moved = ends;
-    let mut i: usize = 0;
-    while i < CHANNELS {
-        moved[i] = least_of(moved[i], values[i]);
-        i += 1;
+    for i in 0..CHANNELS {
+        ends[i] = pick(ends[i], values[i]);
     }
-    moved
-}
-
-// Upper ends moved up to `values`.
-fn raised(ends: Row, values: &Row) -> Row
-    ensures { result ≡ joined greatest ends values.now }
-{
-    let mut moved = ends;
-    let mut i: usize = 0;
-    while i < CHANNELS {
-        moved[i] = greatest_of(moved[i], values[i]);
-        i += 1;
-    }
-    moved
+    ends
 }
 
 // `held`, and whether growing a side from lo to hi by one from newlo to newhi moves neither end. `&` and not `&&`, so that there is no branch.
@@ -218,37 +198,41 @@ pub fn strictly_holds(low: &Row, high: &Row, point: &Row, dimensions: usize) -> 
     requires padded { (dimensions ≤ width) × (Padded low.now dimensions width) × (Padded point.now dimensions width) }
     ensures { result ≡ strictly_contains low.now high.now point.now (min dimensions width) }
 {
-    inside_count(low, high, point, dimensions) as usize == dimensions
+    let count = sum_by_fours(dimensions, |i| inside_one(low[i], high[i], point[i]));
+    count as usize == dimensions
 }
 
-// In how many channels the point lies strictly inside. A tree of few channels is told by the first, as in padding no point does.
-fn inside_count(low: &Row, high: &Row, point: &Row, dimensions: usize) -> u32
-    requires padded { (dimensions ≤ width) × (Padded low.now dimensions width) × (Padded point.now dimensions width) }
-    ensures { result ≡ inside_to low.now high.now point.now dimensions }
+// The sum of what `of` gives of all channels. A tree of few channels is told by the first, as in padding it gives 0.
+// Rules out a channel below `dimensions` left out, and one counted twice.
+pub fn sum_by_fours<F: Fn(usize) -> u32>(dimensions: usize, of: F) -> u32
+    requires callable { (i : ℕ) → i < width → F.pre of i }
+    requires small { (i r : ℕ) → i < width → F.post of i r → r ≤ 2097152 }
+    ensures { (g : ℕ → ℕ) → ((i r : ℕ) → i < width → F.post of i r → r ≡ g i) → ((i : ℕ) → dimensions ≤ i → i < width → g i ≡ 0) → result ≡ sum_to g width }
 {
-    let eight = inside_four(low, high, point, 0) + inside_four(low, high, point, 4);
+    let eight = sum_of(0, 4, &of) + sum_of(4, 4, &of);
     if dimensions <= 8 {
         return eight;
     }
-    let sixteen = eight + inside_four(low, high, point, 8) + inside_four(low, high, point, 12);
+    let sixteen = eight + sum_of(8, 4, &of) + sum_of(12, 4, &of);
     if dimensions <= 16 {
         return sixteen;
     }
-    let most = sixteen + inside_four(low, high, point, 16) + inside_four(low, high, point, 20);
-    most + inside_four(low, high, point, 24) + inside_four(low, high, point, 28)
+    let most = sixteen + sum_of(16, 4, &of) + sum_of(20, 4, &of);
+    most + sum_of(24, 4, &of) + sum_of(28, 4, &of)
 }
 
-// By how many the count grows in four channels.
-fn inside_four(low: &Row, high: &Row, point: &Row, at: usize) -> u32
-    requires { at + 4 ≤ width }
-    ensures few { result ≤ 4 }
-    ensures grows { inside_to low.now high.now point.now at + result ≡ inside_to low.now high.now point.now (at + 4) }
+// The sum of what `of` gives of `count` channels from `from` on: by how much the sum grows in them.
+// Rules out a channel before `from` added, and the last of them left out.
+pub fn sum_of<F: Fn(usize) -> u32>(from: usize, count: usize, of: &F) -> u32
+    requires room { from + count ≤ width }
+    requires callable { (i : ℕ) → i < width → F.pre of.now i }
+    requires small { (i r : ℕ) → i < width → F.post of.now i r → r ≤ 2097152 }
+    ensures few { result ≤ 2097152 * count }
+    ensures grows { (g : ℕ → ℕ) → ((i r : ℕ) → i < width → F.post of.now i r → r ≡ g i) → sum_to g from + result ≡ sum_to g (from + count) }
 {
     let mut sum: u32 = 0;
-    let mut i: usize = 0;
-    while i < 4 {
-        sum = sum + inside_one(low[at + i], high[at + i], point[at + i]);
-        i += 1;
+    for i in 0..count {
+        sum = sum + of(from + i);
     }
     sum
 }

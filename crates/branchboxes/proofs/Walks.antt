@@ -51,7 +51,7 @@ module _ (d c k : ℕ) (nodes : List (List ℕ)) (points : List (List Float)) (b
           (λ y. let G : PairBox c k (id (whole d) c u) (id (whole d) c l) nodes points boxes r = rw y at F in rw (L.0, L.1) (turned c k nodes points boxes _ _ r G))
 
 module _ {d c k : ℕ} {nodes : List (List ℕ)} {points : List (List Float)} {boxes : List (List (List Float))} {len : ℕ} {t : Tree (whole d)} (path : List (List ℕ)) (p : Reading) (w : Boxed d c k nodes points boxes t) (once : Once d c t) (count : len ≡ walk (whole d) t p) (rows : take len path ≡ trail d c t p)
-    (m : ℕ) (z : 0 < m) (h : m < len) (under : ℕ) (f : under ≡ field path (len - m) 0) (side : ℕ) (g : side ≡ field path (len - 1 - (m - 1)) 1) where
+    (m : ℕ) (z : 0 < m) (h : m < len) (under : ℕ) (f : under ≡ field path (len - m) 0) (side : ℕ) (g : side ≡ field path (len - m) 1) where
   row_is_row : (i j o : ℕ) → i + j + 1 ≡ len → o ≡ field path i 0 → o ≡ id (whole d) c (sub (whole d) t j p)
   row_is_row i j o e n = n ∙ path_node d c p path t (subst (λ (y : ℕ). take y path ≡ trail d c t p) count rows) i j (omega (arith, count))
 
@@ -59,7 +59,8 @@ module _ {d c k : ℕ} {nodes : List (List ℕ)} {points : List (List Float)} {b
   under_is = row_is_row (len - m) (m - 1) under (omega arith) f
 
   side_is : side ≡ id (whole d) c (sibling (whole d) t (m - 1) p)
-  side_is = g ∙ sibling_is d c p t path len (m - 1) count rows (omega arith)
+  side_is = let e : len - m ≡ len - 1 - (m - 1) = omega arith in
+      g ∙ ap (λ (y : ℕ). field path y 1) e ∙ sibling_is d c p t path len (m - 1) count rows (omega arith)
 
   pub both_stand : SomeBoxed c k under nodes points boxes × SomeBoxed c k side nodes points boxes
   both_stand =

@@ -1,4 +1,8 @@
 -- What an add and a delete leave, from what they answered. Assumes nothing.
+use Rattle.std.specs.Prelude.{Result}
+use Rattle.refusals.specs.declared.Refusal.{Refusal}
+use Rattle.randomcuttree.specs.declared.Added.{Added}
+use Rattle.randomcuttree.specs.declared.Deleted.{Deleted}
 use mathlib.Core.Path.{◌≡◌, sym, ap, ◌∙◌, subst}
 use mathlib.Core.List.{List}
 use Prim.Native.Nat.{ℕ, ◌≤◌}
@@ -14,9 +18,7 @@ use Rattle.cuttree.proofs.Tests.{by-test}
 use Rattle.cuttree.proofs.Words.{few_words_lem}
 use Rattle.wholetree.specs.Whole.{whole}
 use Rattle.randomcuttree.specs.declared.RCFTree.{RCFTree}
-use Rattle.randomcuttree.specs.declared.AddAnswer.{AddAnswer}
-use Rattle.randomcuttree.specs.declared.DeleteAnswer.{DeleteAnswer}
-use Rattle.treestore.specs.Arrays.{Lent}
+use Rattle.treestore.specs.Arrays.{NodeStore}
 use Rattle.randomcuttree.specs.State.{State, header_of}
 use Rattle.randomcuttree.specs.Answers.{add_says, header_added, header_deleted, AddDone, DeleteDone}
 use Rattle.randomcuttree.proofs.Headers.{add_header, delete_header}
@@ -32,7 +34,7 @@ module _ (d c : ℕ) (W : World (whole d)) where
       (λ j l. get_or-take capacity_limit ws j 0 (omega (arith, h, l)))
       (λ j l. le-ltb (length (take capacity_limit ws)) j (omega (arith, h, long, l, length-take capacity_limit ws)) ∙ sym (le-ltb (length ws) j (omega (arith, h, long, l)))) W i)
 
-pub add_does : (tree : RCFTree) (a : Lent) (points : List (List Float)) (marks : List ℕ) (i : ℕ) (first : List ℕ) (r : AddAnswer) (b : Lent) (next : RCFTree) (reply : List ℕ)
+pub add_does : (tree : RCFTree) (a : NodeStore) (points : List (List Float)) (marks : List ℕ) (i : ℕ) (first : List ℕ) (r : Result Added Refusal) (b : NodeStore) (next : RCFTree) (reply : List ℕ)
     → AddDone tree a points marks i first r b → next ≡ header_added tree r → reply ≡ filled reply_width (add_numbers r)
     → (ws : List ℕ) → first ≡ take capacity_limit ws → Does (λ d. add i ws) tree a points marks next b points marks reply
 add_does tree a points marks i first r b next reply D f g ws e d c s W S =
@@ -44,7 +46,7 @@ add_does tree a points marks i first r b next reply D f g ws e d c s W S =
       state = subst (λ (y : Answer (whole d) × World (whole d)). State d c s y.1 next b points marks) same (subst (λ t. State d c s (call (whole d) c W (add i first)).1 t b points marks) (sym new) C.state);
     }
 
-pub delete_does : (tree : RCFTree) (a : Lent) (points : List (List Float)) (marks : List ℕ) (i : ℕ) (r : DeleteAnswer) (b : Lent) (next : RCFTree) (reply : List ℕ)
+pub delete_does : (tree : RCFTree) (a : NodeStore) (points : List (List Float)) (marks : List ℕ) (i : ℕ) (r : Result Deleted Refusal) (b : NodeStore) (next : RCFTree) (reply : List ℕ)
     → DeleteDone tree a points marks i r b → next ≡ header_deleted tree r → reply ≡ filled reply_width (delete_numbers r) → Does (λ d. delete i) tree a points marks next b points marks reply
 delete_does tree a points marks i r b next reply D f g d c s W S =
     let C = D d c s W S in

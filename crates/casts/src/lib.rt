@@ -3,6 +3,7 @@
 
 ghost use Rattle.std.specs.Prelude.{◌≡◌, ◌&&◌, ◌<◌, min, leb};
 
+// Not one function over `Into<usize>`: the library has it of u8 and u16 alone, and it tells no bound.
 // Each to `usize`. Each of these rules out the lower bits alone, and any bound that a number of the narrower type breaks.
 pub fn wide8(x: u8) -> usize
     ensures { (result ≡ x) × (x < 256) }
@@ -28,25 +29,6 @@ pub fn wide64(x: u64) -> usize
     x as usize
 }
 
-// To the next wider type, not to `usize`. Each rules out the same.
-pub fn u16_of_u8(x: u8) -> u16
-    ensures { (result ≡ x) × (x < 256) }
-{
-    x as u16
-}
-
-pub fn u32_of_u16(x: u16) -> u32
-    ensures { (result ≡ x) × (x < 65536) }
-{
-    x as u32
-}
-
-pub fn u64_of_u32(x: u32) -> u64
-    ensures { (result ≡ x) × (x < 4294967296) }
-{
-    x as u64
-}
-
 // Whether a number is from `low` to `high`, both counted.
 // Rules out a bound left out, and a number below `low` taken.
 pub fn within(x: usize, low: usize, high: usize) -> bool
@@ -60,5 +42,5 @@ pub fn within(x: usize, low: usize, high: usize) -> bool
 pub fn at_most(n: usize, most: usize) -> usize
     ensures { result ≡ min n most }
 {
-    if n < most { n } else { most }
+    n.min(most)
 }

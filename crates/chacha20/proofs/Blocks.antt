@@ -1,9 +1,24 @@
 -- The sum of block and state number by number, its numbers, and the bytes of numbers read again. Laws.
-use Rattle.std.proofs.Common.{◌≡◌, ℕ, zero, suc, ◌+◌, ◌*◌, ◌/◌, ◌%◌, ◌<◌, List, [], ◌∷◌, ◌++◌, length, get_or, take, drop, set, refl, ap, ◌∙◌, append-nil, arith, drop_of_length-le, length-take-le, take-suc, get_or-append-add}
+use Rattle.std.proofs.Common.{◌≡◌, ℕ, zero, suc, ◌+◌, ◌*◌, ◌/◌, ◌%◌, ◌^◌, ◌<◌, List, [], ◌∷◌, ◌++◌, length, get_or, take, drop, set, refl, sym, ap, ◌∙◌, append-nil, arith, drop_of_length-le, length-take-le, take-suc, get_or-append-add}
 use lib.Seq.{sets, take-length}
 use Rattle.little.specs.Little.{little32, bytes32, bytes_of}
 use Rattle.little.proofs.Stored.{sets_append, sets_start, length_bytes, bytes_append}
+use Rattle.std.specs.Int.Bits.{bit_or, bit_xor}
+use Rattle.std.proofs.Math.Arith.{mod-mul}
+use Rattle.std.proofs.Math.Nat.{mul-mod_left, div-lt_iff_lt-mul}
+use Rattle.std.proofs.lemmas.Nat.{or_shifted, xor_lt}
 use Rattle.chacha20.specs.Block.{plus, added}
+
+-- ---- what is mixed is rolled by k bits: the library joins the two parts by `|`, and no bit is in both
+pub rolled : (k m a b : ℕ) → 0 < m → 0 < 2 ^ k → m * 2 ^ k ≡ 2 ^ 32 → a < 2 ^ 32 → b < 2 ^ 32
+    → let x = bit_xor a b in bit_or (x * 2 ^ k % 2 ^ 32) (x / m) ≡ x * 2 ^ k % 2 ^ 32 + x / m
+rolled k m a b p r e f g =
+    let x = bit_xor a b in
+    let h : x < 2 ^ 32 = xor_lt 32 a b f g in
+    let q = x * 2 ^ k / 2 ^ k % m in
+    let high : x * 2 ^ k % 2 ^ 32 ≡ q * 2 ^ k = ap (λ (n : ℕ). x * 2 ^ k % n) (sym e) ∙ mod-mul (x * 2 ^ k) p r ∙ omega (arith, mul-mod_left x (2 ^ k)) in
+    let low : x / m < 2 ^ k = (div-lt_iff_lt-mul p).1 (omega arith) in
+    rw high (or_shifted q k (x / m) low)
 
 -- ---- one number after another: the first i are added, the others stand as they were
 abbrev pub partly : (i : ℕ) (xs ys : List ℕ) → List ℕ

@@ -17,49 +17,19 @@ pub struct Quarter {
     pub d: u32,
 }
 
-fn sum(a: u32, b: u32) -> u32
-    ensures { result ≡ plus a b }
-{
-    std::num::wrapping_add_u32(a, b)
-}
-
-fn roll_16(x: u32) -> u32
-    ensures { result ≡ roll 16 x }
-{
-    (x << 16) + (x >> 16)
-}
-
-fn roll_12(x: u32) -> u32
-    ensures { result ≡ roll 12 x }
-{
-    (x << 12) + (x >> 20)
-}
-
-fn roll_8(x: u32) -> u32
-    ensures { result ≡ roll 8 x }
-{
-    (x << 8) + (x >> 24)
-}
-
-fn roll_7(x: u32) -> u32
-    ensures { result ≡ roll 7 x }
-{
-    (x << 7) + (x >> 25)
-}
-
 // The quarter round.
 // Rules out a roll by another number of bits, and a number mixed in before it is added to.
 pub fn quarter_round(a: u32, b: u32, c: u32, d: u32) -> Quarter
     ensures { result ≡ quarter_round a b c d }
 {
-    let a1 = sum(a, b);
-    let d1 = roll_16(d ^ a1);
-    let c1 = sum(c, d1);
-    let b1 = roll_12(b ^ c1);
-    let a2 = sum(a1, b1);
-    let d2 = roll_8(d1 ^ a2);
-    let c2 = sum(c1, d2);
-    let b2 = roll_7(b1 ^ c2);
+    let a1 = a.wrapping_add(b);
+    let d1 = (d ^ a1).rotate_left(16);
+    let c1 = c.wrapping_add(d1);
+    let b1 = (b ^ c1).rotate_left(12);
+    let a2 = a1.wrapping_add(b1);
+    let d2 = (d1 ^ a2).rotate_left(8);
+    let c2 = c1.wrapping_add(d2);
+    let b2 = (b1 ^ c2).rotate_left(7);
     Quarter {
         a: a2,
         b: b2,
@@ -80,6 +50,7 @@ fn quarter_at(state: &mut State, x: usize, y: usize, z: usize, w: usize)
     state[w] = q.d;
 }
 
+// These four and the next four differ in their places alone; a function over the places would need them in a table, which says no more.
 fn column_rounds(state: &mut State)
     ensures { state.new ≡ columns state.old }
 {
@@ -98,15 +69,16 @@ fn diagonal_rounds(state: &mut State)
     quarter_at(state, 3, 4, 9, 14);
 }
 
+// Twenty rounds are ten pairs of column and diagonal rounds.
+const PAIRS: usize = 10;
+
 // The twenty rounds.
 fn twenty_rounds(state: &mut State)
     ensures { state.new ≡ inner_blocks 10 state.old }
 {
-    let mut n: usize = 0;
-    while n < 10 {
+    for _ in 0..PAIRS {
         column_rounds(state);
         diagonal_rounds(state);
-        n += 1;
     }
 }
 
@@ -115,10 +87,8 @@ fn add_state(block: &mut [u32], state: &[u32])
     requires { length state.now ≡ length block.old }
     ensures { block.new ≡ added block.old state.now }
 {
-    let mut i: usize = 0;
-    while i < block.len() {
-        block[i] = sum(block[i], state[i]);
-        i += 1;
+    for (i, number) in block.iter_mut().enumerate() {
+        *number = number.wrapping_add(state[i]);
     }
 }
 
@@ -162,18 +132,9 @@ fn put_each(numbers: &[u32], bytes: &mut [u8])
     requires { length bytes.old ≡ 4 * length numbers.now }
     ensures { bytes.new ≡ bytes_of numbers.now }
 {
-    let mut i: usize = 0;
-    while i < numbers.len() {
-        little::put_u32(bytes, 4 * i, casts::wide32(numbers[i]));
-        i += 1;
+    for (i, number) in numbers.iter().enumerate() {
+        little::put_u32(bytes, 4 * i, casts::wide32(*number));
     }
-}
-
-// The same of a block's sixteen.
-fn put_numbers(numbers: &State, bytes: &mut [u8; 64])
-    ensures { bytes.new ≡ bytes_of numbers.now }
-{
-    put_each(numbers, bytes)
 }
 
 // The block of a key, a block counter and a nonce, in bytes.
@@ -184,5 +145,5 @@ pub fn chacha20_block(key: &[u8; 32], counter: u32, nonce: &[u8; 12], block: &mu
     let state = state_of(key, counter, nonce);
     let mut numbers = [0u32; 16];
     block_of(&state, &mut numbers);
-    put_numbers(&numbers, block);
+    put_each(&numbers, block);
 }

@@ -1,5 +1,5 @@
 -- The drawn cut is document 01's, on coordinates: no sum of sides is rounded, and the float loop gives the channel and the rest of the whole numbers. Assumes nothing.
-use Rattle.std.proofs.Common.{◌≡◌, ℕ, zero, suc, ◌+◌, ◌-◌, ◌/◌, ◌^◌, ◌<◌, ◌≤◌, Bool, true, false, not, ◌&&◌, T, eqb, ltb, List, pos, sym, refl, ap, ◌∙◌, subst, true≢false, zero-le, le_trans, le_refl, lt_irrefl, zero-lt-suc, arith, eqb→eq, ltb→lt, leb→le, nltb→le, pow_pos, pow_mono}
+use Rattle.std.proofs.Common.{◌≡◌, ℕ, zero, suc, ◌+◌, ◌-◌, ◌/◌, ◌^◌, ◌<◌, ◌≤◌, Bool, true, false, not, ◌&&◌, T, eqb, ltb, Some, List, pos, sym, refl, ap, ◌∙◌, subst, true≢false, zero-le, le_trans, le_refl, lt_irrefl, zero-lt-suc, arith, eqb→eq, ltb→lt, leb→le, nltb→le, pow_pos, pow_mono}
 use native.Mathlib.Nat.{le-suc}
 use lib.Ieee.{Float, binary64, add, mul, eq, of_int}
 use lib.Ieee.Fits.{and_i, and_l, and_r, eq→eqb}
@@ -17,7 +17,6 @@ use Rattle.boundingbox.specs.Sides.{range_sum}
 use Rattle.boundingbox.specs.Contained.{every, stays, contains}
 use Rattle.boundingbox.specs.Wholes.{side, sum_to}
 use Rattle.boundingbox.proofs.Sums.{nought_is, sum_fits, whole_eq}
-use Rattle.cut.specs.declared.Side.TheVariants.{At}
 use Rattle.cut.specs.Draw.{outside_sum, low_end, high_end, side_of, range_of, side_from, drawn_at, separation}
 use Rattle.cut.specs.Document.{number_drawn, channel_of, rest_of, cut_of, document_cut}
 use Rattle.cut.specs.Laws.{Readings, SumsExact, AsDocument}
@@ -139,11 +138,11 @@ module _ (lo hi p : List Float) (n : ℕ) (R : Readings lo hi p n) where
     number_is = ap (λ (x : Float). mul binary64 x (factor_of w)) all_exact ∙ product_is
 
     -- outside the box, the loop ends in document 01's channel, with document 01's rest
-    pub side_drawn : contains lo hi p p n ≡ false → side_from (side_of lo hi p) n 0 (range_of lo hi p n w) ≡ At (channel_of (low_end lo p) (high_end hi p) n w) (rest_of (low_end lo p) (high_end hi p) n w)
+    pub side_drawn : contains lo hi p p n ≡ false → side_from (side_of lo hi p) n 0 (range_of lo hi p n w) ≡ Some (record { dimension = channel_of (low_end lo p) (high_end hi p) n w; rest = rest_of (low_end lo p) (high_end hi p) n w })
     side_drawn o = rw number_is (side_is (low_end lo p) (high_end hi p) n (stretched lo hi p n R) w W (side_of lo hi p) (side_exact lo hi p n R) (some_side o))
 
     -- so that is the cut that is drawn
-    pub separation_is : contains lo hi p p n ≡ false → separation n lo hi p w ≡ drawn_at lo hi p (At (channel_of (low_end lo p) (high_end hi p) n w) (rest_of (low_end lo p) (high_end hi p) n w))
+    pub separation_is : contains lo hi p p n ≡ false → separation n lo hi p w ≡ Some (drawn_at lo hi p (record { dimension = channel_of (low_end lo p) (high_end hi p) n w; rest = rest_of (low_end lo p) (high_end hi p) n w }))
     unfolding separation
     separation_is o = rw (outside_is, o, side_drawn o) refl
 

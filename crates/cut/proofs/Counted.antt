@@ -1,5 +1,5 @@
 -- The side that is cut, told by sums of whole sides: before it stand as many channels as there are sums that lie below the bound, counted by fours and then in one. Assumes nothing.
-use Rattle.std.proofs.Common.{◌≡◌, ℕ, ◌+◌, ◌-◌, ◌*◌, ◌/◌, ◌^◌, ◌<◌, ◌≤◌, min, false, not, T, eqb, ltb, leb, ◌⊎◌, List, get_or, pos, sym, refl, ap, ◌∙◌, subst, inl, inr, le_trans, le_of_eq, le_refl, le_of_lt, lt_irrefl, mul-le-mul_right, zero-add, arith, eqb→eq, leb→le, pow_mono}
+use Rattle.std.proofs.Common.{◌≡◌, ℕ, ◌+◌, ◌-◌, ◌*◌, ◌/◌, ◌^◌, ◌<◌, ◌≤◌, min, false, not, Option, Some, None, T, eqb, ltb, leb, ◌⊎◌, List, get_or, pos, sym, refl, ap, ◌∙◌, subst, inl, inr, le_trans, le_of_eq, le_refl, le_of_lt, lt_irrefl, mul-le-mul_right, zero-add, arith, eqb→eq, leb→le, pow_mono}
 use lib.Dec.{nleb→lt}
 use lib.Ieee.{Float, binary64, round, sub, mul, of_int}
 use lib.Ieee.Bits.{is_true}
@@ -16,7 +16,7 @@ use Rattle.boundingbox.specs.Contained.{contains, count_of}
 use Rattle.boundingbox.specs.Wholes.{Box, side, sum_to}
 use Rattle.boundingbox.proofs.Sums.{side_le, sum_fits}
 use Rattle.cut.specs.declared.Side.{Side}
-use Rattle.cut.specs.declared.Side.TheVariants.{At, Nowhere}
+use Rattle.std.specs.Option.{option_map}
 use Rattle.cut.specs.Paper.{rest_at}
 use Rattle.cut.specs.Draw.{low_end, high_end, side_of, range_of, drawn_at, separation}
 use Rattle.cut.specs.Document.{number_drawn, channel_of, rest_of}
@@ -34,16 +34,16 @@ use Rattle.cut.proofs.Turns.{reached_below}
 use Rattle.cut.proofs.Sums.{fours_same, under_same, count_is, fours_few, fours_some, fours_all}
 
 -- ---- the side that is cut makes the cut
-module _ (lo hi p : List Float) (n w : ℕ) (R : Readings lo hi p n) (s : Side) (e : s ≡ side_cut lo hi p n w) where
-  pub cut_told : separation n lo hi p w ≡ drawn_at lo hi p s
+module _ (lo hi p : List Float) (n w : ℕ) (R : Readings lo hi p n) (s : Option Side) (e : s ≡ side_cut lo hi p n w) where
+  pub cut_told : separation n lo hi p w ≡ option_map (drawn_at lo hi p) s
   unfolding separation side_cut drawn_at
   cut_told = rw (e, outside_is lo hi p n R) (by-test (contains lo hi p p n) (λ t. rw t refl) (λ t. rw t refl))
 
-  pub cut_below : (i : ℕ) (rest : Float) → s ≡ At i rest → i < n
+  pub cut_below : (x : Side) → s ≡ Some x → x.dimension < n
   unfolding side_cut
-  cut_below i rest f = by-test (contains lo hi p p n) (λ t. absurd (none (rw t at (sym e ∙ f)))) (λ t. subst (λ (m : ℕ). i < m) (zero-add n) (reached_below (side_of lo hi p) n 0 (range_of lo hi p n w) i rest (rw t at (sym e ∙ f))))
+  cut_below x f = by-test (contains lo hi p p n) (λ t. absurd (none (rw t at (sym e ∙ f)))) (λ t. subst (λ (m : ℕ). x.dimension < m) (zero-add n) (reached_below (side_of lo hi p) n 0 (range_of lo hi p n w) x (rw t at (sym e ∙ f))))
     where
-      none : Nowhere ≡ At i rest → ⊥
+      none : None ≡ Some x → ⊥
       none z = let y : ◌≡◌ {A = ℕ} 0 1 = cc in omega arith
 
 -- ---- the sums of a box of coordinates, and a bound of the number drawn
@@ -134,7 +134,7 @@ module _ (lo hi p : List Float) (R : Readings lo hi p width) (w : ℕ) (W : w < 
         go : (a b s : ℕ) → a + b ≡ s → eqb s b ≡ eqb a 0
         go a b s e = eqb_iff s b a 0 (λ h. omega arith) (λ h. omega arith)
 
-    pub none_cut : get_or sums 8 0 ≡ own-sum → Nowhere ≡ side_cut lo hi p width w
+    pub none_cut : get_or sums 8 0 ≡ own-sum → None ≡ side_cut lo hi p width w
     unfolding side_cut
     none_cut e = rw (sym held_is ∙ is_true _ (eq→eqb e))
 
@@ -203,6 +203,6 @@ module _ (lo hi p : List Float) (R : Readings lo hi p width) (w : ℕ) (W : w < 
         pub count_fits : 4 * four + count < width
         count_fits = rw channel_told (channel_below (low_end lo p) (high_end hi p) width B w W P)
 
-        pub side_told : At (4 * four + count) (sub binary64 (mul binary64 (of_int binary64 (pos (get_or sums 8 0))) f) (of_int binary64 (pos sum))) ≡ side_cut lo hi p width w
+        pub side_told : Some (record { dimension = 4 * four + count; rest = sub binary64 (mul binary64 (of_int binary64 (pos (get_or sums 8 0))) f) (of_int binary64 (pos sum)) }) ≡ side_cut lo hi p width w
         unfolding side_cut
         side_told = rw (o, number_told, U.summed, channel_told, rest_left (low_end lo p) (high_end hi p) width B w W P) (sym (side_drawn lo hi p width R w W o))

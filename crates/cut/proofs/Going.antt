@@ -1,5 +1,5 @@
 -- The loop that takes the sides off the number: each step is exact, so it goes as the whole numbers do, and it ends in a side. Assumes nothing.
-use Rattle.std.proofs.Common.{◌≡◌, ℕ, zero, suc, ◌+◌, ◌-◌, ◌*◌, ◌%◌, ◌^◌, ◌<◌, ◌≤◌, Bool, true, false, cond, ◌&&◌, T, eqb, ltb, leb, ◌⊎◌, ℤ, pos, negsuc, sym, refl, ap, ◌∙◌, subst, inl, inr, true≢false, zero-le, le_trans, le_of_eq, lt_of_le_of_lt, add-zero, le_of_lt, zero-lt-suc, add-mul, eq-zero-or-pos, one-mul, zero-mul, mul-one, arith, eqb→eq, ltb→lt, leb→le, pow_pos, pow-add}
+use Rattle.std.proofs.Common.{Some, ◌≡◌, ℕ, zero, suc, ◌+◌, ◌-◌, ◌*◌, ◌%◌, ◌^◌, ◌<◌, ◌≤◌, Bool, true, false, cond, ◌&&◌, T, eqb, ltb, leb, ◌⊎◌, ℤ, pos, negsuc, sym, refl, ap, ◌∙◌, subst, inl, inr, true≢false, zero-le, le_trans, le_of_eq, lt_of_le_of_lt, add-zero, le_of_lt, zero-lt-suc, add-mul, eq-zero-or-pos, one-mul, zero-mul, mul-one, arith, eqb→eq, ltb→lt, leb→le, pow_pos, pow-add}
 use native.Mathlib.Nat.{sub-zero}
 use lib.Dec.{nleb→lt}
 use lib.Ieee.{Float, nan, inf, fin, binary64, up, down, round, sub, lt, le, fits, of_int}
@@ -14,7 +14,6 @@ use Rattle.readings.proofs.Wholes.{of_int_value}
 use Rattle.readings.specs.Number.{nought}
 use Rattle.boundingbox.specs.Wholes.{sum_to}
 use Rattle.boundingbox.proofs.Sums.{sum_to_next}
-use Rattle.cut.specs.declared.Side.TheVariants.{At}
 use Rattle.cut.specs.Paper.{falls, first}
 use Rattle.cut.specs.Draw.{reaches, left_of, side_from}
 use Rattle.cut.proofs.First.{Short, falls_wide, falls_thin, short_next, never}
@@ -157,7 +156,7 @@ module _ (g : ℕ → ℕ) (q k : ℕ) where
 
   -- the loop gives the first channel to which the number falls, and what is left of the number there
   pub found : (h : ℕ → Float) (N : ℕ) → ((j : ℕ) → j < N → (h j ≡ of_int binary64 (pos (g j))) × (g j ≤ 2 ^ 53)) → q ≤ sum_to g N * 2 ^ k → 0 < sum_to g N →
-      (n i : ℕ) (r : Float) → i + n ≡ N → Going g q k i r → side_from h n i r ≡ At (first g q (2 ^ k) n i) (round binary64 false (q - sum_to g (first g q (2 ^ k) n i) * 2 ^ k) (2 ^ k))
+      (n i : ℕ) (r : Float) → i + n ≡ N → Going g q k i r → side_from h n i r ≡ Some (record { dimension = first g q (2 ^ k) n i; rest = round binary64 false (q - sum_to g (first g q (2 ^ k) n i) * 2 ^ k) (2 ^ k) })
   unfolding side_from first
   found h N H Q P zero i r e G = absurd (never g q (2 ^ k) N (subst (Short g q (2 ^ k)) e' G.short) Q P)
     where
@@ -169,5 +168,5 @@ module _ (g : ℕ → ℕ) (q k : ℕ) where
       let L = (H i l).1 in
       let R : reaches r (h i) ≡ falls g q (2 ^ k) i = ap (reaches r) (H i l).0 ∙ reaches_is i r G L in
       by-test (falls g q (2 ^ k) i)
-      (λ t. rw (R, t) (ap (At i) G.is))
+      (λ t. rw (R, t) (ap (λ (x : Float). Some (record { dimension = i; rest = x })) G.is))
       (λ t. rw (R, t) (found h N H Q P n (i + 1) (left_of r (h i)) m (subst (λ (x : Float). Going g q k (i + 1) (left_of r x)) (sym (H i l).0) (going_on i r G L t))))

@@ -1,12 +1,11 @@
 -- The number that a word draws for a box of coordinates: at most the sum of the sides, and exact in its own fraction, so that the channel and the rest are those of whole numbers. Assumes nothing.
-use Rattle.std.proofs.Common.{◌≡◌, ℕ, ◌-◌, ◌*◌, ◌/◌, ◌^◌, ◌<◌, ◌≤◌, false, T, pos, sym, ap, ◌∙◌, subst, le_trans, le_of_eq, le_refl, le_of_lt, mul-le-mul_right, zero-add, mul_right_comm, le_of_mul-le-mul_right, leb→le, pow_pos, pow_mono}
+use Rattle.std.proofs.Common.{Some, ◌≡◌, ℕ, ◌-◌, ◌*◌, ◌/◌, ◌^◌, ◌<◌, ◌≤◌, false, T, pos, sym, ap, ◌∙◌, subst, le_trans, le_of_eq, le_refl, le_of_lt, mul-le-mul_right, zero-add, mul_right_comm, le_of_mul-le-mul_right, leb→le, pow_pos, pow_mono}
 use lib.Ieee.{Float, binary64, round, fits, of_int}
 use lib.Ieee.Fits.{round-fits}
 use lib.Ieee.Positive.{num, den, value→cross}
 use Rattle.readings.proofs.Words.{upper_bits}
 use Rattle.boundingbox.proofs.Sums.{side_le, sum_fits}
 use Rattle.boundingbox.specs.Wholes.{Box, side, sum_to}
-use Rattle.cut.specs.declared.Side.TheVariants.{At}
 use Rattle.cut.specs.Paper.{first, channel_at, rest_at}
 use Rattle.cut.specs.Draw.{side_from}
 use Rattle.cut.specs.Document.{number_drawn, channel_of, rest_of}
@@ -45,10 +44,10 @@ module _ (lo hi : ℕ → Float) (n : ℕ) (B : Box lo hi n) (w : ℕ) (W : w < 
   own = own_range S S-le N _ _ number_fits (first_range S (w / 2 ^ 11) S-le (le_of_lt (upper_bits w W))).value number_most
 
   -- where some side is not zero, the loop ends in a side: document 01's channel, with document 01's rest
-  pub side_is : (h : ℕ → Float) → ((j : ℕ) → j < n → h j ≡ of_int binary64 (pos (side lo hi j))) → 0 < S → side_from h n 0 N ≡ At (channel_of lo hi n w) (rest_of lo hi n w)
+  pub side_is : (h : ℕ → Float) → ((j : ℕ) → j < n → h j ≡ of_int binary64 (pos (side lo hi j))) → 0 < S → side_from h n 0 N ≡ Some (record { dimension = channel_of lo hi n w; rest = rest_of lo hi n w })
   unfolding channel_of rest_of channel_at rest_at
   side_is h H P =
       let Q : num N ≤ S * 2 ^ expo N = subst (λ (c : ℕ). num N ≤ S * c) (den_is N) number_most in
       found g (num N) (expo N) h n (λ j l. (H j l, le_trans (side_le lo hi n B j l) (leb→le 2097152 (2 ^ 53) tt))) Q P n 0 N (zero-add n)
       (start g (num N) (expo N) N own.0 (range_is N (num N) (expo N) number_fits own.0 own.1))
-      ∙ ap (λ (c : ℕ). At (first g (num N) c n 0) (round binary64 false (num N - sum_to g (first g (num N) c n 0) * c) c)) (sym (den_is N))
+      ∙ ap (λ (c : ℕ). Some (record { dimension = first g (num N) c n 0; rest = round binary64 false (num N - sum_to g (first g (num N) c n 0) * c) c })) (sym (den_is N))

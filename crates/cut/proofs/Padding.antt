@@ -1,5 +1,5 @@
 -- Channels that hold +0.0 in box and point change no cut. Assumes nothing.
-use Rattle.std.proofs.Common.{◌≡◌, ℕ, zero, suc, ◌+◌, ◌-◌, ◌*◌, ◌/◌, ◌^◌, ◌<◌, ◌≤◌, Bool, true, false, cond, List, sym, refl, ap, ◌∙◌, subst, le_trans, le_refl, arith}
+use Rattle.std.proofs.Common.{◌≡◌, ℕ, zero, suc, ◌+◌, ◌-◌, ◌*◌, ◌/◌, ◌^◌, ◌<◌, ◌≤◌, Bool, true, false, cond, Some, List, sym, refl, ap, ◌∙◌, subst, le_trans, le_refl, arith}
 use native.Mathlib.Nat.{sub_self}
 use lib.Ieee.{Float, binary64, round, lt}
 use lib.Ieee.Positive.{num, den}
@@ -12,7 +12,6 @@ use Rattle.boundingbox.specs.Wholes.{side, sum_to}
 use Rattle.boundingbox.proofs.Sums.{sum_padded}
 use Rattle.boundingbox.proofs.Padding.{padded_contains}
 use Rattle.cut.specs.declared.Cut.{Cut}
-use Rattle.cut.specs.declared.Separation.TheVariants.{Drawn}
 use Rattle.cut.specs.Paper.{falls, first, channel_at, rest_at}
 use Rattle.cut.specs.Draw.{low_end, high_end, parts_at, separation}
 use Rattle.cut.specs.Document.{number_drawn, channel_of, rest_of, cut_of, document_cut}
@@ -110,7 +109,7 @@ module _ (d k : ℕ) (lo hi p : List Float) (Z : Padded lo hi p d (d + k)) (R : 
 
   documents : (w : ℕ) → w < 2 ^ 64 → document_cut (d + k) lo hi p w ≡ document_cut d lo hi p w
   unfolding document_cut
-  documents w W = rw held (by-test (contains lo hi p p d) (λ t. rw t refl) (λ t. rw t (ap (λ (c : Cut). Drawn c (parts_at lo hi p c)) (cuts w W t))))
+  documents w W = rw held (by-test (contains lo hi p p d) (λ t. rw t refl) (λ t. rw t (ap (λ (c : Cut). Some (record { cut = c; parts = parts_at lo hi p c })) (cuts w W t))))
 
 pub padding_cuts_nothing : PaddingCutsNothing
 padding_cuts_nothing d n lo hi p w Z R W =

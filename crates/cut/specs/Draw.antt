@@ -1,6 +1,7 @@
 -- The cut that a word draws for a box and a point, in the floats' own operations, each of which rounds once: the Rust's `Cut::random_cut_and_separation`, for every float.
 -- Document.antt says the same in whole numbers, as document 01 does, for coordinates.
-use Rattle.std.specs.Prelude.{ℕ, zero, suc, ◌+◌, Bool, cond, ◌&&◌, ◌||◌, List, Float}
+use Rattle.std.specs.Prelude.{ℕ, zero, suc, ◌+◌, Bool, cond, ◌&&◌, ◌||◌, Option, Some, None, List, Float}
+use Rattle.std.specs.Option.{option_map}
 use Rattle.std.specs.Float.{binary32, binary64}
 use Rattle.std.specs.Float.Ieee.{add, sub, mul, lt, le, eq}
 use Rattle.readings.specs.Word.{factor_of}
@@ -10,9 +11,7 @@ use Rattle.readings.specs.Number.{nought}
 use Rattle.boundingbox.specs.Sides.{gap_of, total, range_sum}
 use Rattle.cut.specs.declared.Cut.{Cut}
 use Rattle.cut.specs.declared.Separation.{Separation}
-use Rattle.cut.specs.declared.Separation.TheVariants.{NoCut, Drawn}
 use Rattle.cut.specs.declared.Side.{Side}
-use Rattle.cut.specs.declared.Side.TheVariants.{At, Nowhere}
 
 -- how far x lies outside the side from lo to hi
 unfoldable pub outside_of : Float → Float → Float → Float
@@ -43,9 +42,9 @@ unfoldable pub left_of : Float → Float → Float
 left_of rest side = cond (lt nought side) (sub binary64 rest side) rest
 
 -- the first side from channel i on, of n channels
-unfoldable pub side_from : (ℕ → Float) → ℕ → ℕ → Float → Side
-side_from g zero i rest = Nowhere
-side_from g (suc n) i rest = cond (reaches rest (g i)) (At i rest) (side_from g n (i + 1) (left_of rest (g i)))
+unfoldable pub side_from : (ℕ → Float) → ℕ → ℕ → Float → Option Side
+side_from g zero i rest = None
+side_from g (suc n) i rest = cond (reaches rest (g i)) (Some (record { dimension = i; rest = rest })) (side_from g n (i + 1) (left_of rest (g i)))
 
 -- 'The rest is narrowed to f32 to nearest, ties to even, then added to the lower end in f32, which rounds again'
 unfoldable pub moved : Float → Float → Float
@@ -69,12 +68,11 @@ abbrev pub parts_at : List Float → List Float → List Float → Cut → Bool
 parts_at lo hi p k = parts (channel p k.dimension) (channel lo k.dimension) (channel hi k.dimension) k.value
 
 unfoldable pub drawn_at : List Float → List Float → List Float → Side → Separation
-drawn_at lo hi p (At i rest) = Drawn (cut_at lo hi p i rest) (parts_at lo hi p (cut_at lo hi p i rest))
-drawn_at lo hi p Nowhere = NoCut
+drawn_at lo hi p s = record { cut = cut_at lo hi p s.dimension s.rest; parts = parts_at lo hi p (cut_at lo hi p s.dimension s.rest) }
 
 -- The cut drawn by the word w in n channels. Where nothing of the point lies outside the box, the Rust draws no cut.
 -- The Rust's branch seeded with 17 stands where no side is cut, or a leaf's cut does not part: Laws.antt says that coordinates never lead there.
-unfoldable pub separation : ℕ → List Float → List Float → List Float → ℕ → Separation
+unfoldable pub separation : ℕ → List Float → List Float → List Float → ℕ → Option Separation
 separation n lo hi p w =
-    cond (eq (outside_sum lo hi p n) nought) NoCut
-    (drawn_at lo hi p (side_from (side_of lo hi p) n 0 (range_of lo hi p n w)))
+    cond (eq (outside_sum lo hi p n) nought) None
+    (option_map (drawn_at lo hi p) (side_from (side_of lo hi p) n 0 (range_of lo hi p n w)))

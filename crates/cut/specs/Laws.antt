@@ -1,5 +1,5 @@
 -- What holds of the drawn cut on coordinates: the statements. Each is proved in proofs/, in the file that its comment names.
-use Rattle.std.specs.Prelude.{◌≡◌, ℕ, ◌+◌, ◌*◌, ◌/◌, ◌^◌, ◌<◌, ◌≤◌, Bool, true, false, not, ◌&&◌, T, List, Float}
+use Rattle.std.specs.Prelude.{◌≡◌, ℕ, ◌+◌, ◌*◌, ◌/◌, ◌^◌, ◌<◌, ◌≤◌, Bool, true, false, not, ◌&&◌, T, Option, Some, None, List, Float}
 use Rattle.std.specs.Float.{binary64}
 use Rattle.std.specs.Float.Ieee.{add, lt, le, eq}
 use Rattle.std.specs.Float.Ieee.Exact.{HasValue}
@@ -11,7 +11,6 @@ use Rattle.boundingbox.specs.Contained.{contains}
 use Rattle.boundingbox.specs.Wholes.{Box, side, sum_to}
 use Rattle.cut.specs.declared.Cut.{Cut}
 use Rattle.cut.specs.declared.Side.{Side}
-use Rattle.cut.specs.declared.Side.TheVariants.{At, Nowhere}
 use Rattle.cut.specs.Paper.{channel_at, back_at, rest_at}
 use Rattle.cut.specs.Draw.{low_end, high_end, outside_sum, side_of, range_of, side_from, placed, cut_at, parts_at, separation}
 use Rattle.cut.specs.Document.{number_drawn, rest_of, cut_of, document_cut}
@@ -51,9 +50,9 @@ abbrev pub LeafParts : Type 0
 LeafParts = (n : ℕ) (q p : List Float) (w : ℕ) → Readings q q p n → contains q q p p n ≡ false → w < 2 ^ 64 → parts_at q q p (cut_of (low_end q p) (high_end q p) n w) ≡ true
 
 -- Where the Rust goes on to its branch seeded with 17: the point lies outside, and no side is cut, or the box's range sum is zero and the cut does not part.
-unfoldable pub strays : List Float → List Float → List Float → ℕ → Side → Bool
-strays lo hi p n Nowhere = true
-strays lo hi p n (At i rest) = eq (range_sum lo hi n) nought && not (parts_at lo hi p (cut_at lo hi p i rest))
+unfoldable pub strays : List Float → List Float → List Float → ℕ → Option Side → Bool
+strays lo hi p n None = true
+strays lo hi p n (Some s) = eq (range_sum lo hi n) nought && not (parts_at lo hi p (cut_at lo hi p s.dimension s.rest))
 
 unfoldable pub seeded17 : ℕ → List Float → List Float → List Float → ℕ → Bool
 unfolding strays

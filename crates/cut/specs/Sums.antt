@@ -1,12 +1,11 @@
 -- The sums of the sides in whole numbers, as they tell the side that is cut. Definitions.
-use Rattle.std.specs.Prelude.{◌≡◌, ℕ, ◌+◌, ◌*◌, ◌<◌, ◌≤◌, false, cond, ltb, ◌⊎◌, List, pos, nat_le, nat_lt, slice_index, Float}
+use Rattle.std.specs.Prelude.{◌≡◌, ℕ, ◌+◌, ◌*◌, ◌<◌, ◌≤◌, false, cond, ltb, ◌⊎◌, Option, None, List, pos, nat_le, nat_lt, slice_index, Float}
 use Rattle.std.specs.Float.{fin}
 use Rattle.std.specs.Float.Ieee.Positive.{num, den}
 use Rattle.limits.specs.Limits.{width}
 use Rattle.boundingbox.specs.Contained.{contains, count_of}
 use Rattle.boundingbox.specs.Wholes.{side, sum_to}
 use Rattle.cut.specs.declared.Side.{Side}
-use Rattle.cut.specs.declared.Side.TheVariants.{Nowhere}
 use Rattle.cut.specs.Draw.{low_end, high_end, side_of, range_of, side_from}
 
 -- 1.0
@@ -14,8 +13,8 @@ abbrev pub one : Float
 one = fin false 1 (pos 0)
 
 -- the side that the word w cuts in n channels, and the amount before it: none where the box holds the point
-unfoldable pub side_cut : List Float → List Float → List Float → ℕ → ℕ → Side
-side_cut lo hi p n w = cond (contains lo hi p p n) Nowhere (side_from (side_of lo hi p) n 0 (range_of lo hi p n w))
+unfoldable pub side_cut : List Float → List Float → List Float → ℕ → ℕ → Option Side
+side_cut lo hi p n w = cond (contains lo hi p p n) None (side_from (side_of lo hi p) n 0 (range_of lo hi p n w))
 
 -- the sides of the box with the point in it, as whole numbers
 abbrev pub grown : List Float → List Float → List Float → ℕ → ℕ

@@ -12,6 +12,7 @@ ghost use Rattle.cut.specs.Draw.{outside_of, outside_sum, side_of, reaches, left
 
 use boundingbox::BoundingBox;
 use limits::{CHANNELS, Row};
+pub use whole::stretched_side;
 
 // A cut: a channel and an f32 value, handed about as one record (document 01, 'Which form goes where').
 #[derive(Clone, Copy)]
@@ -20,18 +21,18 @@ pub struct Cut {
     pub value: f32,
 }
 
-// What a word draws for a box and a point: no cut where the box holds the point, else the cut and whether it parts the point from the box.
+// A cut that a word draws for a box and a point, and whether it parts the point from the box.
 #[derive(Clone, Copy)]
-pub enum Separation {
-    NoCut,
-    Drawn(Cut, bool),
+pub struct Separation {
+    pub cut: Cut,
+    pub parts: bool,
 }
 
-// The side that is cut, and the amount before it; or no side, where none leaves nothing above zero.
+// The channel whose side is cut, and the amount before that side.
 #[derive(Clone, Copy)]
-pub enum Side {
-    At(usize, f64),
-    Nowhere,
+pub struct Side {
+    pub dimension: usize,
+    pub rest: f64,
 }
 
 // How far x lies outside the side from low to high. The tests pick an f32, so that no branch has to be guessed.
@@ -56,10 +57,8 @@ fn outside_sum(bounding_box: BoundingBox, point: &Row) -> f64
     let low = bounding_box.min_values;
     let high = bounding_box.max_values;
     let mut sum: f64 = 0.0;
-    let mut i: usize = 0;
-    while i < CHANNELS {
+    for i in 0..CHANNELS {
         sum = sum + outside_of(low[i], high[i], point[i]);
-        i += 1;
     }
     sum
 }
@@ -92,23 +91,21 @@ fn left_of(rest: f64, side: f64) -> f64
     if 0.0 < side { rest - side } else { rest }
 }
 
-// The first side, of the box with the point in it, that leaves nothing of the range above zero.
-fn side_cut(bounding_box: BoundingBox, point: &Row, range: f64) -> Side
+// The first side, of the box with the point in it, that leaves nothing of the range above zero; none where each leaves some.
+fn side_cut(bounding_box: BoundingBox, point: &Row, range: f64) -> Option<Side>
     ensures { result ≡ side_from (side_of bounding_box.min_values bounding_box.max_values point.now) width 0 range }
 {
     let low = bounding_box.min_values;
     let high = bounding_box.max_values;
     let mut rest = range;
-    let mut i: usize = 0;
-    while i < CHANNELS {
+    for i in 0..CHANNELS {
         let side = side_with(low[i], high[i], point[i]);
         if side_reaches(rest, side) {
-            return Side::At(i, rest);
+            return Some(Side { dimension: i, rest });
         }
         rest = left_of(rest, side);
-        i += 1;
     }
-    Side::Nowhere
+    None
 }
 
 // The rest narrowed and added to the lower end; where that isn't above the lower end and below the upper end, the lower end.
@@ -148,23 +145,18 @@ impl Cut {
         bounding_box: BoundingBox,
         word: u64,
         point: &Row,
-    ) -> Separation
+    ) -> Option<Separation>
         ensures { result ≡ separation width bounding_box.min_values bounding_box.max_values point.now word }
     {
         let outside = outside_sum(bounding_box, point);
         if outside == 0.0 {
-            return Separation::NoCut;
+            return None;
         }
         let range = (outside + bounding_box.get_range_sum()) * readings::factor(word);
-        let side = side_cut(bounding_box, point, range);
-        match side {
-            Side::Nowhere => Separation::NoCut,
-            Side::At(dimension, rest) => {
-                let low = bounding_box.min_values;
-                let high = bounding_box.max_values;
-                drawn(&low, &high, point, dimension, rest)
-            }
-        }
+        let side = side_cut(bounding_box, point, range)?;
+        let low = bounding_box.min_values;
+        let high = bounding_box.max_values;
+        Some(drawn(&low, &high, point, side))
     }
 
     // The same cut, of a box and a point of coordinates in lent rows, of which the channels from `dimensions` on are padding. Their sides are whole numbers, and the
@@ -176,32 +168,31 @@ impl Cut {
         word: u64,
         point: &Row,
         dimensions: usize,
-    ) -> Separation
+    ) -> Option<Separation>
         requires readings { Readings low.now high.now point.now width }
         requires padded { Padded low.now high.now point.now dimensions width }
         ensures { result ≡ separation width low.now high.now point.now word }
     {
-        let side = whole::side_cut(low, high, word, point, dimensions);
-        match side {
-            Side::Nowhere => Separation::NoCut,
-            Side::At(dimension, rest) => drawn(low, high, point, dimension, rest),
-        }
+        let side = whole::side_cut(low, high, word, point, dimensions)?;
+        Some(drawn(low, high, point, side))
     }
 }
 
-// The cut on the side of a channel, and whether it parts the point from the box.
-fn drawn(lows: &Row, highs: &Row, point: &Row, dimension: usize, rest: f64) -> Separation
-    requires { dimension < width }
-    ensures { result ≡ drawn_at lows.now highs.now point.now (Side.At dimension rest) }
+// The cut on a side, and whether it parts the point from the box.
+fn drawn(lows: &Row, highs: &Row, point: &Row, side: Side) -> Separation
+    requires { side.dimension < width }
+    ensures { result ≡ drawn_at lows.now highs.now point.now side }
 {
+    let dimension = side.dimension;
     let low = lows[dimension];
     let high = highs[dimension];
     let x = point[dimension];
     let value = place(
         boundingbox::least_of(low, x),
         boundingbox::greatest_of(high, x),
-        rest,
+        side.rest,
     );
+    let cut = Cut { dimension, value };
     let parts = separates(x, low, high, value);
-    Separation::Drawn(Cut { dimension, value }, parts)
+    Separation { cut, parts }
 }

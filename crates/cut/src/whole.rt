@@ -30,7 +30,7 @@ struct Under {
 
 // The side that is cut and the amount before it; none where the box holds the point, whose sides then grow by nothing.
 // Rules out a side of padding, and a rest from another four's sums.
-pub fn side_cut(low: &Row, high: &Row, word: u64, point: &Row, dimensions: usize) -> Side
+pub fn side_cut(low: &Row, high: &Row, word: u64, point: &Row, dimensions: usize) -> Option<Side>
     requires readings { Readings low.now high.now point.now width }
     requires padded { Padded low.now high.now point.now dimensions width }
     ensures { result ≡ side_cut low.now high.now point.now width word }
@@ -39,13 +39,16 @@ pub fn side_cut(low: &Row, high: &Row, word: u64, point: &Row, dimensions: usize
     let sums = four_sums(&sides, dimensions);
     let all = sums[8];
     if all == side_sum(low, high, dimensions) {
-        return Side::Nowhere;
+        return None;
     }
     let range = (all as f64) * readings::factor(word);
     let bound = whole_bound(range);
     let four = fours_below(sums, bound, dimensions);
     let under = under_in(&sides, 4 * four, sums[four], bound);
-    Side::At(4 * four + under.count, range - (under.sum as f64))
+    Some(Side {
+        dimension: 4 * four + under.count,
+        rest: range - (under.sum as f64),
+    })
 }
 
 // A whole sum is 0 or lies below x exactly where it lies below this.
@@ -97,10 +100,8 @@ fn wholes_to(low: &Row, high: &Row, point: &Row, n: usize) -> Wholes
     ensures { FirstSides (grown low.now high.now point.now) n result }
 {
     let mut sides = [0u32; CHANNELS];
-    let mut i: usize = 0;
-    while i < n {
+    for i in 0..n {
         sides[i] = stretched_side(low[i], high[i], point[i]);
-        i += 1;
     }
     sides
 }
@@ -126,28 +127,7 @@ fn sum_four(sides: &Wholes, at: usize) -> u32
     ensures few { result ≤ 8388608 }
     ensures grows { sum_to (side_in sides.now) at + result ≡ sum_to (side_in sides.now) (at + 4) }
 {
-    let mut sum: u32 = 0;
-    let mut i: usize = 0;
-    while i < 4 {
-        sum = sum + sides[at + i];
-        i += 1;
-    }
-    sum
-}
-
-// The same of the box alone.
-fn sides_four(low: &Row, high: &Row, at: usize) -> u32
-    requires { (Box (channel low.now) (channel high.now) width) × (at + 4 ≤ width) }
-    ensures few { result ≤ 8388608 }
-    ensures grows { sum_to (side (channel low.now) (channel high.now)) at + result ≡ sum_to (side (channel low.now) (channel high.now)) (at + 4) }
-{
-    let mut sum: u32 = 0;
-    let mut i: usize = 0;
-    while i < 4 {
-        sum = sum + boundingbox::whole_side(low[at + i], high[at + i]);
-        i += 1;
-    }
-    sum
+    boundingbox::sum_of(at, 4, &|i| sides[i])
 }
 
 // The sum of the sides of the box.
@@ -156,16 +136,7 @@ fn side_sum(low: &Row, high: &Row, dimensions: usize) -> u32
     requires padded { (PaddedRow low.now dimensions width) × (PaddedRow high.now dimensions width) }
     ensures { result ≡ sum_to (side (channel low.now) (channel high.now)) width }
 {
-    let eight = sides_four(low, high, 0) + sides_four(low, high, 4);
-    if dimensions <= 8 {
-        return eight;
-    }
-    let sixteen = eight + sides_four(low, high, 8) + sides_four(low, high, 12);
-    if dimensions <= 16 {
-        return sixteen;
-    }
-    let most = sixteen + sides_four(low, high, 16) + sides_four(low, high, 20);
-    most + sides_four(low, high, 24) + sides_four(low, high, 28)
+    boundingbox::sum_by_fours(dimensions, |i| boundingbox::whole_side(low[i], high[i]))
 }
 
 // How many of the sums by fours lie below the bound. As many are counted as tell the four of a channel of the tree.
@@ -193,18 +164,17 @@ fn under_in(sides: &Wholes, at: usize, base: u32, bound: u32) -> Under
     let mut sum = base;
     let mut before = base;
     let mut count: usize = 0;
-    let mut i: usize = 0;
-    while i < 4 {
+    for i in 0..4 {
         sum = sum + sides[at + i];
         before = picked(sum < bound, sum, before);
         count = count + whole_below(sum, bound);
-        i += 1;
     }
     Under { count, sum: before }
 }
 
 // The side from low to high with x in it, as an integer.
-fn stretched_side(low: f32, high: f32, x: f32) -> u32
+// Rules out the side without x, and one that x narrows.
+pub fn stretched_side(low: f32, high: f32, x: f32) -> u32
     requires { (T (is_coordinate (least low x))) × (T (is_coordinate (greatest high x))) × (rank (least low x) ≤ rank (greatest high x)) }
     ensures { result ≡ rank (greatest high x) - rank (least low x) }
 {
@@ -214,6 +184,7 @@ fn stretched_side(low: f32, high: f32, x: f32) -> u32
     )
 }
 
+// `either` of `walk`, which stands above this crate; a crate for one line would be no plainer.
 fn picked(first: bool, x: u32, y: u32) -> u32
     ensures { result ≡ (if first then x else y) }
 {

@@ -41,7 +41,7 @@ module _ (d c : ℕ) (s : Float) where
 
   -- what a sampled world's state says of what is kept
   pub stands_at : (W : World (whole d)) (x : Kept) (p : Sample) → x.sample ≡ some p → SampledAs d c s x p W → Stands d c s W x
-  stands_at W x p e B = (subst (λ (t : RCFTree). State d c s W t x.arrays x.points x.marks) (sym (ap (λ (h : SamplerPlusTree). h.tree) B.state.head_is)) B.state.tree_is, subst (OfWorld d c s W x) (sym e) B)
+  stands_at W x p e B = (subst (λ (t : RCFTree). State d c s W t x.arrays x.table.points x.table.written) (sym (ap (λ (h : SamplerPlusTree). h.tree) B.state.head_is)) B.state.tree_is, subst (OfWorld d c s W x) (sym e) B)
 
   module _ (W : World (whole d)) (K : Counts (whole d)) (x : Kept) (i : ℕ) (w : Float) (t : ℕ) (ws : List ℕ) (B : Stands d c s W x) (I : Inv (whole d) c W K) where
     -- what is left of an arrival: the world after it, what is kept of it, the counts, and the claim
@@ -52,7 +52,7 @@ module _ (d c : ℕ) (s : Float) where
       pub claim : ArrivalClaim d c (view_of (whole d) c W K) (Gives d c s y) (CountsAsCalls d c s x y K) K i ws o
 
     left_by : (f : Float) (ks : List Entry) (o : SampledAnswer (whole d)) (y : Kept) (q : Sample) → y.sample ≡ some q → (z : SampledAnswer (whole d) × Sampled (whole d)) → Arrives (whole d) (sampled_at d c s f W ks) i w ws z → o ≡ z.0
-        → SampledState d s z.1 (head_in y.tree q) y.arrays y.points y.marks q.weights q.held → Left o y
+        → SampledState d s z.1 (head_in y.tree q) y.arrays y.table.points y.table.written q.weights q.held → Left o y
     left_by f ks o y q e (plain a, Y) (r, same) h S =
         let T = stands_at W y q e (record { initial = f; entries = ks; state = rw same at S }) in
         rw h (record { world = W; stands = T; counts = I; claim = (r, asked_is d c s W y T.0) })
@@ -61,7 +61,7 @@ module _ (d c : ℕ) (s : Float) where
         rw h (record { world = W; stands = T; counts = I; claim = asked_is d c s W y T.0 })
     left_by f ks o y q e (accepted j m, Y) (A, top, agrees) h S =
         let after = world_after (whole d) c W (counts_as (whole d) m i ws) in
-        let M : SampledAs d c s y q after = record { initial = f; entries = A.entries; state = subst (λ (Z : Sampled (whole d)). SampledState d s Z (head_in y.tree q) y.arrays y.points y.marks q.weights q.held) A.leaves S } in
+        let M : SampledAs d c s y q after = record { initial = f; entries = A.entries; state = subst (λ (Z : Sampled (whole d)). SampledState d s Z (head_in y.tree q) y.arrays y.table.points y.table.written q.weights q.held) A.leaves S } in
         let T = stands_at after y q e M in
         let (counts, claim) = accepted_as d c (Gives d c s y) W K i ws j A.words m I A.answered (λ K' I'. asked_is d c s after y T.0) in
         let made = calls_made d c s W (bare_of x) K (counts_as (whole d) m i ws) (bare_of y) B.0 refl I T.0 refl in
@@ -79,4 +79,4 @@ module _ (d c : ℕ) (s : Float) where
         let (h, n) = heard_arrival X i w ws z A in
         let head : head_in y.tree q ≡ head_of d s z.1 = step.head ∙ ap (λ (u : SamplerPlusTree). head_updated u step.answer) M.state.head_is ∙ ap (head_updated (head_of d s X)) D.answer ∙ n in
         left_by M.initial M.entries o y q step.after_is z A (step.heard ∙ ap (heard_update d) D.answer ∙ h)
-        (rw (head, step.table.points, step.table.marks) D.state)
+        (rw (head, step.table) D.state)

@@ -15,7 +15,7 @@ use Rattle.readings.specs.Number.{Number}
 use Rattle.readings.specs.Share.{cached_part}
 use Rattle.cuttree.specs.Setting.{Cut}
 use Rattle.cuttree.specs.Tree.{Tree, branch, lo, hi}
-use Rattle.cuttree.specs.Run.{World, Row, branch_is}
+use Rattle.cuttree.specs.Run.{World, Row}
 use Rattle.cuttree.specs.Counts.{Counts}
 use Rattle.cuttree.specs.Graph.{View, IsBranch, Under}
 use Rattle.cuttree.specs.Demand3.{view_of, TreeClaim}
@@ -43,7 +43,7 @@ module _ (d c : ℕ) (s : Float) (x : Kept) (K : Counts (whole d)) (f : ℕ → 
   of o = record { table = f; tree = o; free = u }
 
   abbrev StateAt : Option (Tree (whole d)) → Type 0
-  StateAt o = State d c s (of o) x.tree x.arrays x.points x.marks
+  StateAt o = State d c s (of o) x.tree x.arrays x.table.points x.table.written
 
   row_is : (o : Option (Tree (whole d))) → StateAt o → (b : ℕ) → b < branch_limit → get_or x.arrays.boxes b [] ≡ box_in d c (cached_by s c) o b
   row_is o S b h = entry_of branch_limit (box_in d c (cached_by s c) o) x.arrays.boxes (boxes_are S) [] b h
@@ -108,5 +108,5 @@ module _ (d c : ℕ) (s : Float) (x : Kept) (K : Counts (whole d)) (f : ℕ → 
   boxes_of_lem none S I = boxes_none S
   boxes_of_lem (some t) S I = boxes_some t S I
 
-pub cached_boxes : (d c : ℕ) (s : Float) (W : World (whole d)) (x : Kept) (K : Counts (whole d)) → State d c s W x.tree x.arrays x.points x.marks → Inv (whole d) c W K → CachedBoxes d c s x (view_of (whole d) c W K)
+pub cached_boxes : (d c : ℕ) (s : Float) (W : World (whole d)) (x : Kept) (K : Counts (whole d)) → State d c s W x.tree x.arrays x.table.points x.table.written → Inv (whole d) c W K → CachedBoxes d c s x (view_of (whole d) c W K)
 cached_boxes d c s W x K S I = boxes_of_lem d c s x K W.table W.free W.tree S I

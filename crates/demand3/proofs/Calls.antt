@@ -30,9 +30,9 @@ still_bare d x (query (branch_of n)) a y e b = ap (λ (z : Kept). z.sample) e.1 
 still_bare d x (query (box_of n)) a y (r, e, told, same) b = ap (λ (z : Kept). z.sample) same ∙ b
 
 -- what is kept, told by equal parts
-equal_parts : (x y : Kept) → x.tree ≡ y.tree → x.arrays ≡ y.arrays → x.points ≡ y.points → x.marks ≡ y.marks → x.sample ≡ y.sample
-    → x ≡ record { tree = y.tree; arrays = y.arrays; points = y.points; marks = y.marks; sample = y.sample }
-equal_parts x y tree arrays points marks sample = rw (← tree, ← arrays, ← points, ← marks, ← sample) refl
+equal_parts : (x y : Kept) → x.tree ≡ y.tree → x.arrays ≡ y.arrays → x.table ≡ y.table → x.sample ≡ y.sample
+    → x ≡ record { tree = y.tree; arrays = y.arrays; table = y.table; sample = y.sample }
+equal_parts x y tree arrays table sample = rw (← tree, ← arrays, ← table, ← sample) refl
 
 module _ (d c : ℕ) (s : Float) where
   unfoldable pub state_claim : (W : World (whole d)) (x : Kept) (K : Counts (whole d)) → Stands d c s W x → Inv (whole d) c W K → StateClaim d c s x K
@@ -50,8 +50,8 @@ module _ (d c : ℕ) (s : Float) where
   -- header, arrays and table are the world's, so two that are kept of one world are the same
   same_kept : (W : World (whole d)) (x y : Kept) → StateOf d c s W x → StateOf d c s W y → x.sample ≡ y.sample → x ≡ y
   same_kept W x y S T e =
-      let table = S.table_is ∙ sym T.table_is in
-      equal_parts x y (S.header_is ∙ sym T.header_is) (S.arrays_are ∙ sym T.arrays_are) (ap (λ (t : Table). t.points) table) (ap (λ (t : Table). t.written) table) e
+      let table : x.table ≡ y.table = ap (λ (t : Table). record { points = t.points; written = t.written }) (S.table_is ∙ sym T.table_is) in
+      equal_parts x y (S.header_is ∙ sym T.header_is) (S.arrays_are ∙ sym T.arrays_are) table e
 
   -- y being what is kept of the world after the calls
   pub calls_made : (W : World (whole d)) (x : Kept) (K : Counts (whole d)) (es : List (Call (whole d))) (y : Kept) → StateOf d c s W x → x.sample ≡ none → Inv (whole d) c W K

@@ -29,7 +29,7 @@ module _ (d c : ℕ) (s : Float) where
       rw p (call_claim (whole d) c (whole_laws d) W K e I, ((call (whole d) c W e).1, T, inv_call (whole d) c (whole_laws d) W K e I))
   event_is W x K (arrives i w t ws) S I o y step = let F = arrival_is d c s W K x i w t ws S I o y step in (F.claim, (F.world, F.stands, F.counts))
   event_is W x K (reports lent xs) S I (r, rows) y (told, same) =
-      let D = told d c s W x.arrays x.marks S.0 (record { nodes_are = refl; cuts_are = refl; copies_are = refl; boxes_are = refl }) in
+      let D = told d c s W x.arrays x.table.written S.0 (record { nodes_are = refl; cuts_are = refl; copies_are = refl; boxes_are = refl }) in
       ((λ n e. answer_rows d c K (length lent) xs W I n (sym D.answer ∙ e)), (W, subst (Stands d c s W) (sym same) S, I))
 
   holds : (W : World (whole d)) (x : Kept) (K : Counts (whole d)) (es : List (Event d)) → Stands d c s W x → Inv (whole d) c W K → Holds d c s x K es

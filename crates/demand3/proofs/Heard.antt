@@ -10,19 +10,20 @@ use Rattle.limits.specs.Limits.{width}
 use Rattle.readings.specs.Number.{nought, Number, number, zero}
 use Rattle.readings.proofs.Ordered.{same_number, number_is}
 use Rattle.cuttree.specs.Tree.{Tree, leaf, branch, lo, hi}
-use Rattle.cuttree.specs.Run.{Refusal, index_above, coordinate_count, bad_coordinate, index_is_leaf, never_written, full, few_words, tree_empty, not_held, bad_weight, no_such_node, number_of, Answer, refused, branch_is, box_is, Row, Box, World, put, add, delete, call, copies_found, branch_found, box_found}
+use Rattle.cuttree.specs.Run.{Refusal, index_above, coordinate_count, bad_coordinate, index_is_leaf, never_written, full, few_words, tree_empty, not_held, bad_weight, no_such_node, Answer, refused, branch_is, box_is, World, put, add, delete, call, copies_found, branch_found, box_found}
 use Rattle.cuttree.proofs.Tests.{by-test, cond_true, cond_false}
 use Rattle.cuttree.proofs.Refused.{by_put, by_add, by_delete}
 use Rattle.wholetree.specs.Whole.{whole, ends}
 use Rattle.wholetree.proofs.Readings.{tab_length, tab_at}
 use Rattle.wholetree.proofs.Boxes.{tree_box}
+use Rattle.pointstore.specs.Refusals.{refusal_of}
 use Rattle.pointstore.specs.Puts.{put_says}
 use Rattle.randomcuttree.specs.declared.RCFTree.{RCFTree}
 use Rattle.randomcuttree.specs.Answers.{add_says, delete_says}
 use Rattle.randomcuttree.specs.Queries.{copies_say, branch_says, box_says}
-use Rattle.demand3.specs.Heard.{refusal_by, end_in, heard_put, heard_add, heard_delete, heard_copies, heard_branch, heard_box}
+use Rattle.demand3.specs.Heard.{heard_refusal, end_in, heard_put, heard_add, heard_delete, heard_copies, heard_branch, heard_box}
 
-pub refusal_is : (r : Refusal) → refusal_by (number_of r) ≡ r
+pub refusal_is : (r : Refusal) → heard_refusal (refusal_of r) ≡ r
 refusal_is index_above = refl
 refusal_is coordinate_count = refl
 refusal_is bad_coordinate = refl
@@ -49,7 +50,7 @@ end_is f h = fun_ext (λ i. by-test (ltb i width)
     (λ e. ap number (cond_false _ _ _ (ap (ltb i) (tab_length width _) ∙ e)) ∙ nought_zero ∙ sym (h i (ltb-false i width e))))
 
 module _ (d : ℕ) where
-  refused_is : (r : Refusal) → ◌≡◌ {A = Answer (whole d)} (refused (refusal_by (number_of r))) (refused r)
+  refused_is : (r : Refusal) → ◌≡◌ {A = Answer (whole d)} (refused (heard_refusal (refusal_of r))) (refused r)
   refused_is r = ap (λ (m : Refusal). refused m) (refusal_is r)
 
   module _ (c : ℕ) (W : World (whole d)) where

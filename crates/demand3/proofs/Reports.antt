@@ -7,6 +7,7 @@ use Prim.Native.Nat.{ℕ}
 use lib.Dec.{ltb}
 use lib.ListN.{length}
 use lib.Ieee.{Float}
+use Rattle.std.specs.Prelude.{Ok}
 use Rattle.cuttree.specs.Tree.{Tree, id, walk}
 use Rattle.cuttree.specs.Run.{World}
 use Rattle.cuttree.specs.Counts.{Counts}
@@ -20,7 +21,6 @@ use Rattle.wholetree.specs.Reading.{Reading, reading}
 use Rattle.wholetree.specs.Whole.{whole}
 use Rattle.wholetree.proofs.Readings.{tab_length}
 use Rattle.wholetree.proofs.Laws.{whole_laws}
-use Rattle.nodeview.specs.declared.ReportAnswer.TheVariants.{Rows}
 use Rattle.nodeview.specs.Report.{ReportRow, Report, refused, rows, rows_of, row_at, report_in, report_of}
 use Rattle.nodeview.specs.Told.{report_says}
 use Rattle.demand3.specs.Answered.{ReportClaim}
@@ -47,10 +47,10 @@ module _ (d c : ℕ) (K : Counts (whole d)) (n : ℕ) (xs : List Float) where
       (λ _. by_cond (Told W) (not ((whole d).good xs)) _ _ (λ _ rs e. nonsense (cc))
       (λ _. in_tree W.table W.tree W.free I))
 
-  says_rows : (W : World (whole d)) (x : Report) → Told W x → (m : ℕ) → report_says x ≡ Rows m → ReportClaim d c (view_of (whole d) c W K) xs m
+  says_rows : (W : World (whole d)) (x : Report) → Told W x → (m : ℕ) → report_says x ≡ Ok m → ReportClaim d c (view_of (whole d) c W K) xs m
   says_rows W (refused r) T m e = nonsense (cc)
   says_rows W (rows rs) T m e = let same : length rs ≡ m = cc in subst (ReportClaim d c (view_of (whole d) c W K) xs) same (T rs refl)
 
   -- the same of the answer that says it
-  pub answer_rows : (W : World (whole d)) → Inv (whole d) c W K → (m : ℕ) → report_says (report_of d c W n xs) ≡ Rows m → ReportClaim d c (view_of (whole d) c W K) xs m
+  pub answer_rows : (W : World (whole d)) → Inv (whole d) c W K → (m : ℕ) → report_says (report_of d c W n xs) ≡ Ok m → ReportClaim d c (view_of (whole d) c W K) xs m
   answer_rows W I = says_rows W (report_of d c W n xs) (report_rows W I)

@@ -1,11 +1,12 @@
 -- The sample that is kept beside a world: what puts and arrivals leave of it, and what it says of the counts. Assumes nothing.
-use mathlib.Core.Path.{◌≡◌, refl, sym, ap, ap₂, ◌∙◌, subst, fun_ext}
+use mathlib.Core.Path.{◌≡◌, sym, ap, ◌∙◌, subst, fun_ext}
 use mathlib.Core.Option.{Option, none, some}
 use mathlib.Core.List.{List}
 use Prim.Native.Nat.{ℕ}
 use native.Mathlib.Omega.{arith}
 use lib.ListN.{length}
 use lib.Ieee.{Float}
+use Rattle.std.specs.Prelude.{Result}
 use Rattle.sampler.specs.declared.Sampler.{Sampler}
 use Rattle.sampler.specs.Sample.{Entry}
 use Rattle.sampler.proofs.Places.{entries_read}
@@ -14,7 +15,7 @@ use Rattle.cuttree.specs.Counts.{Counts}
 use Rattle.cuttree.proofs.Keeps.{Inv}
 use Rattle.wholetree.specs.Reading.{Reading}
 use Rattle.wholetree.specs.Whole.{whole}
-use Rattle.pointstore.specs.declared.PutAnswer.{PutAnswer}
+use Rattle.refusals.specs.declared.Refusal.{Refusal}
 use Rattle.pointstore.specs.Puts.{PutDone}
 use Rattle.sampledtree.specs.Sampled.{Sampled}
 use Rattle.sampledtree.specs.Arrivals.{kept_of, Agrees}
@@ -32,20 +33,20 @@ module _ (d c : ℕ) (s : Float) where
   pub record SampledAs (x : Kept) (p : Sample) (W : World (whole d)) : Type 0 where
     pub initial : Float
     pub entries : List Entry
-    pub state : SampledState d s (sampled_at initial W entries) (head_in x.tree p) x.arrays x.points x.marks p.weights p.held
+    pub state : SampledState d s (sampled_at initial W entries) (head_in x.tree p) x.arrays x.table.points x.table.written p.weights p.held
 
   abbrev pub OfWorld : World (whole d) → Kept → Option Sample → Type 0
   OfWorld W x none = Unit {0}
   OfWorld W x (some p) = SampledAs x p W
 
   -- A PUT leaves the sample
-  module _ (W : World (whole d)) (x y : Kept) (i : ℕ) (xs : List Float) (r : PutAnswer) (same : SameTree x y) (D : PutDone d c W i xs y.points y.marks r) where
+  module _ (W : World (whole d)) (x y : Kept) (i : ℕ) (xs : List Float) (r : Result Unit Refusal) (same : SameTree x y) (D : PutDone d c W i xs y.table.points y.table.written r) where
     put_sampled : (o : Option Sample) → OfWorld W x o → OfWorld (call (whole d) c W (put i xs)).1 y o
     put_sampled none B = tt
     put_sampled (some p) B = record {
       initial = B.initial;
       entries = B.entries;
-      state = rw (same.tree, same.arrays) ((puts_keep_sampled d s (sampled_at B.initial W B.entries) (head_in x.tree p) x.arrays x.points x.marks p.weights p.held B.state).1 i xs y.points y.marks r D);
+      state = rw (same.tree, same.arrays) ((puts_keep_sampled d s (sampled_at B.initial W B.entries) (head_in x.tree p) x.arrays x.table.points x.table.written p.weights p.held B.state).1 i xs y.table.points y.table.written r D);
     }
 
     pub put_keeps : OfWorld W x x.sample → OfWorld (call (whole d) c W (put i xs)).1 y y.sample

@@ -1,5 +1,5 @@
 -- DEMAND 3, of the code: for every list of calls, arrivals and reports, each as its contract ensures it, from an accepted making and an unwritten table.
-use Rattle.std.specs.Prelude.{◌≡◌, true, List, [], ◌∷◌, ℕ, ◌-◌, ◌<◌, ltb, get_or, replicate, Float}
+use Rattle.std.specs.Prelude.{◌≡◌, true, List, [], ◌∷◌, ℕ, ◌-◌, ◌<◌, ltb, get_or, replicate, Float, Ok}
 use Rattle.std.proofs.Math.Option.{Option, none, some}
 use Rattle.std.specs.Float.Ieee.{le}
 use Rattle.limits.specs.Limits.{width, branch_limit, point_limit}
@@ -13,16 +13,13 @@ use Rattle.wholetree.specs.Reading.{Reading}
 use Rattle.wholetree.specs.Whole.{whole}
 use Rattle.sampler.specs.Sample.{entries_in}
 use Rattle.layout.specs.Layout.{no_ends, no_box_ends}
-use Rattle.treestore.specs.Arrays.{Lent}
+use Rattle.treestore.specs.Arrays.{NodeStore}
 use Rattle.randomcuttree.specs.declared.RCFTree.{RCFTree}
-use Rattle.randomcuttree.specs.declared.Made.TheVariants.{Tree}
 use Rattle.randomcuttree.specs.State.{SomeState}
 use Rattle.randomcuttree.specs.Making.{MakeDone}
 use Rattle.samplerplustree.specs.declared.SamplerPlusTree.{SamplerPlusTree}
-use Rattle.samplerplustree.specs.declared.MadeSampled.TheVariants as Sampled
 use Rattle.samplerplustree.specs.State.{SomeSampled}
 use Rattle.samplerplustree.specs.Making.{SampledMade}
-use Rattle.nodeview.specs.declared.ReportAnswer.TheVariants.{Rows}
 use Rattle.demand3.specs.Steps.{Sample, Kept, head_in, Event, calls, arrives, reports, AnswerTo, CallStep, Step}
 use Rattle.demand3.specs.Answered.{count_arrival, ArrivalClaim, SampleClaim, ReportClaim}
 
@@ -32,12 +29,12 @@ end_kept x b k i = channel (get_or (get_or x.arrays.boxes b []) k []) i
 
 -- the header, the arrays and the table of x, as those of a bare tree
 abbrev pub bare_of : Kept → Kept
-bare_of x = record { tree = x.tree; arrays = x.arrays; points = x.points; marks = x.marks; sample = none }
+bare_of x = record { tree = x.tree; arrays = x.arrays; table = x.table; sample = none }
 
 -- of a sampled tree: what `update` asks of its caller
 abbrev pub SampleStands : Kept → Option Sample → Type 0
 SampleStands x none = Unit {0}
-SampleStands x (some p) = SomeSampled (head_in x.tree p) x.arrays x.points x.marks p.weights p.held
+SampleStands x (some p) = SomeSampled (head_in x.tree p) x.arrays x.table.points x.table.written p.weights p.held
 
 -- d channels, capacity c, cached share s
 module _ (d c : ℕ) (s : Float) where
@@ -72,7 +69,7 @@ module _ (d c : ℕ) (s : Float) where
     pub boxes : CachedBoxes x view
     pub sample : OfSample x.sample K
     pub channels : (b : ℕ) (r : Row (whole d)) → IsBranch (whole d) view b r → r.cut.channel < d
-    pub stands : SomeState x.tree x.arrays x.points x.marks × SampleStands x x.sample
+    pub stands : SomeState x.tree x.arrays x.table.points x.table.written × SampleStands x x.sample
 
   -- 'Queries and reports change none of these and may stand anywhere between.'
   abbrev pub count_event : (e : Event d) → AnswerTo d e → Counts (whole d) → Counts (whole d)
@@ -100,7 +97,7 @@ module _ (d c : ℕ) (s : Float) where
   abbrev pub EventClaim : Kept → View (whole d) → Counts (whole d) → (e : Event d) → AnswerTo d e → Kept → Type 0
   EventClaim x G K (calls e) a y = CallClaim (whole d) c G K e a
   EventClaim x G K (arrives i w t ws) o y = ArrivalClaim d c G (Gives y) (CountsAsCalls x y K) K i ws o
-  EventClaim x G K (reports lent xs) r y = (n : ℕ) → r.0 ≡ Rows n → ReportClaim d c G xs n
+  EventClaim x G K (reports lent xs) r y = (n : ℕ) → r.0 ≡ Ok n → ReportClaim d c G xs n
 
   -- Before each event and after the last; and of each event, whatever its contract lets it answer and leave. The counts are fed its answer.
   abbrev pub Holds : Kept → Counts (whole d) → List (Event d) → Type 0
@@ -108,13 +105,13 @@ module _ (d c : ℕ) (s : Float) where
   Holds x K (e ∷ es) = (H : StateClaim x K) × ((o : AnswerTo d e) (y : Kept) → Step d x e o y → EventClaim x H.view K e o y × Holds y (count_event e o K) es)
 
 -- a tree that is made, with its arrays, a table with nothing written, and the sample of a sampled tree
-abbrev pub started : RCFTree → Lent → Option Sample → Kept
-started tree arrays sample = record { tree = tree; arrays = arrays; points = replicate point_limit no_ends; marks = replicate point_limit 0; sample = sample }
+abbrev pub started : RCFTree → NodeStore → Option Sample → Kept
+started tree arrays sample = record { tree = tree; arrays = arrays; table = record { points = replicate point_limit no_ends; written = replicate point_limit 0 }; sample = sample }
 
 -- For every number of channels, capacity and share that a making takes, and every list of puts, adds, deletes, queries and reports on a bare
 -- tree, of puts, arrivals, queries and reports on a sampled one, refused and not accepted ones included.
 pub record Demand3OfCode : Type 0 where
-  pub bare : (d c : ℕ) (s : Float) (before after : Lent) (tree : RCFTree) → MakeDone d c s before after (Tree tree)
+  pub bare : (d c : ℕ) (s : Float) (before after : NodeStore) (tree : RCFTree) → MakeDone d c s before after (Ok tree)
       → (es : List (Event d)) → Holds d c s (started tree after none) (nothing (whole d)) es
-  pub sampled : (d c : ℕ) (s f : Float) (before after : Lent) (weights weights' : List Float) (held held' : List ℕ) (h : SamplerPlusTree) → SampledMade d c s f before after weights weights' held held' (Sampled.Tree h)
+  pub sampled : (d c : ℕ) (s f : Float) (before after : NodeStore) (weights weights' : List Float) (held held' : List ℕ) (h : SamplerPlusTree) → SampledMade d c s f before after weights weights' held held' (Ok h)
       → (es : List (Event d)) → Holds d c s (started h.tree after (some (record { sampler = h.sampler; initial = h.initial_accept_fraction; weights = weights'; held = held' }))) (nothing (whole d)) es

@@ -12,6 +12,7 @@ use Rattle.cuttree.specs.Demand3.{view_of}
 use Rattle.cuttree.proofs.Refused.{by_put}
 use Rattle.wholetree.specs.Whole.{whole}
 use Rattle.sampledtree.specs.Sampled.{Sampled, SampledAnswer, plain as bare, not_accepted, accepted, fresh, arrive, call}
+use Rattle.pointstore.specs.Refusals.{same_number}
 use Rattle.pointstore.specs.Puts.{put_says}
 use Rattle.samplerplustree.specs.declared.SamplerPlusTree.{SamplerPlusTree}
 use Rattle.samplerplustree.specs.State.{head_of}
@@ -55,11 +56,11 @@ module _ (d : ℕ) where
 module _ (d c : ℕ) (s : Float) where
   put_told : (X : Sampled (whole d)) (i : ℕ) (xs : List Float) (r : ℕ)
       → put_lines (put_says d (Bare.call (whole d) X.capacity X.world (Bare.put i xs)).0) r ≡ told_row d (Bare.call (whole d) X.capacity X.world (Bare.put i xs)).0 r
-  put_told X i xs r = by_put (whole d) X.capacity (λ x. put_lines (put_says d x.0) r ≡ told_row d x.0 r) X.world (λ m. refl) i xs (λ U _. refl)
+  put_told X i xs r = by_put (whole d) X.capacity (λ x. put_lines (put_says d x.0) r ≡ told_row d x.0 r) X.world (λ m. ap (λ (n : ℕ). refused_line n r) (same_number m)) i xs (λ U _. refl)
 
   arrival_told_lem : (h : SamplerPlusTree) (G : View (whole d)) (P : View (whole d) → Type 0) (Q : List (Bare.Call (whole d)) → List (Bare.Answer (whole d)) → Type 0) (K : Counts (whole d)) (i : ℕ) (ws : List ℕ) (r : ℕ) (o : SampledAnswer (whole d)) → ArrivalClaim d c G P Q K i ws o
       → arrival_lines (update_says d h o) r ≡ arrival_told d o r
-  arrival_told_lem h G P Q K i ws r (bare a) ((x, e), q) = rw e refl
+  arrival_told_lem h G P Q K i ws r (bare a) ((x, e), q) = rw e (ap (λ (n : ℕ). refused_line n r) (same_number x))
   arrival_told_lem h G P Q K i ws r not_accepted q = refl
   arrival_told_lem h G P Q K i ws r (accepted j none) A = refl
   arrival_told_lem h G P Q K i ws r (accepted j (some e)) A = refl
@@ -84,11 +85,11 @@ archives_answer line m h L M lines =
     let f = sixteenths_of m.initial in
     let X = fresh (whole d) c f in
     let rows = rows_of lines in
-    let (few, room, small) = taken_sampled d c s f h M in
-    let R = runs_fresh d c s few true f room small (calls_in d rows) (all_sampled d rows) in
+    let (room, small) = taken_sampled d c s f h M in
+    let R = runs_fresh d c s true f room small (calls_in d rows) (all_sampled d rows) in
     let W = R.world in
     let ks = R.entries in
-    let A = R.answered (AtEnd d c ks (lines_in d c W.tree)) (sample_kept d c s few true f W ks R.counts R.kept refl, listing_of d c W.table W.free R.counts W.tree R.kept.counts) in
+    let A = R.answered (AtEnd d c ks (lines_in d c W.tree)) (sample_kept d c s true f W ks R.counts R.kept refl, listing_of d c W.table W.free R.counts W.tree R.kept.counts) in
     record {
       first = view_of (whole d) c (Bare.fresh (whole d) c) (nothing (whole d));
       answers = answers_to d s X (calls_in d rows);

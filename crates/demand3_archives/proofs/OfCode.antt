@@ -8,11 +8,11 @@ use native.Mathlib.Omega.{arith}
 use lib.Ieee.{Float}
 use lib.ListN.{length, take, length-append}
 use lib.Seq.{sets-eq, take_at}
+use Rattle.std.specs.Prelude.{Ok}
 use Rattle.wholetree.specs.Whole.{whole}
 use Rattle.sampledtree.specs.Sampled.{Sampled, fresh}
 use Rattle.pointstore.proofs.Empty.{unwritten}
 use Rattle.samplerplustree.specs.declared.SamplerPlusTree.{SamplerPlusTree}
-use Rattle.samplerplustree.specs.declared.MadeSampled.TheVariants.{Tree}
 use Rattle.samplerplustree.specs.State.{SampledState}
 use Rattle.form.specs.Making.{sixteenths_of}
 use Rattle.lines.specs.Lines.{Wrote}
@@ -39,7 +39,7 @@ module _ (d c : ℕ) (s f : Float) (answers : (lines : List (List ℕ)) → Rows
     on : x.batch.goes_on ≡ all_in_form ls
     counted : x.batch.number ≡ 1 + length ls
     told : bs ≡ printed d s start 1 (rows_of ls)
-    state : SampledState d s (rows_leave d start (rows_of ls)) x.batch.tree x.room.arrays x.points x.marks x.room.weights x.room.held
+    state : SampledState d s (rows_leave d start (rows_of ls)) x.batch.tree x.room.arrays x.table.points x.table.written x.room.weights x.room.held
 
   so_far : {x : Kept} {ls : List (List ℕ)} {bs : List ℕ} → Grown x ls bs → LinesAnswered d c s f x ls bs
   so_far {ls = ls} G = record {
@@ -69,7 +69,7 @@ module _ (d c : ℕ) (s f : Float) (answers : (lines : List (List ℕ)) → Rows
   )
 
 -- a line whose making gives a tree is in form
-in_form_lem : (o : Option ArchiveMaking) (before after : Room) (h : SamplerPlusTree) → MadeBy o before after (Tree h) → (m : ArchiveMaking) × (o ≡ some m)
+in_form_lem : (o : Option ArchiveMaking) (before after : Room) (h : SamplerPlusTree) → MadeBy o before after (Ok h) → (m : ArchiveMaking) × (o ≡ some m)
 in_form_lem none before after h M = let z : ◌≡◌ {A = ℕ} 0 1 = cc in absurd (omega arith)
 in_form_lem (some m) before after h M = (m, refl)
 
@@ -77,6 +77,6 @@ pub archives_answer_of_code : ArchivesAnswerOfCode
 unfolding rows_of
 archives_answer_of_code line before after h M =
     let (m, e) = in_form_lem (making_of_line line) before after h M in
-    let N : MadeBy (some m) before after (Tree h) = rw e at M in
+    let N : MadeBy (some m) before after (Ok h) = rw e at M in
     let S = N.state h refl _ _ (unwritten _ _ refl refl) in
     (m, e, holds m.channels m.capacity (sixteenths_of m.cached) (sixteenths_of m.initial) (archives_answer line m h e (sym N.answer)) (started h after) [] [] (record { on = refl; counted = refl; told = refl; state = S }))

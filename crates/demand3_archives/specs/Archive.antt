@@ -1,5 +1,5 @@
 -- Demand 3 of an archive: of the answers of its rows, line by line, and of the sample and the tree that are printed at its end. Definitions and the statement.
-use Rattle.std.specs.Prelude.{◌≡◌, List, [], ◌∷◌, ◌++◌, ℕ, ◌+◌, length, Float}
+use Rattle.std.specs.Prelude.{◌≡◌, List, [], ◌∷◌, ◌++◌, ℕ, ◌+◌, length, Float, Ok}
 use Rattle.std.proofs.Math.Option.{none, some}
 use Rattle.limits.specs.Limits.{capacity_limit}
 use Rattle.sampler.specs.Sample.{Entry}
@@ -9,7 +9,6 @@ use Rattle.cuttree.specs.Graph.{View}
 use Rattle.wholetree.specs.Whole.{whole}
 use Rattle.sampledtree.specs.Sampled.{SampledAnswer, plain as bare, not_accepted, accepted, fresh}
 use Rattle.samplerplustree.specs.declared.SamplerPlusTree.{SamplerPlusTree}
-use Rattle.samplerplustree.specs.declared.MadeSampled.TheVariants.{Tree}
 use Rattle.samplerplustree.specs.Making.{sampled_by}
 use Rattle.form.specs.Making.{sixteenths_of}
 use Rattle.lines.specs.Lines.{names_line, refused_line}
@@ -73,5 +72,5 @@ pub record RowsAnswered (d c : ℕ) (s f : Float) (rows : List ArchiveRow) : Typ
 -- For every making line in form whose making is accepted, and for all lines after it, carried out up to the first that is out of form. `printed` and `end_lines`
 -- are what the promises of `carry_line` and `print_end` say of these lines; OfCode.antt joins the promises.
 abbrev pub ArchivesAnswer : Type 0
-ArchivesAnswer = (line : List ℕ) (m : ArchiveMaking) (h : SamplerPlusTree) → making_of_line line ≡ some m → sampled_by m.channels m.capacity (sixteenths_of m.cached) (sixteenths_of m.initial) ≡ Tree h
+ArchivesAnswer = (line : List ℕ) (m : ArchiveMaking) (h : SamplerPlusTree) → making_of_line line ≡ some m → sampled_by m.channels m.capacity (sixteenths_of m.cached) (sixteenths_of m.initial) ≡ Ok h
     → (lines : List (List ℕ)) → RowsAnswered m.channels m.capacity (sixteenths_of m.cached) (sixteenths_of m.initial) (rows_of lines)

@@ -1,5 +1,5 @@
 -- A small archive of which `ArchivesAnswer` speaks: its making is accepted, three of its four lines are carried out, and this is what it prints. Computed.
-use Rattle.std.specs.Prelude.{◌≡◌, refl, List, [], ◌∷◌}
+use Rattle.std.specs.Prelude.{◌≡◌, refl, List, [], ◌∷◌, Ok}
 use Rattle.std.proofs.Math.Option.{some}
 use Rattle.std.specs.Float.{binary32}
 use Rattle.std.specs.Float.Ieee.{of_bits, to_bits, of_int, div, lt}
@@ -15,7 +15,6 @@ use Rattle.startingchance.specs.Chance.{fill_fraction, chance_of, starts_by}
 use Rattle.wholetree.specs.Reading.{is_row}
 use Rattle.wholetree.specs.Whole.{whole}
 use Rattle.sampledtree.specs.Sampled.{Sampled, fresh}
-use Rattle.samplerplustree.specs.declared.MadeSampled.TheVariants.{Tree}
 use Rattle.samplerplustree.specs.Making.{empty_sampled, sampled_by}
 use Rattle.form.specs.Making.{sixteenths_of}
 use Rattle.lines.specs.Lines.{digit, decimal_in, decimal, hex, leaf_line, refused_line}
@@ -31,7 +30,7 @@ making : making_of_line (bytes "1 2 16 16") ≡ some (record { channels = 1; cap
 unfolding archive_making_of pieces digit_value digits_from decimal_of
 making = refl
 
-made : sampled_by 1 2 (sixteenths_of 16) (sixteenths_of 16) ≡ Tree (empty_sampled 1 2 (sixteenths_of 16) (sixteenths_of 16))
+made : sampled_by 1 2 (sixteenths_of 16) (sixteenths_of 16) ≡ Ok (empty_sampled 1 2 (sixteenths_of 16) (sixteenths_of 16))
 unfolding sampled_by sixteenths_of is_share div of_int of_bits
 made = refl
 

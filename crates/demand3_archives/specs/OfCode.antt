@@ -1,13 +1,13 @@
 -- DEMAND 3 of an archive, of the code: for every list of parts in which its lines come, each carried out as the contract of `carry_lines` ensures it, from an accepted
 -- making and an unwritten table.
-use Rattle.std.specs.Prelude.{◌≡◌, true, List, [], ◌∷◌, ◌++◌, ℕ, ◌+◌, ◌≤◌, length, take, replicate, Float}
+use Rattle.std.specs.Prelude.{◌≡◌, true, List, [], ◌∷◌, ◌++◌, ℕ, ◌+◌, ◌≤◌, length, take, replicate, Float, Ok}
 use Rattle.std.proofs.Math.Option.{some}
 use Rattle.limits.specs.Limits.{point_limit}
 use Rattle.wholetree.specs.Whole.{whole}
 use Rattle.sampledtree.specs.Sampled.{fresh}
 use Rattle.layout.specs.Layout.{no_ends}
+use Rattle.pointstore.specs.declared.PointStore.{PointStore}
 use Rattle.samplerplustree.specs.declared.SamplerPlusTree.{SamplerPlusTree}
-use Rattle.samplerplustree.specs.declared.MadeSampled.TheVariants.{Tree}
 use Rattle.samplerplustree.specs.State.{SomeSampled}
 use Rattle.form.specs.Making.{sixteenths_of}
 use Rattle.lines.specs.Lines.{names_line, Wrote}
@@ -26,16 +26,14 @@ use Rattle.demand3_archives.specs.Archive.{rows_told, RowsAnswered}
 pub record Kept : Type 0 where
   pub batch : Batch
   pub room : Room
-  pub points : List (List Float)
-  pub marks : List ℕ
+  pub table : PointStore
 
 -- a tree that is made, before op row 1, and a table with nothing written
 abbrev pub started : SamplerPlusTree → Room → Kept
 started h room = record {
   batch = record { tree = h; read = 0; number = 1; end = 0; goes_on = true };
   room = room;
-  points = replicate point_limit no_ends;
-  marks = replicate point_limit 0;
+  table = record { points = replicate point_limit no_ends; written = replicate point_limit 0 };
 }
 
 -- a part of an archive: what of its text has come and is not carried out, and what is lent for it, rows for reports and a buffer for the answers
@@ -49,8 +47,8 @@ pub record Part : Type 0 where
 pub record PartStep (x : Kept) (p : Part) (y : Kept) (rows : List (List ℕ)) (out : List ℕ) : Type 0 where
   pub on : x.batch.goes_on ≡ true
   pub carries : TextCarries p.text x.batch.number
-      x.batch.tree x.room.arrays x.points x.marks x.room.weights x.room.held p.rows p.out
-      y.batch y.room.arrays y.points y.marks y.room.weights y.room.held rows out
+      x.batch.tree x.room.arrays x.table.points x.table.written x.room.weights x.room.held p.rows p.out
+      y.batch y.room.arrays y.table.points y.table.written y.room.weights y.room.held rows out
   pub fits : (y.batch.read ≤ length p.text) × (y.batch.number ≤ x.batch.number + y.batch.read) × (y.batch.end ≤ length p.out)
 
 -- whatever `print_end` writes of x as its contract ensures it, to whichever buffer and from whichever place on, is these bytes
@@ -65,7 +63,7 @@ module _ (d c : ℕ) (s f : Float) where
   -- After the lines ls, of which the bytes bs are told: x is a state as `carry_lines` and `print_end` ask for. There are answers to all rows so far that are as demand 3
   -- says, and they are the bytes told; what is printed if the archive ends here is the entries and the last tree of the same answers.
   pub record LinesAnswered (x : Kept) (ls : List (List ℕ)) (bs : List ℕ) : Type 0 where
-    pub stands : SomeSampled x.batch.tree x.room.arrays x.points x.marks x.room.weights x.room.held
+    pub stands : SomeSampled x.batch.tree x.room.arrays x.table.points x.table.written x.room.weights x.room.held
     pub rows : RowsAnswered d c s f (rows_of ls)
     pub told : bs ≡ rows_told d 1 (rows_of ls) rows.answers
     pub end : EndWrites x (sample_names ++ entry_lines rows.entries ++ (names_line ++ rows.listing))
@@ -84,5 +82,5 @@ module _ (d c : ℕ) (s f : Float) where
 -- For every line of which `make` gives a tree, as its contract ensures it: the line is in form; and for every list of parts, on that tree, before any line and any byte
 -- told.
 abbrev pub ArchivesAnswerOfCode : Type 0
-ArchivesAnswerOfCode = (line : List ℕ) (before after : Room) (h : SamplerPlusTree) → MadeBy (making_of_line line) before after (Tree h)
+ArchivesAnswerOfCode = (line : List ℕ) (before after : Room) (h : SamplerPlusTree) → MadeBy (making_of_line line) before after (Ok h)
     → (m : ArchiveMaking) × (making_of_line line ≡ some m) × ((ps : List Part) → Holds m.channels m.capacity (sixteenths_of m.cached) (sixteenths_of m.initial) (started h after) [] [] ps)

@@ -7,7 +7,8 @@ use Prim.Native.Nat.{ℕ, ◌≤◌}
 use native.Mathlib.Omega.{arith}
 use lib.ListN.{length}
 use lib.Ieee.{Float}
-use Rattle.limits.specs.Limits.{width, capacity_limit}
+use Rattle.std.specs.Prelude.{Result, Ok}
+use Rattle.limits.specs.Limits.{capacity_limit}
 use Rattle.readings.specs.Number.{nought}
 use Rattle.sampler.specs.Sample.{Entry}
 use Rattle.cuttree.specs.Run as Bare
@@ -25,8 +26,7 @@ use Rattle.sampledtree.specs.Arrivals.{Agrees, Arrives, counts_as}
 use Rattle.sampledtree.proofs.Arrivals.{every_arrival}
 use Rattle.sampledtree.proofs.Keeps.{every_put, fresh_agrees}
 use Rattle.samplerplustree.specs.declared.SamplerPlusTree.{SamplerPlusTree}
-use Rattle.samplerplustree.specs.declared.MadeSampled.{MadeSampled}
-use Rattle.samplerplustree.specs.declared.MadeSampled.TheVariants.{Tree}
+use Rattle.refusals.specs.declared.Refusal.{Refusal}
 use Rattle.samplerplustree.specs.State.{head_of}
 use Rattle.samplerplustree.specs.Updates.{update_says}
 use Rattle.nodeview.specs.Report.{report_of}
@@ -61,7 +61,7 @@ module _ (d : ℕ) (s : Float) where
   left_by X (e ∷ es) = left_by (left d s X e) es
 
 -- A call, from a world that agrees with the counts, and with the sample where there is one.
-module _ (d c : ℕ) (s : Float) (few : d ≤ width) (sampled : Bool) (f : Float) where
+module _ (d c : ℕ) (s : Float) (sampled : Bool) (f : Float) where
   abbrev at : World (whole d) → List Entry → Sampled (whole d)
   at W ks = sampled_at d c s f W ks
 
@@ -112,7 +112,7 @@ module _ (d c : ℕ) (s : Float) (few : d ≤ width) (sampled : Bool) (f : Float
       leaves = refl;
       kept = record { counts = inv_call (whole d) c (whole_laws d) W K e k.counts; agrees = plain_agrees e o };
       claim = (call_claim (whole d) c (whole_laws d) W K e k.counts, leaves_tree d c W K (count (whole d) e (Bare.call (whole d) c W e).0 K) e);
-      numbers_are = numbers_are d c s few W e;
+      numbers_are = numbers_are d c s W e;
     }
     step (arrives i w x ws) o = arrival i w x ws (call (whole d) (at W ks) (arrive i w x ws)) (every_arrival (whole d) (whole_laws d) (at W ks) i w x ws (k.agrees o))
     step (reports n xs) o = record { world = W; entries = ks; leaves = refl; kept = k; claim = (report_rows d c K n xs W k.counts, λ q. refl); numbers_are = refl }
@@ -152,7 +152,7 @@ module _ (d c : ℕ) (s : Float) (few : d ≤ width) (sampled : Bool) (f : Float
 
 -- A run's answers, with what P says besides of the last tree and the last counts.
 pub runs_with : (P : (d c : ℕ) → View (whole d) → Counts (whole d) → Type 0) → ((d c : ℕ) (W : World (whole d)) (K : Counts (whole d)) → Inv (whole d) c W K → P d c (view_of (whole d) c W K) K)
-    → (run lent : List ℕ) (es : List (RunCall (channels run))) (h : SamplerPlusTree) → calls run ≡ some es → made run ≡ Tree h
+    → (run lent : List ℕ) (es : List (RunCall (channels run))) (h : SamplerPlusTree) → calls run ≡ some es → made run ≡ Ok h
     → (as' : RunAnswers (channels run) es) × (G : View (whole (channels run)))
     × RunAnswered (channels run) (capacity run) (P (channels run) (capacity run)) G (nothing (whole (channels run))) es as'
     × (outcome run lent ≡ given (0 ∷ all_numbers (channels run) (capacity run) es as') lent)
@@ -160,12 +160,12 @@ runs_with P p run lent es h C M =
     let d = channels run in
     let c = capacity run in
     let s = share run in
-    let (few, room, small) = taken_by run h M in
-    let R = runs_fresh d c s few (is_sampled run) (cond (is_sampled run) (initial run) nought) room small es (calls_kind run es C) in (
+    let (room, small) = taken_by run h M in
+    let R = runs_fresh d c s (is_sampled run) (cond (is_sampled run) (initial run) nought) room small es (calls_kind run es C) in (
       answers_to d s (begun run) es,
       view_of (whole d) c (Bare.fresh (whole d) c) (nothing (whole d)),
       R.answered (P d c) (p d c R.world R.counts R.kept.counts),
-      ap (λ o. outcome_of run o lent) C ∙ ap (λ (m : MadeSampled). given (answered run m es) lent) M ∙ ap (λ (l : List ℕ). given (0 ∷ l) lent) R.told,
+      ap (λ o. outcome_of run o lent) C ∙ ap (λ (m : Result SamplerPlusTree Refusal). given (answered run m es) lent) M ∙ ap (λ (l : List ℕ). given (0 ∷ l) lent) R.told,
     )
 
 pub runs_answer : RunsAnswer

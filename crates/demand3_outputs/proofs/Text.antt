@@ -4,6 +4,7 @@ use mathlib.Core.Logic.{inl, inr}
 use mathlib.Core.Option.{Option, none, some}
 use mathlib.Core.List.{List, [], ◌∷◌, ◌++◌, map, append_assoc}
 use Prim.Native.Nat.{ℕ, ◌+◌}
+use Rattle.std.specs.Prelude.{Result, Ok}
 use Rattle.cuttree.specs.Tree.{Tree, leaf, branch, id}
 use Rattle.cuttree.specs.Run.{World, Answer, call, answers, world_after, fresh}
 use Rattle.cuttree.specs.Counts.{Counts, count_all, nothing}
@@ -18,8 +19,7 @@ use Rattle.wholetree.specs.Reading.{Reading}
 use Rattle.wholetree.specs.Whole.{whole}
 use Rattle.wholetree.proofs.Laws.{whole_laws}
 use Rattle.randomcuttree.specs.declared.RCFTree.{RCFTree}
-use Rattle.randomcuttree.specs.declared.Made.{Made}
-use Rattle.randomcuttree.specs.declared.Made.TheVariants.{Tree as TreeMade}
+use Rattle.refusals.specs.declared.Refusal.{Refusal}
 use Rattle.form.specs.Rows.{Op}
 use Rattle.form.specs.Making.{Making, sixteenths_of}
 use Rattle.form.specs.Form.{read, parsed}
@@ -70,7 +70,7 @@ module _ (d c : ℕ) where
 -- A text's answers and printed lines, with what P says of the last counts and of these lines.
 pub texts_with : (P : (d c : ℕ) → Counts (whole d) → List ℕ → Type 0)
     → ((d c : ℕ) (W : World (whole d)) (K : Counts (whole d)) → Inv (whole d) c W K → P d c K (lines_in d c W.tree))
-    → (text : List ℕ) (m : Making) (os : List Op) (tree : RCFTree) → parsed text ≡ read m os → listed_by m.channels m.capacity (sixteenths_of m.sixteenths) ≡ TreeMade tree
+    → (text : List ℕ) (m : Making) (os : List Op) (tree : RCFTree) → parsed text ≡ read m os → listed_by m.channels m.capacity (sixteenths_of m.sixteenths) ≡ Ok tree
     → (as' : List (Answer (whole m.channels))) × (lines : List ℕ) × (G : View (whole m.channels))
     × Answered m.channels m.capacity (Listing m.channels lines) G (nothing (whole m.channels)) (map (call_of m.channels) os) as'
     × (output text ≡ told_rows m.channels 0 as' ++ (names_line ++ lines))
@@ -81,12 +81,12 @@ texts_with P p text m os tree F M =
     let es = map (call_of d) os in
     let start = fresh (whole d) c in
     let last = world_after (whole d) c start es in
-    let room = (taken d c (sixteenths_of m.sixteenths) tree (made_listed d c (sixteenths_of m.sixteenths) tree M)).1 in (
+    let room = (taken d c (sixteenths_of m.sixteenths) tree (made_listed d c (sixteenths_of m.sixteenths) tree M)).0 in (
       answers (whole d) c start es,
       lines_in d c last.tree,
       view_of (whole d) c start (nothing (whole d)),
       Demand3.answered d c (Listing d (lines_in d c last.tree)) room es (λ K I. listing_of d c last.table last.free K last.tree I),
-      ap output_of F ∙ ap (λ (x : Made). output_by d c x os) M ∙ output_is d c start 0 os,
+      ap output_of F ∙ ap (λ (x : Result RCFTree Refusal). output_by d c x os) M ∙ output_is d c start 0 os,
       p d c last _ (Demand3.inv_all d c start (nothing (whole d)) es (inv_fresh (whole d) c room)),
     )
 

@@ -1,5 +1,5 @@
 -- Demand 3 of the C entry: of the calls that a byte run has and the answers that `sicklephlox_run` writes for them. Definitions and the statement.
-use Rattle.std.specs.Prelude.{◌≡◌, List, [], ◌∷◌, ◌++◌, ℕ, ◌-◌, length, replicate}
+use Rattle.std.specs.Prelude.{◌≡◌, List, [], ◌∷◌, ◌++◌, ℕ, ◌-◌, length, replicate, Ok}
 use Rattle.std.proofs.Math.Option.{none, some}
 use Rattle.std.specs.Float.{binary32}
 use Rattle.std.specs.Float.Ieee.{to_bits}
@@ -11,7 +11,6 @@ use Rattle.cuttree.specs.Demand3.{CallClaim}
 use Rattle.wholetree.specs.Whole.{whole, ends}
 use Rattle.sampledtree.specs.Sampled.{SampledAnswer, plain as bare, not_accepted, accepted}
 use Rattle.samplerplustree.specs.declared.SamplerPlusTree.{SamplerPlusTree}
-use Rattle.samplerplustree.specs.declared.MadeSampled.TheVariants.{Tree}
 use Rattle.nodeview.specs.Report.{ReportRow, Report, rows}
 use Rattle.demand3.specs.Answered.{Seen, SameTree, Leaves, count_arrival, ArrivalClaim, SampleClaim, ReportClaim}
 use Rattle.answers.specs.Said.{end_bits}
@@ -91,7 +90,7 @@ module _ (d c : ℕ) where
 -- besides of the last tree, and they are what is written, after the making's 0 and where the lent bytes are enough for them. `outcome` is what
 -- `sicklephlox_run` ensures.
 abbrev pub RunsAnswer : Type 0
-RunsAnswer = (run lent : List ℕ) (es : List (RunCall (channels run))) (h : SamplerPlusTree) → calls run ≡ some es → made run ≡ Tree h
+RunsAnswer = (run lent : List ℕ) (es : List (RunCall (channels run))) (h : SamplerPlusTree) → calls run ≡ some es → made run ≡ Ok h
     → (as' : RunAnswers (channels run) es) × (G : View (whole (channels run)))
     × RunAnswered (channels run) (capacity run) (λ H N. Unit {0}) G (nothing (whole (channels run))) es as'
     × (outcome run lent ≡ given (0 ∷ all_numbers (channels run) (capacity run) es as') lent)

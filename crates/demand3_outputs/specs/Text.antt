@@ -1,5 +1,5 @@
 -- Demand 3 of what `treelist` prints: of the op rows' refusals, and of the tree in its lines. Definitions and the statement.
-use Rattle.std.specs.Prelude.{◌≡◌, ◌⊎◌, List, [], ◌∷◌, ◌++◌, map, ℕ, ◌+◌}
+use Rattle.std.specs.Prelude.{◌≡◌, ◌⊎◌, List, [], ◌∷◌, ◌++◌, map, ℕ, ◌+◌, Ok}
 use Rattle.std.specs.Float.{binary32}
 use Rattle.std.specs.Float.Ieee.{to_bits}
 use Rattle.cuttree.specs.Run.{Answer, Row}
@@ -7,7 +7,6 @@ use Rattle.cuttree.specs.Counts.{nothing}
 use Rattle.cuttree.specs.Graph.{View, IsLeaf, IsBranch, IsNode, IsRoot}
 use Rattle.wholetree.specs.Whole.{whole}
 use Rattle.randomcuttree.specs.declared.RCFTree.{RCFTree}
-use Rattle.randomcuttree.specs.declared.Made.TheVariants.{Tree}
 use Rattle.form.specs.Rows.{Op}
 use Rattle.form.specs.Making.{Making, sixteenths_of}
 use Rattle.form.specs.Form.{read, parsed}
@@ -36,7 +35,7 @@ module _ (d : ℕ) where
 -- For every text in form whose making is accepted there are answers to its op rows that are as demand 3 says; the refused ones are told,
 -- then the names, then the last tree in its lines. `output` is what the text's promise ensures.
 abbrev pub TextsAnswer : Type 0
-TextsAnswer = (text : List ℕ) (m : Making) (os : List Op) (tree : RCFTree) → parsed text ≡ read m os → listed_by m.channels m.capacity (sixteenths_of m.sixteenths) ≡ Tree tree
+TextsAnswer = (text : List ℕ) (m : Making) (os : List Op) (tree : RCFTree) → parsed text ≡ read m os → listed_by m.channels m.capacity (sixteenths_of m.sixteenths) ≡ Ok tree
     → (as' : List (Answer (whole m.channels))) × (lines : List ℕ) × (G : View (whole m.channels))
     × Answered m.channels m.capacity (Listing m.channels lines) G (nothing (whole m.channels)) (map (call_of m.channels) os) as'
     × (output text ≡ told_rows m.channels 0 as' ++ (names_line ++ lines))

@@ -12,12 +12,12 @@ use Rattle.readings.specs.Number.{is_number, Number, zero as zero_number}
 use Rattle.readings.proofs.Ordered.{value_fits}
 use Rattle.cut.specs.declared.Cut.{Cut}
 use Rattle.cut.specs.declared.Separation.{Separation}
-use Rattle.cut.specs.declared.Separation.TheVariants.{NoCut, Drawn}
+use Rattle.std.specs.Prelude.{Option, Some, None}
 use Rattle.cut.specs.Draw.{separation}
 use Rattle.cuttree.specs.Setting.{CutOf}
 use Rattle.cuttree.specs.Tree.{Tree, height, walk, parted, drawn}
 use Rattle.cuttree.specs.Walk.{sub, kept}
-use Rattle.cuttree.proofs.Tests.{cond_false}
+use Rattle.cuttree.proofs.Tests.{cond_false, by-test}
 use Rattle.cuttree.proofs.Loop.{kept_inside}
 use Rattle.wholetree.specs.Reading.{Reading}
 use Rattle.wholetree.specs.Whole.{whole, cut_in}
@@ -62,23 +62,22 @@ module _ (d c : ℕ) (t : Tree (whole d)) (p : Reading) (words : List ℕ) where
   kept_to m = kept (whole d) t p (word_at words) (no_cut d) m
 
   -- the draw of the node of height m
-  module _ (m : ℕ) (W : word_at words m < 2 ^ 64) (s : Separation) (e : separation width (low_of d c (sub (whole d) t m p)) (high_of d c (sub (whole d) t m p)) p.row (word_at words m) ≡ s) where
+  module _ (m : ℕ) (W : word_at words m < 2 ^ 64) (s : Option Separation) (e : separation width (low_of d c (sub (whole d) t m p)) (high_of d c (sub (whole d) t m p)) p.row (word_at words m) ≡ s) where
     pub numbered : Numbered s
     numbered = go s e
       where
-        go : (s : Separation) → separation width (low_of d c (sub (whole d) t m p)) (high_of d c (sub (whole d) t m p)) p.row (word_at words m) ≡ s → Numbered s
-        go NoCut e = tt
-        go (Drawn k a) e = (tree_cut (tree_box d (sub (whole d) t m p)) p d (word_at words m) W k a e).value_is_number
+        go : (s : Option Separation) → separation width (low_of d c (sub (whole d) t m p)) (high_of d c (sub (whole d) t m p)) p.row (word_at words m) ≡ s → Numbered s
+        go None e = tt
+        go (Some v) e = (tree_cut (tree_box d (sub (whole d) t m p)) p d (word_at words m) W v e).value_is_number
 
     pub chosen_on : chosen_by (numbers_of (kept_to m)) m s ≡ numbers_of (kept_to (suc m))
     chosen_on = go s e (parted_is (tree_box d (sub (whole d) t m p)) p d (word_at words m) W ∙ ap parted_in e) (draw_is (tree_box d (sub (whole d) t m p)) p d (word_at words m) W ∙ ap cut_in e)
       where
-        go : (s : Separation) → separation width (low_of d c (sub (whole d) t m p)) (high_of d c (sub (whole d) t m p)) p.row (word_at words m) ≡ s → parted (whole d) (sub (whole d) t m p) p (word_at words m) ≡ parted_in s → drawn (whole d) (sub (whole d) t m p) p (word_at words m) ≡ cut_in s
+        go : (s : Option Separation) → separation width (low_of d c (sub (whole d) t m p)) (high_of d c (sub (whole d) t m p)) p.row (word_at words m) ≡ s → parted (whole d) (sub (whole d) t m p) p (word_at words m) ≡ parted_in s → drawn (whole d) (sub (whole d) t m p) p (word_at words m) ≡ cut_in s
             → chosen_by (numbers_of (kept_to m)) m s ≡ numbers_of (kept_to (suc m))
-        go NoCut e b x = ap numbers_of (sym (cond_false _ _ _ b))
-        go (Drawn k true) e b x = rw (b, x, (tree_cut (tree_box d (sub (whole d) t m p)) p d (word_at words m) W k true e).value_is)
-        go (Drawn k false) e b x = ap numbers_of (sym (cond_false _ _ _ b))
+        go None e b x = ap numbers_of (sym (cond_false _ _ _ b))
+        go (Some v) e b x = by-test v.parts (λ q. rw (q, b ∙ q, x, (tree_cut (tree_box d (sub (whole d) t m p)) p d (word_at words m) W v e).value_is)) (λ q. rw q (ap numbers_of (sym (cond_false _ _ _ (b ∙ q)))))
 
     -- no cut: nothing more is kept up to the root
-    pub kept_held : m ≤ height (whole d) t p → s ≡ NoCut → kept_to (walk (whole d) t p) ≡ kept_to m
+    pub kept_held : m ≤ height (whole d) t p → s ≡ None → kept_to (walk (whole d) t p) ≡ kept_to m
     kept_held h n = kept_inside (whole d) (whole_laws d) m (walk (whole d) t p) p t (word_at words) (no_cut d) (omega arith) (omega arith) (no_cut_holds (tree_box d (sub (whole d) t m p)) p d (word_at words m) W (e ∙ n))

@@ -1,6 +1,6 @@
 -- The loop before the node of height m: the cut that it has chosen, whichever tree stands in the arrays, and the ends of the node below unless its box is at hand; the node's own ends; and each way on or out. Assumes nothing.
 use mathlib.Core.Path.{◌≡◌, refl, sym, ap, ◌∙◌, subst}
-use mathlib.Core.Bool.{Bool, true, false, not}
+use mathlib.Core.Bool.{true, false, not}
 use mathlib.Core.Logic.{◌⊎◌, ⊎_elim}
 use mathlib.Core.List.{List, [], ◌∷◌}
 use Prim.Native.Nat.{ℕ, ◌+◌, ◌-◌, ◌^◌, ◌≤◌, ◌<◌}
@@ -12,9 +12,9 @@ use lib.ListN.{get_or, take}
 use lib.Ieee.{Float, binary32, nan_bits}
 use Rattle.limits.specs.Limits.{width, capacity_limit, branch_limit}
 use Rattle.boundingbox.specs.declared.BoundingBox.{BoundingBox}
-use Rattle.cut.specs.declared.Cut.{Cut}
 use Rattle.cut.specs.declared.Separation.{Separation}
-use Rattle.cut.specs.declared.Separation.TheVariants.{NoCut, Drawn}
+use Rattle.std.specs.Prelude.{Option, None}
+use Rattle.std.specs.Prelude.{Some as Drawn}
 use Rattle.cut.specs.Draw.{separation}
 use Rattle.cut.specs.Laws.{Readings, Padded}
 use Rattle.cuttree.specs.Tree.{Tree, id, ending}
@@ -72,7 +72,7 @@ module _ (c k channels : ℕ) (nodes : List (List ℕ)) (points : List (List Flo
     pub padded_rows : channels ≤ width → PaddedRow channels point → Padded (get_or E 0 []) (get_or E 1 []) point channels width
     padded_rows h R = record { fewer = h; low = B.padded.low.rest; high = B.padded.high.rest; point = R.rest }
 
-    module _ (s : Separation) (X : s ≡ separation width (get_or E 0 []) (get_or E 1 []) point (get_or words m 0)) where
+    module _ (s : Option Separation) (X : s ≡ separation width (get_or E 0 []) (get_or E 1 []) point (get_or words m 0)) where
       pub drawn_in : (d : ℕ) (t : Tree (whole d)) (p : Reading) → In d t p → separation width (low_of d c (sub (whole d) t m p)) (high_of d c (sub (whole d) t m p)) p.row (get_or words m 0) ≡ s
       drawn_in d t p D = rw (← (B.at_node d t p D).low, ← (B.at_node d t p D).high, ← D.row) (sym X)
 
@@ -167,8 +167,8 @@ module _ (c k channels : ℕ) (nodes : List (List ℕ)) (points : List (List Flo
           let f = leb-false k node w.0 in
           record { here = rw w.0 (record { padded = P.slots node (in_slots S h); at_node = λ d t p D. own_box D f }); padded = rw w.1 G.padded; own = λ n. absurd (omega arith) })
 
-      module _ (X' : List (List Float)) (K : Ends m node X') (W : get_or words m 0 < 2 ^ 64) (v : Separation) (Y : v ≡ separation width (get_or (drawn_from node X') 0 []) (get_or (drawn_from node X') 1 []) point (get_or words m 0)) where
-        pub kept_there : v ≡ NoCut → (d : ℕ) (t : Tree (whole d)) (p : Reading) → In d t p → Kept d c t p words len (highest_of s m)
+      module _ (X' : List (List Float)) (K : Ends m node X') (W : get_or words m 0 < 2 ^ 64) (v : Option Separation) (Y : v ≡ separation width (get_or (drawn_from node X') 0 []) (get_or (drawn_from node X') 1 []) point (get_or words m 0)) where
+        pub kept_there : v ≡ None → (d : ℕ) (t : Tree (whole d)) (p : Reading) → In d t p → Kept d c t p words len (highest_of s m)
         kept_there e d t p D =
             let g = G.turn d t p D in
             let is = drawn_in m _ K.here v Y d t p D in
@@ -183,8 +183,8 @@ module _ (c k channels : ℕ) (nodes : List (List ℕ)) (points : List (List Flo
               hold_not = g.outside;
             })
 
-        pub going_on : (q : Cut) (a : Bool) → v ≡ Drawn q a → (y : Chosen) → y ≡ chosen_at s m q a → Going (m + 1) X' y
-        going_on q a e y Z = record {
+        pub going_on : (q : Separation) → v ≡ Drawn q → (y : Chosen) → y ≡ chosen_at s m q.cut q.parts → Going (m + 1) X' y
+        going_on q e y Z = record {
           some = omega arith;
           within = omega arith;
           padded = K.padded;
@@ -193,7 +193,7 @@ module _ (c k channels : ℕ) (nodes : List (List ℕ)) (points : List (List Flo
               let g = G.turn d t p D in
               let is = drawn_in m _ K.here v Y d t p D ∙ e in
               record {
-                chosen_is = Z ∙ ap (λ (x : Chosen). chosen_at x m q a) g.chosen_is ∙ rw (add-one m) (chosen_on d c t p words m W (Drawn q a) is);
-                outside = λ j f l. by-test (ltb j m) (λ h. g.outside j f (omega (arith, ltb-true))) (λ h. let z : j ≡ m = omega (arith, ltb-false) in rw z (drawn_outside d c t p m (get_or words m 0) W q a is));
+                chosen_is = Z ∙ ap (λ (x : Chosen). chosen_at x m q.cut q.parts) g.chosen_is ∙ rw (add-one m) (chosen_on d c t p words m W (Drawn q) is);
+                outside = λ j f l. by-test (ltb j m) (λ h. g.outside j f (omega (arith, ltb-true))) (λ h. let z : j ≡ m = omega (arith, ltb-false) in rw z (drawn_outside d c t p m (get_or words m 0) W q is));
               };
         }

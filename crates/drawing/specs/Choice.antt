@@ -1,11 +1,10 @@
 -- One node of the loop: the ends that it draws from, and what is chosen by the draw, as numbers. Definitions.
-use Rattle.std.specs.Prelude.{Bool, cond, List, [], ℕ, T, get_or, Float}
+use Rattle.std.specs.Prelude.{Bool, cond, Option, Some, None, List, [], ℕ, T, get_or, Float}
 use Rattle.std.specs.Float.{binary32}
 use Rattle.std.specs.Float.Ieee.{to_bits, of_bits}
 use Rattle.readings.specs.Number.{is_number}
 use Rattle.cut.specs.declared.Cut.{Cut}
 use Rattle.cut.specs.declared.Separation.{Separation}
-use Rattle.cut.specs.declared.Separation.TheVariants.{NoCut, Drawn}
 use Rattle.drawing.specs.declared.Chosen.{Chosen}
 use Rattle.drawing.specs.declared.Highest.{Highest}
 
@@ -20,14 +19,14 @@ none_chosen = record { height = 0; dimension = 0; bits = 0 }
 abbrev pub chosen_at : Chosen → ℕ → Cut → Bool → Chosen
 chosen_at s m k b = cond b (record { height = m; dimension = k.dimension; bits = to_bits binary32 k.value }) s
 
-abbrev pub chosen_by : Chosen → ℕ → Separation → Chosen
-chosen_by s m NoCut = s
-chosen_by s m (Drawn k b) = chosen_at s m k b
+abbrev pub chosen_by : Chosen → ℕ → Option Separation → Chosen
+chosen_by s m None = s
+chosen_by s m (Some v) = chosen_at s m v.cut v.parts
 
 -- the value of a drawn cut is a number
-abbrev pub Numbered : Separation → Type 0
-Numbered NoCut = Unit {0}
-Numbered (Drawn k b) = T (is_number k.value)
+abbrev pub Numbered : Option Separation → Type 0
+Numbered None = Unit {0}
+Numbered (Some v) = T (is_number v.cut.value)
 
 -- what is handed back of them
 abbrev pub highest_of : Chosen → ℕ → Highest

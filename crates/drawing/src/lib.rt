@@ -1,25 +1,26 @@
 // The leaf-to-root loop of `RCFTree::add`: a word for each node of the walk, and the highest cut that parts the new point from a node's box.
 #![tactic(auto)]
 
-ghost use Rattle.std.specs.Prelude.{◌≡◌, false, not, cond, [], ℕ, ◌≤◌, ◌<◌, T, get_or};
+ghost use Rattle.std.specs.Prelude.{◌≡◌, false, not, [], ℕ, ◌<◌, T, get_or};
 ghost use Rattle.std.specs.Float.{binary32};
 ghost use Rattle.std.specs.Float.Ieee.{nan_bits};
-ghost use Rattle.limits.specs.Limits.{width, capacity_limit, branch_limit, point_limit};
+ghost use Rattle.limits.specs.Limits.{width, branch_limit, point_limit};
 ghost use Rattle.readings.specs.Number.{is_number};
 ghost use Rattle.cut.specs.Draw.{separation};
 ghost use Rattle.cut.specs.Laws.{Readings, Padded};
 ghost use Rattle.cuttree.specs.Tree.{Tree};
 ghost use Rattle.wholetree.specs.Reading.{Reading};
 ghost use Rattle.wholetree.specs.Whole.{whole};
-ghost use Rattle.rowboxes.specs.Rows.{capacity_of, cached_of, channels_of, PaddedRow, PaddedTable, PaddedBoxes};
+ghost use Rattle.rowboxes.specs.Rows.{PaddedRow};
 ghost use Rattle.drawing.specs.Choice.{ends_for, Numbered, none_chosen, chosen_at, chosen_by, highest_of};
 ghost use Rattle.drawing.specs.Drawing.{Drawing, SomeDrawing, Kept};
 
-use boxstore::{node_of, sibling_at};
-use branchboxes::{either, ends_above};
+use branchboxes::ends_above;
+use casts::wide16;
 use cut::{Cut, Separation};
-use limits::{Boxes, Nodes, Path, Points, Row};
-use rowboxes::{Ends, Sizes};
+use limits::{Boxes, Path, Points, Row};
+use rowboxes::{Boxing, Ends};
+use walk::{either, node_at, sibling_at};
 
 // The cut that is kept: the height of its node on the walk, the leaf's being 0; and the cut. From the height `top` on, every box of the walk holds the point.
 #[derive(Clone, Copy)]
@@ -37,12 +38,6 @@ struct Chosen {
     bits: u32,
 }
 
-fn either_bits(first: bool, x: u32, y: u32) -> u32
-    ensures { result ≡ cond first x y }
-{
-    if first { x } else { y }
-}
-
 // The cut of a node where it parts, else what was chosen before.
 fn chosen_at(before: Chosen, m: usize, cut: Cut, parts: bool) -> Chosen
     requires { T (is_number cut.value) }
@@ -51,7 +46,7 @@ fn chosen_at(before: Chosen, m: usize, cut: Cut, parts: bool) -> Chosen
     Chosen {
         height: either(parts, m, before.height),
         dimension: either(parts, cut.dimension, before.dimension),
-        bits: either_bits(parts, f32::to_bits(cut.value), before.bits),
+        bits: either(parts, f32::to_bits(cut.value), before.bits),
     }
 }
 
@@ -75,10 +70,10 @@ fn chosen_first(points: &Points, leaf: usize, word: u64, point: &Row, dimensions
         point,
         dimensions,
     );
-    match first {
-        Separation::NoCut => none,
-        Separation::Drawn(cut, parts) => chosen_at(none, 0, cut, parts),
-    }
+    let Some(drawn) = first else {
+        return none;
+    };
+    chosen_at(none, 0, drawn.cut, drawn.parts)
 }
 
 fn highest_of(chosen: Chosen, top: usize) -> Highest
@@ -104,7 +99,7 @@ fn drawn_of<'a>(
     word: u64,
     point: &Row,
     dimensions: usize,
-) -> Separation
+) -> Option<Separation>
     requires slot { partly ≡ false → branch < branch_limit }
     requires readings { Readings (get_or (ends_for partly branch ends.now boxes.now) 0 []) (get_or (ends_for partly branch ends.now boxes.now) 1 []) point.now width }
     requires padded { Padded (get_or (ends_for partly branch ends.now boxes.now) 0 []) (get_or (ends_for partly branch ends.now boxes.now) 1 []) point.now dimensions width }
@@ -116,45 +111,45 @@ fn drawn_of<'a>(
 }
 
 // The highest cut that parts the point from a node's box, of one drawn at each node of the walk, from the leaf to the root. Once a box
-// holds the point, every box above does, and the words there change nothing.
+// holds the point, every box above does, and the words there change nothing. The path is lent whole beside `len`, as what is told of the walk speaks of both.
 // Rules out the lowest cut that parts, and a `top` with a box above it that does not hold the point.
-pub fn highest_cut<'a>(
-    nodes: &Nodes,
-    points: &'a Points,
-    boxes: &'a Boxes,
+pub fn highest_cut(
+    boxing: &Boxing,
     path: &Path,
     len: usize,
     leaf: usize,
     words: &[u64],
     point: &Row,
-    sizes: &Sizes,
 ) -> Highest
-    requires few { (capacity_of sizes.now ≤ capacity_limit) × (cached_of sizes.now ≤ branch_limit) × (channels_of sizes.now ≤ width) }
-    requires walked { SomeDrawing (capacity_of sizes.now) (cached_of sizes.now) nodes.now points.now boxes.now path.now len leaf words.now point.now }
-    requires padded { PaddedRow (channels_of sizes.now) point.now × PaddedTable (channels_of sizes.now) points.now × PaddedBoxes (channels_of sizes.now) boxes.now }
-    ensures { (d : ℕ) (t : Tree (whole d)) (p : Reading) → Drawing d (capacity_of sizes.now) t p (cached_of sizes.now) nodes.now points.now boxes.now path.now len leaf words.now point.now → Kept d (capacity_of sizes.now) t p words.now len result }
+    requires walked { SomeDrawing boxing.now.sizes.capacity boxing.now.sizes.cached boxing.now.nodes.now boxing.now.points.now boxing.now.boxes.now path.now len leaf words.now point.now }
+    requires padded { PaddedRow boxing.now.sizes.channels point.now }
+    ensures { (d : ℕ) (t : Tree (whole d)) (p : Reading) → Drawing d boxing.now.sizes.capacity t p boxing.now.sizes.cached boxing.now.nodes.now boxing.now.points.now boxing.now.boxes.now path.now len leaf words.now point.now
+        → Kept d boxing.now.sizes.capacity t p words.now len result }
 {
-    let mut chosen = chosen_first(points, leaf, words[0], point, sizes[2]);
+    let dimensions = boxing.sizes.channels;
+    let mut chosen = chosen_first(boxing.points, leaf, words[0], point, dimensions);
     let mut ends: Ends = [*point, *point];
-    let mut m: usize = 1;
-    while m < len {
-        let branch = node_of(path, len - 1 - m);
-        let partly = sizes[1] <= branch;
+    for m in 1..len {
+        let branch = wide16(node_at(path, len - 1 - m));
+        let partly = boxing.sizes.cached <= branch;
         if partly {
-            let below = node_of(path, len - m);
-            let sibling = sibling_at(path, len, m - 1);
-            ends_above(&mut ends, below, sibling, nodes, points, boxes, sizes);
+            let below = wide16(node_at(path, len - m));
+            let sibling = wide16(sibling_at(path, len - m));
+            ends_above(&mut ends, below, sibling, boxing);
         }
-        let drawn = drawn_of(partly, branch, &ends, boxes, words[m], point, sizes[2]);
-        match drawn {
-            Separation::NoCut => {
-                return highest_of(chosen, m);
-            }
-            Separation::Drawn(cut, parts) => {
-                chosen = chosen_at(chosen, m, cut, parts);
-            }
-        }
-        m += 1;
+        let draw = drawn_of(
+            partly,
+            branch,
+            &ends,
+            boxing.boxes,
+            words[m],
+            point,
+            dimensions,
+        );
+        let Some(drawn) = draw else {
+            return highest_of(chosen, m);
+        };
+        chosen = chosen_at(chosen, m, drawn.cut, drawn.parts);
     }
     highest_of(chosen, len)
 }

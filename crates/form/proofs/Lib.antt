@@ -1,7 +1,6 @@
 pub mod Fields
 pub mod Rows
-pub mod Names
-pub mod Making
+pub mod MakingRow
 pub mod Lines
 pub mod Blocks
 pub mod Tells

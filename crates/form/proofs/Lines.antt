@@ -1,7 +1,7 @@
 -- The first pieces of a text one by one, and its op rows one by one. Assumes nothing.
 use mathlib.Core.Path.{◌≡◌, refl, sym, ap, ◌∙◌}
 use mathlib.Core.List.{List, [], ◌∷◌}
-use mathlib.Core.Option.{Option, none, some}
+use mathlib.Core.Option.{Option as Maybe, none, some}
 use mathlib.Core.Bool.{Bool, true, false, true≢false, false≢true}
 use Prim.Native.Nat.{ℕ, suc, ◌+◌, ◌-◌, ◌≤◌}
 use native.Mathlib.Nat.{add-zero}
@@ -10,10 +10,11 @@ use borrow.Author.Tests.{ne_eqb}
 use lib.ListN.{length, take, drop, length-take, length-drop}
 use Rattle.text.specs.Pieces.{pieces, pieces_from, PieceEnds}
 use Rattle.text.proofs.Pieces.{from_zero, from_first, from_past, own_end}
-use Rattle.form.specs.Rows.{Op, row_of, is_some}
+use Rattle.form.specs.Rows.{Op, row_of, is_there}
 use Rattle.form.specs.Form.{Rows, bad_row, op_rows, with_row, rows_from}
 use Rattle.form.specs.Lines.{rows_form}
-use Rattle.form.specs.declared.Form.TheVariants.{Good, Bad}
+use Rattle.std.specs.Prelude.{Ok}
+use Rattle.form.specs.Form.{first_bad}
 
 -- ---- one, two, or three pieces and more
 module _ (b : ℕ) (s : List ℕ) {x : ℕ} (wx : PieceEnds b s 0 x) where
@@ -44,15 +45,15 @@ lines {s} {at} {e} n h x m =
     rw (from_first 10 s at e h x, from_first 10 s (e + 1) _ g (own_end 10 s (e + 1) g))
 
 -- a row more before the others
-counted : (n : ℕ) (o : Option Op) (r : Rows) → is_some o ≡ true → rows_form n (with_row (n + 1) o r) ≡ rows_form (n + 1) r
+counted : (n : ℕ) (o : Maybe Op) (r : Rows) → is_there o ≡ true → rows_form n (with_row (n + 1) o r) ≡ rows_form (n + 1) r
 counted n none r h = absurd (false≢true h)
 counted n (some o) (bad_row k) h = refl
-counted n (some o) (op_rows os) h = ap Good (more (length os))
+counted n (some o) (op_rows os) h = ap Ok (more (length os))
   where
     more : (l : ℕ) → n + suc l ≡ n + 1 + l
     more l = omega arith
 
-stopped : (n : ℕ) (o : Option Op) (r : Rows) → is_some o ≡ false → rows_form n (with_row (n + 1) o r) ≡ Bad (n + 1)
+stopped : (n : ℕ) (o : Maybe Op) (r : Rows) → is_there o ≡ false → rows_form n (with_row (n + 1) o r) ≡ first_bad (n + 1)
 stopped n none r h = refl
 stopped n (some o) r h = absurd (true≢false h)
 
@@ -66,27 +67,27 @@ pub count_start : {s : List ℕ} {k : ℕ} → k ≤ length s → Counting s k k
 count_start h = record { within = h; few = omega arith; same = refl }
 
 module _ {s : List ℕ} {k at n e : ℕ} (w : Counting s k at n) (x : PieceEnds 10 s at e) where
-  pub count_end : e ≡ length s → e ≡ at → Good n ≡ rows_form 0 (rows_from 0 (pieces_from 10 s k))
+  pub count_end : e ≡ length s → e ≡ at → Ok n ≡ rows_form 0 (rows_from 0 (pieces_from 10 s k))
   unfolding rows_from
   count_end h q =
       let z : e - at ≡ 0 = omega arith in
       rw (from_first 10 s at e w.within x, from_past 10 s (e + 1) (omega arith), piece_length x, z, add-zero n) at w.same
 
-  pub count_tail : e ≡ length s → (e ≡ at → ⊥) → Bad (n + 1) ≡ rows_form 0 (rows_from 0 (pieces_from 10 s k))
+  pub count_tail : e ≡ length s → (e ≡ at → ⊥) → first_bad (n + 1) ≡ rows_form 0 (rows_from 0 (pieces_from 10 s k))
   unfolding rows_from
   count_tail h q =
       let z : e - at ≡ 0 → ⊥ = λ y. absurd (q (omega arith)) in
       rw (from_first 10 s at e w.within x, from_past 10 s (e + 1) (omega arith), piece_length x, ne_eqb _ _ z) at w.same
 
   module _ (m : e ≡ length s → ⊥) where
-    module _ {t : Bool} (p : t ≡ is_some (row_of (pieces 32 (take (e - at) (drop at s))))) where
-      abbrev row : Option Op
+    module _ {t : Bool} (p : t ≡ is_there (row_of (pieces 32 (take (e - at) (drop at s))))) where
+      abbrev row : Maybe Op
       row = row_of (pieces 32 (take (e - at) (drop at s)))
 
       abbrev rest : Rows
       rest = rows_from (n + 1) (pieces_from 10 s (e + 1))
 
-      pub count_bad : t ≡ false → Bad (n + 1) ≡ rows_form 0 (rows_from 0 (pieces_from 10 s k))
+      pub count_bad : t ≡ false → first_bad (n + 1) ≡ rows_form 0 (rows_from 0 (pieces_from 10 s k))
       count_bad z = sym (ap (rows_form n) (lines n w.within x m) ∙ stopped n row rest (sym p ∙ z)) ∙ w.same
 
       pub count_step : t ≡ true → Counting s k (e + 1) (n + 1)

@@ -1,7 +1,7 @@
 -- A text that is read, by its lines: the making's row, then the op rows one by one. Assumes nothing.
 use mathlib.Core.Path.{◌≡◌, refl, sym, ap, ◌∙◌}
 use mathlib.Core.List.{List, [], ◌∷◌}
-use mathlib.Core.Option.{Option, none, some}
+use mathlib.Core.Option.{Option as Maybe, none, some}
 use mathlib.Core.Bool.{Bool, true, false, ◌&&◌, cond, false≢true}
 use Prim.Native.Nat.{ℕ, ◌+◌, ◌-◌, ◌≤◌}
 use native.Mathlib.Omega.{arith}
@@ -11,10 +11,11 @@ use Rattle.text.specs.Pieces.{pieces, pieces_from, PieceEnds}
 use Rattle.text.proofs.Pieces.{from_first, from_past}
 use Rattle.form.specs.Rows.{Op, row_of}
 use Rattle.form.specs.Making.{Making, making_of}
-use Rattle.form.specs.Form.{Rows, bad_row, op_rows, with_row, rows_from, same_bytes, making_names, op_names, Parsed, bad, read, made, blocks, parsed, form_from, form_of}
+use Rattle.form.specs.Form.{Rows, bad_row, op_rows, with_row, rows_from, making_names, op_names, Parsed, bad, read, made, blocks, parsed, form_from, form_of}
 use Rattle.form.specs.Lines.{FirstLines}
-use Rattle.form.specs.declared.Form.{Form}
-use Rattle.form.specs.declared.Form.TheVariants.{Good, Bad}
+use Rattle.form.specs.declared.BadRow.{BadRow}
+use Rattle.std.specs.Prelude.{Result, Ok, Err, bytes_eq}
+use Rattle.form.specs.Form.{first_bad}
 use Rattle.form.proofs.Lines.{lines}
 use Rattle.form.proofs.Blocks.{by_blocks}
 
@@ -23,7 +24,7 @@ is_read : Parsed → Bool
 is_read (bad r) = false
 is_read (read m os) = true
 
-making_in : Parsed → Option Making
+making_in : Parsed → Maybe Making
 making_in (bad r) = none
 making_in (read m os) = some m
 
@@ -39,13 +40,13 @@ ops_of : Rows → List Op
 ops_of (bad_row k) = []
 ops_of (op_rows os) = os
 
-is_good : Form → Bool
-is_good (Good n) = true
-is_good (Bad r) = false
+is_good : Result ℕ BadRow → Bool
+is_good (Ok n) = true
+is_good (Err r) = false
 
 module _ {m : Making} {os : List Op} where
   -- so an answer `Bad` is ruled out
-  pub read_not_bad : (s : List ℕ) {r : ℕ} → parsed s ≡ read m os → Bad r ≡ form_of s → ⊥
+  pub read_not_bad : (s : List ℕ) {r : ℕ} → parsed s ≡ read m os → first_bad r ≡ form_of s → ⊥
   unfolding form_of is_good
   read_not_bad s e f = false≢true (ap is_good (f ∙ ap form_from e))
 
@@ -62,9 +63,9 @@ module _ {m : Making} {os : List Op} where
   pub read_lines : {s : List ℕ} {a b c : ℕ} → FirstLines s a b c → blocks (pieces 10 s) ≡ read m os
       → (making_of (pieces 32 (take (b - (a + 1)) (drop (a + 1) s))) ≡ some m) × (rows_from 0 (pieces_from 10 s (c + 1)) ≡ op_rows os)
   unfolding is_read making_in ops_in
-  read_lines {s} {a} {b} {c} w e = go (same_bytes (take (a - 0) (drop 0 s)) making_names && same_bytes (take (c - (b + 1)) (drop (b + 1) s)) op_names) _ _ (sym (by_blocks w) ∙ e)
+  read_lines {s} {a} {b} {c} w e = go (bytes_eq (take (a - 0) (drop 0 s)) making_names && bytes_eq (take (c - (b + 1)) (drop (b + 1) s)) op_names) _ _ (sym (by_blocks w) ∙ e)
     where
-      go : (t : Bool) (o : Option Making) (r : Rows) → cond t (made o r) (bad 0) ≡ read m os → (o ≡ some m) × (r ≡ op_rows os)
+      go : (t : Bool) (o : Maybe Making) (r : Rows) → cond t (made o r) (bad 0) ≡ read m os → (o ≡ some m) × (r ≡ op_rows os)
       go false o r f = absurd (false≢true (ap is_read f))
       go true none r f = absurd (false≢true (ap is_read f))
       go true (some x) (bad_row k) f = absurd (false≢true (ap is_read f))
@@ -83,7 +84,7 @@ module _ {s : List ℕ} {at e : ℕ} (n : ℕ) {os : List Op} (h : at ≤ length
   unfolding are_read ops_of
   next_row m = go (row_of (pieces 32 (take (e - at) (drop at s)))) (rows_from (n + 1) (pieces_from 10 s (e + 1))) refl refl (sym (lines n h x m) ∙ r)
     where
-      go : (o : Option Op) (q : Rows) → row_of (pieces 32 (take (e - at) (drop at s))) ≡ o → rows_from (n + 1) (pieces_from 10 s (e + 1)) ≡ q → with_row (n + 1) o q ≡ op_rows os → NextRow s n at e os
+      go : (o : Maybe Op) (q : Rows) → row_of (pieces 32 (take (e - at) (drop at s))) ≡ o → rows_from (n + 1) (pieces_from 10 s (e + 1)) ≡ q → with_row (n + 1) o q ≡ op_rows os → NextRow s n at e os
       go none q a b f = absurd (false≢true (ap are_read f))
       go (some o) (bad_row k) a b f = absurd (false≢true (ap are_read f))
       go (some o) (op_rows xs) a b f = record { op = o; rest = xs; is = sym (ap ops_of f); row = a; left = b }

@@ -1,65 +1,33 @@
 -- An op row by its op, by its numbers and by its fields. Assumes nothing.
-use mathlib.Core.Path.{◌≡◌, refl, sym, ap, ◌∙◌}
+use Rattle.std.specs.Prelude.{is_some, unwrap_or}
+use mathlib.Core.Path.{◌≡◌, refl, ap, ◌∙◌}
 use mathlib.Core.List.{List}
-use mathlib.Core.Option.{Option, none, some}
+use mathlib.Core.Option.{Option as Maybe, none, some}
 use mathlib.Core.Bool.{Bool, true, false, cond}
-use Prim.Native.Nat.{ℕ, ◌+◌, ◌-◌, ◌≤◌, ◌<◌}
+use Prim.Native.Nat.{ℕ, ◌+◌, ◌-◌, ◌≤◌}
 use native.Mathlib.Omega.{arith}
-use borrow.Author.Tests.{eqb-true, eqb-false, ne_eqb}
-use lib.Dec.{eqb}
+use borrow.Author.Tests.{eqb-true, eqb-false, ne_eqb, ltb-true, ltb-false}
+use lib.Dec.{eqb, ltb}
 use lib.ListN.{length, take, drop}
-use Rattle.text.specs.declared.Number.{Number}
-use Rattle.text.specs.declared.Number.TheVariants.{Is, NoNumber}
+use Rattle.std.specs.Prelude.{Option}
+use Rattle.std.specs.Prelude.{Some, None}
 use Rattle.text.specs.Pieces.{pieces, pieces_from, PieceEnds}
 use Rattle.text.specs.Numbers.{decimal_of}
-use Rattle.text.specs.Fields.{number_in_form, number_or_zero, words_from, coordinates_from}
+use Rattle.text.specs.Fields.{words_from, coordinates_from}
 use Rattle.text.proofs.Pieces.{from_zero, from_first, from_past, from_some, own_end}
-use Rattle.form.specs.Rows.{Op, put, add, delete, are_coordinates, are_words, row_by, row_of, rest_at, answer_at, read_row, row_says, RowTells, is_op, is_some}
+use Rattle.form.specs.Rows.{Op, put, add, delete, are_coordinates, are_words, row_by, row_of, rest_at, answer_at, read_row, row_says, RowTells, is_there}
 use Rattle.form.specs.declared.Row.{Row}
-use Rattle.form.specs.declared.Row.TheVariants.{Put, Add, Delete, NoRow}
 
--- ---- by its op, with a rest that starts at the place k
-module _ (i : ℕ) (ps : List (List ℕ)) (k : ℕ) {v : ℕ} where
-  pub put_good : v ≡ 0 → {t : Bool} → t ≡ are_coordinates ps → t ≡ true → Put i k ≡ answer_at k (row_by (Is v) i ps)
-  unfolding row_by
-  put_good e q z = rw (e, sym q ∙ z)
-
-  pub put_bad : v ≡ 0 → {t : Bool} → t ≡ are_coordinates ps → t ≡ false → NoRow ≡ answer_at k (row_by (Is v) i ps)
-  unfolding row_by
-  put_bad e q z = rw (e, sym q ∙ z)
-
-  pub add_good : v ≡ 1 → {t : Bool} → t ≡ are_words ps → t ≡ true → Add i k ≡ answer_at k (row_by (Is v) i ps)
-  unfolding row_by
-  add_good e q z = rw (e, sym q ∙ z)
-
-  pub add_bad : v ≡ 1 → {t : Bool} → t ≡ are_words ps → t ≡ false → NoRow ≡ answer_at k (row_by (Is v) i ps)
-  unfolding row_by
-  add_bad e q z = rw (e, sym q ∙ z)
-
-  pub other : (v ≡ 0 → ⊥) → (v ≡ 1 → ⊥) → (v ≡ 2 → ⊥) → NoRow ≡ answer_at k (row_by (Is v) i ps)
-  unfolding row_by
-  other a b c = rw (ne_eqb _ _ a, ne_eqb _ _ b, ne_eqb _ _ c)
-
-module _ (i : ℕ) (s : List ℕ) (k : ℕ) {v : ℕ} where
-  pub delete_good : v ≡ 2 → length s < k → Delete i ≡ answer_at k (row_by (Is v) i (pieces_from 32 s k))
-  unfolding row_by
-  delete_good e h = rw (e, from_past 32 s k h)
-
-  pub delete_bad : v ≡ 2 → k ≤ length s → NoRow ≡ answer_at k (row_by (Is v) i (pieces_from 32 s k))
-  unfolding row_by
-  delete_bad e h = rw (e, ne_eqb _ _ (from_some 32 s k h))
-
--- ---- by its numbers
-module _ (ps : List (List ℕ)) (k : ℕ) {o i : Number} {v : ℕ} (e : i ≡ Is v) where
-  pub no_op : o ≡ NoNumber → NoRow ≡ answer_at k (cond (number_in_form i) (row_by o (number_or_zero i) ps) none)
-  unfolding row_by
-  no_op f = rw (e, f)
-
-  pub some_op : {w : ℕ} {r : Row} → o ≡ Is w → r ≡ answer_at k (row_by (Is w) v ps) → r ≡ answer_at k (cond (number_in_form i) (row_by o (number_or_zero i) ps) none)
-  some_op f g = rw (e, f) g
+-- ---- a rest that starts past the row's end has no fields
+pub rest_none : (s : List ℕ) (k : ℕ) → eqb (length (pieces_from 32 s k)) 0 ≡ ltb (length s) k
+rest_none s k = go (ltb (length s) k) refl
+  where
+    go : (t : Bool) → ltb (length s) k ≡ t → eqb (length (pieces_from 32 s k)) 0 ≡ t
+    go true e = rw (from_past 32 s k (ltb-true _ _ e))
+    go false e = ne_eqb _ _ (from_some 32 s k (ltb-false _ _ e))
 
 -- ---- by its fields
-abbrev number_at : List ℕ → ℕ → ℕ → Number
+abbrev number_at : List ℕ → ℕ → ℕ → Option ℕ
 number_at s k e = decimal_of (take (e - k) (drop k s))
 
 -- the first field ends at e
@@ -68,13 +36,13 @@ module _ (s : List ℕ) {e : ℕ} (w : PieceEnds 32 s 0 e) where
   unfolding row_of
   one_field h = rw (← from_zero 32 s, from_first 32 s 0 e (omega arith) w, from_past 32 s (e + 1) (omega arith))
 
-  pub row_one : e ≡ length s → NoRow ≡ read_row s
+  pub row_one : e ≡ length s → None ≡ read_row s
   unfolding read_row
   row_one h = rw (one_field h)
 
   -- the second ends at f
   module _ (h : e ≡ length s → ⊥) {f : ℕ} (x : PieceEnds 32 s (e + 1) f) where
-    two_fields : row_of (pieces 32 s) ≡ cond (number_in_form (number_at s (e + 1) f)) (row_by (number_at s 0 e) (number_or_zero (number_at s (e + 1) f)) (pieces_from 32 s (f + 1))) none
+    two_fields : row_of (pieces 32 s) ≡ cond (is_some (number_at s (e + 1) f)) (row_by (number_at s 0 e) (unwrap_or (number_at s (e + 1) f) 0) (pieces_from 32 s (f + 1))) none
     unfolding row_of
     two_fields = let g : e + 1 ≤ length s = omega arith in rw (← from_zero 32 s, from_first 32 s 0 e (omega arith) w, from_first 32 s (e + 1) f g x)
 
@@ -82,19 +50,19 @@ module _ (s : List ℕ) {e : ℕ} (w : PieceEnds 32 s 0 e) where
     unfolding rest_at
     rest_at_lem = rw (← w.is, ← x.is)
 
-    pub row_two : read_row s ≡ answer_at (f + 1) (cond (number_in_form (number_at s (e + 1) f)) (row_by (number_at s 0 e) (number_or_zero (number_at s (e + 1) f)) (pieces_from 32 s (f + 1))) none)
+    pub row_two : read_row s ≡ answer_at (f + 1) (cond (is_some (number_at s (e + 1) f)) (row_by (number_at s 0 e) (unwrap_or (number_at s (e + 1) f) 0) (pieces_from 32 s (f + 1))) none)
     unfolding read_row
     row_two = rw (two_fields, rest_at_lem)
 
 -- ---- the answer says what the row is
 module _ (s : List ℕ) (k : ℕ) where
-  abbrev Told : Option Op → Type 0
+  abbrev Told : Maybe Op → Type 0
   Told o = row_says s (answer_at k o) ≡ o
 
-  told_op : (o : Number) (i : ℕ) → Told (row_by o i (pieces_from 32 s k))
+  told_op : (o : Option ℕ) (i : ℕ) → Told (row_by o i (pieces_from 32 s k))
   unfolding row_says row_by
-  told_op NoNumber i = refl
-  told_op (Is v) i = go (eqb v 0) (are_coordinates (pieces_from 32 s k)) (eqb v 1) (are_words (pieces_from 32 s k)) (eqb v 2) (eqb (length (pieces_from 32 s k)) 0)
+  told_op None i = refl
+  told_op (Some v) i = go (eqb v 0) (are_coordinates (pieces_from 32 s k)) (eqb v 1) (are_words (pieces_from 32 s k)) (eqb v 2) (eqb (length (pieces_from 32 s k)) 0)
     where
       go : (a b c d e f : Bool) → Told (cond a (cond b (some (put i (coordinates_from s k))) none) (cond c (cond d (some (add i (words_from s k))) none) (cond e (cond f (some (delete i)) none) none)))
       go true true c d e f = refl
@@ -105,10 +73,10 @@ module _ (s : List ℕ) (k : ℕ) where
       go false b false d true false = refl
       go false b false d false f = refl
 
-  told : (o i : Number) → Told (cond (number_in_form i) (row_by o (number_or_zero i) (pieces_from 32 s k)) none)
+  told : (o i : Option ℕ) → Told (cond (is_some i) (row_by o (unwrap_or i 0) (pieces_from 32 s k)) none)
   unfolding row_says
-  told o NoNumber = refl
-  told o (Is v) = told_op o v
+  told o None = refl
+  told o (Some v) = told_op o v
 
 pub row_tells : (s : List ℕ) → RowTells s
 unfolding row_says read_row
@@ -122,11 +90,11 @@ row_tells s = go (own_end 32 s 0 (omega arith)) _ refl
     go {e} w false t = let h : (e ≡ length s → ⊥) = eqb-false e (length s) t in two w h (own_end 32 s (e + 1) (omega (arith, w.most, h)))
 
 -- ---- whether there is one, by the answer
-pub row_said : (s : List ℕ) (h : Row) → h ≡ read_row s → is_op h ≡ is_some (row_of (pieces 32 s))
+pub row_said : (s : List ℕ) (h : Option Row) → h ≡ read_row s → is_some h ≡ is_there (row_of (pieces 32 s))
 unfolding read_row
-row_said s h e = ap is_op e ∙ go (row_of (pieces 32 s))
+row_said s h e = ap is_some e ∙ go (row_of (pieces 32 s))
   where
-    go : (o : Option Op) → is_op (answer_at (rest_at s) o) ≡ is_some o
+    go : (o : Maybe Op) → is_some (answer_at (rest_at s) o) ≡ is_there o
     go none = refl
     go (some (put i xs)) = refl
     go (some (add i ws)) = refl

@@ -4,23 +4,24 @@ use mathlib.Core.List.{List}
 use mathlib.Core.Bool.{Bool, true, false, true≢false, false≢true}
 use Prim.Native.Nat.{ℕ}
 use Rattle.form.specs.Form.{Parsed, bad, read, parsed, form_from, form_of, ReadWith, FormTells}
-use Rattle.form.specs.declared.Form.{Form}
-use Rattle.form.specs.declared.Form.TheVariants.{Good, Bad}
+use Rattle.form.specs.declared.BadRow.{BadRow}
+use Rattle.std.specs.Prelude.{Result, Ok, Err}
+use Rattle.form.specs.Form.{first_bad}
 
-number : Form → ℕ
-number (Good n) = n
-number (Bad r) = r
+number : Result ℕ BadRow → ℕ
+number (Ok n) = n
+number (Err b) = b.row
 
-is_good : Form → Bool
-is_good (Good n) = true
-is_good (Bad r) = false
+is_good : Result ℕ BadRow → Bool
+is_good (Ok n) = true
+is_good (Err b) = false
 
-told_bad : (p : Parsed) (r : ℕ) → form_from p ≡ Bad r → p ≡ bad r
+told_bad : (p : Parsed) (r : ℕ) → form_from p ≡ first_bad r → p ≡ bad r
 unfolding number is_good
 told_bad (bad k) r e = ap bad (ap number e)
 told_bad (read m os) r e = absurd (true≢false (ap is_good e))
 
-told_good : (p : Parsed) (n : ℕ) → form_from p ≡ Good n → ReadWith p n
+told_good : (p : Parsed) (n : ℕ) → form_from p ≡ Ok n → ReadWith p n
 unfolding number is_good
 told_good (bad k) n e = absurd (false≢true (ap is_good e))
 told_good (read m os) n e = record { making = m; ops = os; is = refl; many = ap number e }
@@ -31,5 +32,5 @@ form_tells t = record {
   bad_is = told_bad (parsed t);
   is_bad = λ r e. ap form_from e;
   good_is = told_good (parsed t);
-  is_good = λ n w. ap form_from w.is ∙ ap Good w.many;
+  is_good = λ n w. ap form_from w.is ∙ ap Ok w.many;
 }

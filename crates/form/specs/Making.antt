@@ -1,13 +1,10 @@
 -- What the making's row of treelist's text says, for every list of fields. Definitions.
-use Rattle.std.specs.Prelude.{ℕ, List, [], ◌∷◌, Bool, true, false, Float, pos}
-use Rattle.std.proofs.Math.Option.{Option, none, some}
+use Rattle.std.specs.Prelude.{ℕ, List, [], ◌∷◌, Float, pos, Option, Some, None}
+use Rattle.std.proofs.Math.Option.{Option as Maybe, none, some}
 use Rattle.std.specs.Float.{binary64}
 use Rattle.std.specs.Float.Ieee.{of_bits, of_int, div}
-use Rattle.text.specs.declared.Number.{Number}
-use Rattle.text.specs.declared.Number.TheVariants.{Is, NoNumber}
 use Rattle.text.specs.Numbers.{decimal_of}
-use Rattle.form.specs.declared.MakingRow.{MakingRow}
-use Rattle.form.specs.declared.MakingRow.TheVariants.{Make, NoMaking}
+use Rattle.form.specs.declared.Making as Read
 
 -- Document 01, 'Printed tree': the names line `dimensions capacity cache16`, and '`cache16` is the share in sixteenths'
 pub record Making : Type 0 where
@@ -16,14 +13,14 @@ pub record Making : Type 0 where
   pub sixteenths : ℕ
 
 -- three numbers, none where one of them is out of form
-abbrev pub making_by : Number → Number → Number → Option Making
-making_by NoNumber b c = none
-making_by (Is x) NoNumber c = none
-making_by (Is x) (Is y) NoNumber = none
-making_by (Is x) (Is y) (Is z) = some (record { channels = x; capacity = y; sixteenths = z })
+abbrev pub making_by : Option ℕ → Option ℕ → Option ℕ → Maybe Making
+making_by None b c = none
+making_by (Some x) None c = none
+making_by (Some x) (Some y) None = none
+making_by (Some x) (Some y) (Some z) = some (record { channels = x; capacity = y; sixteenths = z })
 
 -- The row by its fields, none where it is out of form. Whether the tree takes these numbers is no matter of form.
-unfoldable pub making_of : List (List ℕ) → Option Making
+unfoldable pub making_of : List (List ℕ) → Maybe Making
 making_of [] = none
 making_of (a ∷ []) = none
 making_of (a ∷ b ∷ []) = none
@@ -31,14 +28,9 @@ making_of (a ∷ b ∷ c ∷ []) = making_by (decimal_of a) (decimal_of b) (deci
 making_of (a ∷ b ∷ c ∷ d ∷ ps) = none
 
 -- what `read_making` answers says
-abbrev pub making_says : MakingRow → Option Making
-making_says (Make x y z) = some (record { channels = x; capacity = y; sixteenths = z })
-making_says NoMaking = none
-
--- whether it is one at all
-abbrev pub is_making_row : MakingRow → Bool
-is_making_row (Make x y z) = true
-is_making_row NoMaking = false
+abbrev pub making_says : Option Read.Making → Maybe Making
+making_says None = none
+making_says (Some m) = some (record { channels = m.channels; capacity = m.capacity; sixteenths = m.sixteenths })
 
 -- '`cache16` is the share in sixteenths'
 unfoldable pub sixteenths_of : ℕ → Float

@@ -1,36 +1,23 @@
--- A field by its digits: the test of each, and the bytes, two digits by two. Assumes nothing.
+-- A field by its digits: the bytes, two digits by two. Assumes nothing.
 use mathlib.Core.Path.{◌≡◌, refl, sym, ap, ◌∙◌}
-use mathlib.Core.Bool.{Bool, true, false, cond, false≢true}
+use mathlib.Core.Bool.{Bool, true, false, cond, ◌&&◌, false≢true}
 use mathlib.Core.List.{List, [], ◌∷◌}
 use Prim.Native.Nat.{ℕ, zero, suc, ◌+◌, ◌*◌, ◌≤◌, ◌<◌}
 use native.Mathlib.Numerals.{add-one}
 use native.Mathlib.Omega.{arith}
-use borrow.Author.Tests.{lt-ltb, le-ltb, ltb-true, eq-eqb, ne_eqb}
+use borrow.Author.Tests.{ltb-true, eq-eqb, ne_eqb}
 use lib.Dec.{ltb}
-use lib.ListN.{length, get_or, set, take, drop, length-set}
+use lib.ListN.{length, get_or, set, take, length-set}
 use lib.Seq.{take-suc, take-suc-set, take_all}
 use Rattle.text.specs.Numbers.{digit_value}
-use Rattle.text.proofs.Lists.{here, past}
 use Rattle.hexbytes.specs.Hex.{are_digits, is_hex, hex_bytes, read_hex}
-
--- ---- the test: i digits are passed
-module _ (s : List ℕ) (i : ℕ) (w : are_digits (drop i s) ≡ are_digits s) where
-  module _ (h : i < length s) {d : ℕ} (e : d ≡ digit_value (get_or s i 0)) where
-    pub digit_bad : 16 ≤ d → false ≡ are_digits s
-    digit_bad l = rw (here s i h, ← e, le-ltb _ _ l) at w
-
-    pub digit_good : d < 16 → are_digits (drop (i + 1) s) ≡ are_digits s
-    digit_good l = rw (here s i h, ← e, lt-ltb _ _ l) at w
-
-  pub digits_end : length s ≤ i → true ≡ are_digits s
-  digits_end h = rw (past s i h) at w
 
 -- ---- the bytes
 pub digit_small : (s : List ℕ) (i : ℕ) → are_digits s ≡ true → i < length s → digit_value (get_or s i 0) < 16
 digit_small [] i e h = absurd (omega arith)
 digit_small (x ∷ s) i e h = go (ltb (digit_value x) 16) refl e i h (digit_small s)
   where
-    go : (t : Bool) → ltb (digit_value x) 16 ≡ t → cond t (are_digits s) false ≡ true → (j : ℕ) → j < suc (length s)
+    go : (t : Bool) → ltb (digit_value x) 16 ≡ t → (t && are_digits s) ≡ true → (j : ℕ) → j < suc (length s)
         → ((n : ℕ) → are_digits s ≡ true → n < length s → digit_value (get_or s n 0) < 16) → digit_value (get_or (x ∷ s) j 0) < 16
     go true p f zero k r = ltb-true _ _ p
     go true p f (suc j) k r = r j f (omega arith)

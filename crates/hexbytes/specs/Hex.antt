@@ -1,12 +1,12 @@
 -- Bytes written as upper-case hexadecimal digits, two for each byte, the high one first. Definitions.
 use Rattle.std.specs.Prelude.{◌≡◌, refl, Bool, true, false, ◌&&◌, cond, List, [], ◌∷◌, ℕ, ◌+◌, ◌*◌, eqb, ltb, length}
+use Rattle.std.specs.List.{list_all}
 use Rattle.text.specs.Quoted.{bytes}
 use Rattle.text.specs.Numbers.{digit_value}
 
 -- Document 01, 'Printed tree': 'upper-case hexadecimal digits'
 abbrev pub are_digits : List ℕ → Bool
-are_digits [] = true
-are_digits (x ∷ s) = cond (ltb (digit_value x) 16) (are_digits s) false
+are_digits s = list_all (λ x. ltb (digit_value x) 16) s
 
 -- the digits of so many bytes
 abbrev pub is_hex : (count : ℕ) → List ℕ → Bool

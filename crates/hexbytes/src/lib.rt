@@ -10,14 +10,7 @@ use text::digit_value;
 fn are_digits(field: &[u8]) -> bool
     ensures { result ≡ are_digits field.now }
 {
-    let mut i: usize = 0;
-    while i < field.len() {
-        if 16 <= digit_value(field[i]) {
-            return false;
-        }
-        i += 1;
-    }
-    true
+    field.iter().all(|byte| digit_value(*byte) < 16)
 }
 
 // The byte of two digits.
@@ -32,10 +25,8 @@ fn put_bytes(field: &[u8], bytes: &mut [u8])
     requires { (length field.now ≡ 2 * length bytes.old) × (are_digits field.now ≡ true) }
     ensures { bytes.new ≡ hex_bytes field.now }
 {
-    let mut i: usize = 0;
-    while i < bytes.len() {
-        bytes[i] = byte_of(field[2 * i], field[2 * i + 1]);
-        i += 1;
+    for (i, byte) in bytes.iter_mut().enumerate() {
+        *byte = byte_of(field[2 * i], field[2 * i + 1]);
     }
 }
 
@@ -44,10 +35,7 @@ fn put_bytes(field: &[u8], bytes: &mut [u8])
 pub fn read_hex(field: &[u8], bytes: &mut [u8]) -> bool
     ensures { (result, bytes.new) ≡ read_hex field.now bytes.old }
 {
-    if field.len() / 2 != bytes.len() {
-        return false;
-    }
-    if field.len() % 2 != 0 {
+    if field.len() != 2 * bytes.len() {
         return false;
     }
     if !are_digits(field) {

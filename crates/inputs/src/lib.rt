@@ -14,13 +14,13 @@ pub fn read_full<R: Read>(input: &mut R, bytes: &mut [u8]) -> usize
     ensures takes { Consumes (R.remaining input.old) (R.remaining input.new) (take result bytes.new) }
 {
     let mut came: usize = 0;
+    // A turn goes on by what a read brought, so this is no `for`.
     while came < bytes.len() {
         match input.read(&mut bytes[came..]) {
-            Ok(0) => return came,
+            Ok(0) | Err(_) => return came,
             Ok(more) => {
                 came += more;
             }
-            Err(_) => return came,
         }
     }
     came

@@ -1,11 +1,8 @@
 -- The stack as rows of two numbers, bottom first, and what each call gives and leaves of any rows at all. Definitions.
-use Rattle.std.specs.Prelude.{◌≡◌, refl, Bool, cond, ◌&&◌, ◌||◌, List, [], ◌∷◌, ℕ, ◌+◌, ◌-◌, ◌≤◌, ◌<◌, eqb, leb, ltb, length, get_or, set, replicate}
+use Rattle.std.specs.Prelude.{◌≡◌, refl, Bool, cond, ◌&&◌, ◌||◌, Option, Some, None, List, [], ◌∷◌, ℕ, ◌+◌, ◌-◌, ◌≤◌, ◌<◌, eqb, leb, ltb, length, get_or, set, replicate}
 use Rattle.limits.specs.Limits.{branch_limit}
 use Rattle.intervalstoremanager.specs.declared.IntervalStoreManager.{IntervalStoreManager}
 use Rattle.intervalstoremanager.specs.declared.Got.{Got}
-use Rattle.intervalstoremanager.specs.declared.Got.TheVariants.{Index, Empty}
-use Rattle.intervalstoremanager.specs.declared.Released.{Released}
-use Rattle.intervalstoremanager.specs.declared.Released.TheVariants.{Done, Full}
 use Rattle.intervalstoremanager.specs.Stack.{next, after_get, after_release, holds, Proper, Once}
 
 -- The rows of a stack, bottom first, with the rows `above` after them.
@@ -36,12 +33,12 @@ start m rows = get_or (get_or rows (m.last_in_use - 1) []) 0 0
 abbrev pub end : IntervalStoreManager → List (List ℕ) → ℕ
 end m rows = get_or (get_or rows (m.last_in_use - 1) []) 1 0
 
--- What `get` answers: the top row's start, with one row less in use where that was its last number; without a top row, `Empty`.
-unfoldable pub got_of : IntervalStoreManager → List (List ℕ) → Got
+-- What `get` answers: the top row's start, with one row less in use where that was its last number; without a top row, nothing.
+unfoldable pub got_of : IntervalStoreManager → List (List ℕ) → Option Got
 got_of m rows =
     cond (topped m)
-    (Index (start m rows) (cond (ltb (start m rows) (end m rows)) m (in_use m (m.last_in_use - 1))))
-    Empty
+    (Some (record { index = start m rows; manager = cond (ltb (start m rows) (end m rows)) m (in_use m (m.last_in_use - 1)) }))
+    None
 
 -- The rows after `get`: the top row begins one later, or is cleared; without a top row, unchanged.
 unfoldable pub rows_got : IntervalStoreManager → List (List ℕ) → List (List ℕ)
@@ -54,16 +51,16 @@ rows_got m rows =
 abbrev pub joins : IntervalStoreManager → List (List ℕ) → ℕ → Bool
 joins m rows i = topped m && (eqb (start m rows) (i + 1) || eqb (end m rows + 1) i)
 
--- What a push of a row answers, and the rows after it: one row more in use, else, where none is left, `Full`, and nothing is written.
-abbrev pub pushed_of : IntervalStoreManager → Released
-pushed_of m = cond (ltb m.last_in_use branch_limit) (Done (in_use m (m.last_in_use + 1))) Full
+-- What a push of a row answers, and the rows after it: one row more in use, else, where none is left, nothing, and nothing is written.
+abbrev pub pushed_of : IntervalStoreManager → Option IntervalStoreManager
+pushed_of m = cond (ltb m.last_in_use branch_limit) (Some (in_use m (m.last_in_use + 1))) None
 
 abbrev pub rows_pushed : IntervalStoreManager → List (List ℕ) → ℕ → List (List ℕ)
 rows_pushed m rows i = cond (ltb m.last_in_use branch_limit) (set rows m.last_in_use (i ∷ i ∷ [])) rows
 
 -- What `release` answers: the same rows are in use where `i` joins the top row, else `i` is pushed.
-unfoldable pub released_of : IntervalStoreManager → List (List ℕ) → ℕ → Released
-released_of m rows i = cond (joins m rows i) (Done m) (pushed_of m)
+unfoldable pub released_of : IntervalStoreManager → List (List ℕ) → ℕ → Option IntervalStoreManager
+released_of m rows i = cond (joins m rows i) (Some m) (pushed_of m)
 
 -- The rows after `release`: `i` at the end of the top row that it touches, else pushed.
 unfoldable pub rows_released : IntervalStoreManager → List (List ℕ) → ℕ → List (List ℕ)
@@ -78,14 +75,14 @@ pub record Manages (m : IntervalStoreManager) (xs : List (ℕ × ℕ)) : Type 0 
   pub room : length xs ≤ branch_limit
 
 -- What `get` answers of a stack.
-unfoldable pub got_on : IntervalStoreManager → List (ℕ × ℕ) → Got
-got_on m [] = Empty
-got_on m (x ∷ xs) = Index (next (x ∷ xs)) (in_use m (length (after_get (x ∷ xs))))
+unfoldable pub got_on : IntervalStoreManager → List (ℕ × ℕ) → Option Got
+got_on m [] = None
+got_on m (x ∷ xs) = Some (record { index = next (x ∷ xs); manager = in_use m (length (after_get (x ∷ xs))) })
 
--- What `release` answers of a stack: `Full` where the stack with `i` has more intervals than there are rows.
-unfoldable pub released_on : IntervalStoreManager → List (ℕ × ℕ) → ℕ → Released
+-- What `release` answers of a stack: nothing where the stack with `i` has more intervals than there are rows.
+unfoldable pub released_on : IntervalStoreManager → List (ℕ × ℕ) → ℕ → Option IntervalStoreManager
 released_on m xs i =
-    cond (leb (length (after_release xs i)) branch_limit) (Done (in_use m (length (after_release xs i)))) Full
+    cond (leb (length (after_release xs i)) branch_limit) (Some (in_use m (length (after_release xs i)))) None
 
 -- The two calls on the rows of a stack: they answer of the stack, and leave the rows of the stack after them, a refused one its own.
 abbrev pub GetOnStack : Type 0
@@ -104,4 +101,4 @@ abbrev pub NeverFull : Type 0
 NeverFull =
     (size : ℕ) (m : IntervalStoreManager) (xs : List (ℕ × ℕ)) (i : ℕ) → Manages m xs →
     size ≤ branch_limit → Proper size xs → Once xs → i < size → holds xs i ≡ 0 →
-    (released_of m (layout xs) i ≡ Done (in_use m (length (after_release xs i)))) × (rows_released m (layout xs) i ≡ layout (after_release xs i))
+    (released_of m (layout xs) i ≡ Some (in_use m (length (after_release xs i)))) × (rows_released m (layout xs) i ≡ layout (after_release xs i))

@@ -3,8 +3,7 @@
 // are left out, as no tree calls them. Nothing is required of a caller: any manager, rows and number are answered.
 #![tactic(auto)]
 
-ghost use Rattle.std.specs.Prelude.{◌≡◌, [], ◌∷◌, ◌<◌, eqb, length, get_or, set};
-ghost use Rattle.limits.specs.Limits.{branch_limit};
+ghost use Rattle.std.specs.Prelude.{◌≡◌, eqb, length};
 ghost use Rattle.intervalstoremanager.specs.Stack.{fresh};
 ghost use Rattle.intervalstoremanager.specs.Rows.{layout, got_of, rows_got, pushed_of, rows_pushed, released_of, rows_released};
 
@@ -18,44 +17,11 @@ pub struct IntervalStoreManager {
     pub last_in_use: u16,
 }
 
+// The number handed out, and the manager after it.
 #[derive(Clone, Copy)]
-pub enum Got {
-    // The number handed out, and the manager after it.
-    Index(u16, IntervalStoreManager),
-    // No number is free, or more rows are said to be in use than there are. Nothing was written.
-    Empty,
-}
-
-#[derive(Clone, Copy)]
-pub enum Released {
-    // The manager with the number back.
-    Done(IntervalStoreManager),
-    // The number needs a row of its own, and no row is left. Nothing was written.
-    Full,
-}
-
-// A row: the first and the last number of a free interval.
-#[derive(Clone, Copy)]
-struct Interval {
-    start: u16,
-    end: u16,
-}
-
-fn interval_at(rows: &Free, k: usize) -> Interval
-    requires { k < branch_limit }
-    ensures { (result.start ≡ get_or (get_or rows.now k []) 0 0) × (result.end ≡ get_or (get_or rows.now k []) 1 0) }
-{
-    Interval {
-        start: rows[k][0],
-        end: rows[k][1],
-    }
-}
-
-fn put(rows: &mut Free, k: usize, start: u16, end: u16)
-    requires { k < branch_limit }
-    ensures { rows.new ≡ set rows.old k (start ∷ end ∷ []) }
-{
-    rows[k] = [start, end];
+pub struct Got {
+    pub index: u16,
+    pub manager: IntervalStoreManager,
 }
 
 impl IntervalStoreManager {
@@ -94,55 +60,61 @@ impl IntervalStoreManager {
         self.last_in_use == 0
     }
 
-    // The start of the top interval is handed out. The test is "below" where the Rust's is "not the same", so that one more than the
-    // start fits in whatever rows are lent. On the rows of a stack this is `GetOnStack`, in specs/Rows.antt.
+    // The start of the top interval is handed out; none where no number is free, or more rows are said to be in use than there are, and then nothing is written.
+    // The test is "below" where the Rust's is "not the same", so that one more than the start fits in whatever rows are lent. On the rows of a stack this is
+    // `GetOnStack`, in specs/Rows.antt.
     // Rules out the end handed out, and the row of a spent interval left uncleared.
-    pub fn get(self, rows: &mut Free) -> Got
+    pub fn get(self, rows: &mut Free) -> Option<Got>
         ensures answer { result ≡ got_of self rows.old }
         ensures rows_after { rows.new ≡ rows_got self rows.old }
     {
         let n = wide16(self.last_in_use);
         if n == 0 {
-            return Got::Empty;
+            return None;
         }
         if BRANCHES < n {
-            return Got::Empty;
+            return None;
         }
-        let top = interval_at(rows, n - 1);
-        if top.start < top.end {
-            put(rows, n - 1, top.start + 1, top.end);
-            return Got::Index(top.start, self);
+        let start = rows[n - 1][0];
+        let end = rows[n - 1][1];
+        if start < end {
+            rows[n - 1] = [start + 1, end];
+            return Some(Got {
+                index: start,
+                manager: self,
+            });
         }
-        put(rows, n - 1, 0, 0);
-        Got::Index(
-            top.start,
-            Self {
-                capacity: self.capacity,
-                last_in_use: self.last_in_use - 1,
-            },
-        )
+        rows[n - 1] = [0, 0];
+        let manager = Self {
+            capacity: self.capacity,
+            last_in_use: self.last_in_use - 1,
+        };
+        Some(Got {
+            index: start,
+            manager,
+        })
     }
 
     // An interval of one number on top, where there is a row for it.
-    fn push(self, rows: &mut Free, index: u16) -> Released
+    fn push(self, rows: &mut Free, index: u16) -> Option<Self>
         ensures answer { result ≡ pushed_of self }
         ensures rows_after { rows.new ≡ rows_pushed self rows.old index }
     {
         let n = wide16(self.last_in_use);
         if n < BRANCHES {
-            put(rows, n, index, index);
-            return Released::Done(Self {
+            rows[n] = [index, index];
+            return Some(Self {
                 capacity: self.capacity,
                 last_in_use: self.last_in_use + 1,
             });
         }
-        Released::Full
+        None
     }
 
-    // The number joins the top interval at either end, else becomes a new top. On the rows of a stack this is `ReleaseOnStack`, and
-    // `NeverFull` says when it is not refused, both in specs/Rows.antt.
+    // The manager with the number back, which joins the top interval at either end, else becomes a new top; none where it needs a row of its own and no row is
+    // left, and then nothing is written. On the rows of a stack this is `ReleaseOnStack`, and `NeverFull` says when it is not refused, both in specs/Rows.antt.
     // Rules out an interval below the top joined, and a new top for a number that touches it.
-    pub fn release(self, rows: &mut Free, index: u16) -> Released
+    pub fn release(self, rows: &mut Free, index: u16) -> Option<Self>
         ensures answer { result ≡ released_of self rows.old index }
         ensures rows_after { rows.new ≡ rows_released self rows.old index }
     {
@@ -151,16 +123,17 @@ impl IntervalStoreManager {
             return self.push(rows, index);
         }
         if BRANCHES < n {
-            return Released::Full;
+            return None;
         }
-        let top = interval_at(rows, n - 1);
-        if wide16(top.start) == wide16(index) + 1 {
-            put(rows, n - 1, index, top.end);
-            return Released::Done(self);
+        let start = rows[n - 1][0];
+        let end = rows[n - 1][1];
+        if wide16(start) == wide16(index) + 1 {
+            rows[n - 1] = [index, end];
+            return Some(self);
         }
-        if wide16(top.end) + 1 == wide16(index) {
-            put(rows, n - 1, top.start, index);
-            return Released::Done(self);
+        if wide16(end) + 1 == wide16(index) {
+            rows[n - 1] = [start, index];
+            return Some(self);
         }
         self.push(rows, index)
     }

@@ -14,10 +14,6 @@ pub digit_low : (d : ℕ) → d < 10 → 48 + d ≡ digit d
 unfolding digit
 digit_low d h = rw (lt-ltb _ _ h)
 
-pub digit_high : (d : ℕ) → 10 ≤ d → 55 + d ≡ digit d
-unfolding digit
-digit_high d h = rw (le-ltb _ _ h)
-
 -- DECIMAL: how much room there is is no matter, if it is enough
 enough : (f g n : ℕ) → n < f → n < g → decimal_in f n ≡ decimal_in g n
 unfolding decimal_in

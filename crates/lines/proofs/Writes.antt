@@ -46,9 +46,6 @@ pub record Copying (l : List ℕ) (at : ℕ) (s m : List ℕ) (p i : ℕ) : Type
   pub within : i ≤ length s
   pub wrote : Wrote l at (take i s) p m
 
-pub copy_start : {l : List ℕ} {at : ℕ} {s : List ℕ} → Copying l at s l at 0
-copy_start = record { within = omega arith; wrote = record { next = omega arith; left = refl } }
-
 pub copy_next : {l : List ℕ} {at : ℕ} {s m : List ℕ} {p i : ℕ} → Copying l at s m p i → p ≡ at + i
 copy_next {l} {at} {s} {m} {p} {i} w = let k : length (take i s) ≡ i = length-take-le i s w.within in let v = w.wrote in omega arith
 

@@ -7,6 +7,7 @@ ghost use Rattle.lines.specs.Lines.{digit, decimal, hex, number_field, last_numb
 ghost use Rattle.lines.specs.Placed.{placed};
 
 // The byte of a digit, `0` to `9` and `A` to `F`.
+#[tactic(auto, unfolding(crate::specs::Lines::digit))]
 fn digit_of(d: usize) -> u8
     requires { d < 16 }
     ensures { result ≡ digit d }
@@ -21,10 +22,8 @@ fn digit_of(d: usize) -> u8
 fn set_after(out: &mut [u8], at: usize, count: usize, b: u8)
     ensures { out.new ≡ set out.old (at + count) b }
 {
-    if at < out.len() {
-        if count < out.len() - at {
-            out[at + count] = b;
-        }
+    if at < out.len() && count < out.len() - at {
+        out[at + count] = b;
     }
 }
 
@@ -76,15 +75,13 @@ pub fn put_bytes(out: &mut [u8], at: usize, bytes: &[u8]) -> usize
     ensures { Wrote out.old at bytes.now result out.new }
 {
     let mut p = at;
-    let mut i = 0;
-    while i < bytes.len() {
-        p = put_byte(out, p, bytes[i]);
-        i += 1;
+    for byte in bytes {
+        p = put_byte(out, p, *byte);
     }
     p
 }
 
-// A number that others follow, with the space after it.
+// A number that others follow, with the space after it. With the byte as a parameter one function would do for both, and each caller would have to name it.
 // Rules out the space before it, and a line feed after it.
 pub fn put_field(out: &mut [u8], at: usize, n: usize) -> usize
     requires { at < 1000000000000 }

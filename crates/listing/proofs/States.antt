@@ -30,7 +30,7 @@ use Rattle.layout.proofs.Tabs.{entry_of}
 use Rattle.layout.proofs.Slots.{tab_laid}
 use Rattle.randomcuttree.specs.declared.RCFTree.{RCFTree}
 use Rattle.randomcuttree.specs.State.{cached_by, State, Reachable, header_of}
-use Rattle.treestore.specs.Arrays.{Lent, arrays_of}
+use Rattle.treestore.specs.Arrays.{NodeStore, arrays_of}
 use Rattle.randomcuttree.proofs.Parts.{capacity_is, root_is}
 use Rattle.randomcuttree.proofs.Given.{sound, in_range, once, stored}
 use Rattle.randomcuttree.proofs.Calls.{no_tree, a_tree}
@@ -82,7 +82,7 @@ printed_few d c W l m R = go W.tree refl
     go (some t) e = rw length-append (omega (arith, tree_few d c W.table t W.free (sound R e) m (in_range R e l)))
 
 -- A STATE'S TREE
-module _ (d c : ℕ) (s : Float) (W : World (whole d)) (tree : RCFTree) (a : Lent) (points : List (List Float)) (marks : List ℕ) (S : State d c s W tree a points marks) where
+module _ (d c : ℕ) (s : Float) (W : World (whole d)) (tree : RCFTree) (a : NodeStore) (points : List (List Float)) (marks : List ℕ) (S : State d c s W tree a points marks) where
   -- the tree that is there where there are copies
   pub record There : Type 0 where
     pub found : Tree (whole d)

@@ -11,6 +11,7 @@ ghost use Rattle.listing.specs.Printed.{PrintsTree, SomeRead};
 use casts::{wide16, wide32};
 use limits::{BRANCHES, CAPACITY, Copies, Cuts, Nodes};
 use randomcuttree::RCFTree;
+use treestore::NodeStore;
 
 // A buffer of so many bytes has room for what any tree prints: `tree_limit`.
 pub const TREE: usize = 33 + BRANCHES * 32 + CAPACITY * 19;
@@ -73,17 +74,10 @@ pub fn print_node(
 
 // The printed tree: the line of names, and the lines of the root and of all below it if there is one.
 // Rules out an empty tree with no line of names, and a lone leaf left out.
-pub fn print_tree(
-    tree: RCFTree,
-    nodes: &Nodes,
-    cuts: &Cuts,
-    copies: &Copies,
-    out: &mut [u8],
-    at: usize,
-) -> usize
+pub fn print_tree(tree: RCFTree, store: &NodeStore, out: &mut [u8], at: usize) -> usize
     requires near { at < 10000000000 }
-    requires stands { SomeRead tree nodes.now cuts.now copies.now }
-    ensures { PrintsTree tree nodes.now cuts.now copies.now at out.old result out.new }
+    requires stands { SomeRead tree store.now.nodes store.now.cuts store.now.copies }
+    ensures { PrintsTree tree store.now.nodes store.now.cuts store.now.copies at out.old result out.new }
 {
     let below = lines::put_names(out, at);
     if tree.total == 0 {
@@ -91,9 +85,9 @@ pub fn print_tree(
     }
     print_node(
         wide16(tree.root),
-        nodes,
-        cuts,
-        copies,
+        &store.nodes,
+        &store.cuts,
+        &store.copies,
         wide16(tree.capacity),
         out,
         below,

@@ -4,9 +4,8 @@ use mathlib.Core.Bool.{Bool, true, false, not}
 use Prim.Native.Nat.{ℕ, ◌*◌, ◌%◌, ◌<◌, ◌≤◌}
 use borrow.Author.Tests.{le-ltb}
 use lib.Dec.{T, lt→ltb}
-use lib.Ieee.{Format, Float, nan, inf, fin, ones, hid, top, is_nan, nan_bits, ne, of_bits, to_bits}
+use lib.Ieee.{Format, Float, nan, inf, fin, ones, hid, top, is_nan, nan_bits, of_bits, to_bits}
 use lib.Ieee.Bits.{nan_bits_is, nan_bits_above}
-use lib.Ieee.Compare.{differs_from_itself}
 
 no : {b : Bool} → b ≡ false → T (not b)
 no h = subst (λ (a : Bool). T (not a)) (sym h) tt
@@ -17,15 +16,9 @@ is_nan_lem nan h = refl
 is_nan_lem (inf s) h = absurd h
 is_nan_lem (fin s m e) h = absurd h
 
-pub number : (x : Float) → ne x x ≡ false → T (not (is_nan x))
-unfolding is_nan ne
-number nan h = no h
-number (inf s) h = tt
-number (fin s m e) h = tt
-
 module _ (f : Format) where
-  pub nan_pattern : (x : Float) → ne x x ≡ true → to_bits f nan ≡ to_bits f x
-  nan_pattern x h = ap (to_bits f) (sym (differs_from_itself x (subst T (sym h) tt)))
+  pub nan_pattern : (x : Float) → is_nan x ≡ true → to_bits f nan ≡ to_bits f x
+  nan_pattern x h = ap (to_bits f) (is_nan_lem x (subst T (sym h) tt))
 
   pub above : (n : ℕ) → ones f * hid f < n % top f → nan ≡ of_bits f n
   above n h = is_nan_lem (of_bits f n) (subst T (sym (nan_bits_above f n) ∙ nan_bits_is f n) (lt→ltb (ones f * hid f) (n % top f) h))

@@ -13,7 +13,7 @@ use Rattle.cuttree.specs.Tree.{Tree, id}
 use Rattle.cuttree.specs.Run.{total_of}
 use Rattle.wholetree.specs.Whole.{whole}
 use Rattle.sampledtree.specs.Sampled.{Sampled}
-use Rattle.treestore.specs.Arrays.{Lent}
+use Rattle.treestore.specs.Arrays.{NodeStore}
 use Rattle.samplerplustree.specs.declared.SamplerPlusTree.{SamplerPlusTree}
 use Rattle.samplerplustree.specs.State.{SampledState}
 use Rattle.layout.specs.Layout.{root_of}
@@ -24,7 +24,7 @@ use Rattle.archiveend.specs.Prints.{PrintsEnd}
 use Rattle.masses.specs.Masses.{LinesWeigh, EndsCount}
 use Rattle.masses.proofs.Printed.{lines_weigh}
 
-module _ {d : ℕ} {s : Float} {X : Sampled (whole d)} {h : SamplerPlusTree} {a : Lent} {points : List (List Float)} {marks : List ℕ} {weights : List Float} {held : List ℕ} (S : SampledState d s X h a points marks weights held) where
+module _ {d : ℕ} {s : Float} {X : Sampled (whole d)} {h : SamplerPlusTree} {a : NodeStore} {points : List (List Float)} {marks : List ℕ} {weights : List Float} {held : List ℕ} (S : SampledState d s X h a points marks weights held) where
   size_is : h.sampler.current_size ≡ length X.sample
   size_is = ap (λ (y : SamplerPlusTree). y.sampler.current_size) S.head_is
 

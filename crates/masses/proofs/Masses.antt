@@ -5,15 +5,15 @@ use mathlib.Core.List.{List}
 use Prim.Native.Nat.{ℕ, ◌+◌, ◌<◌}
 use native.Mathlib.Omega.{arith}
 use lib.Ieee.{Float}
+use Rattle.std.specs.Prelude.{Ok}
 use Rattle.cuttree.specs.Tree.{Tree, id}
 use Rattle.cuttree.specs.Run.{World}
 use Rattle.cuttree.proofs.Tests.{nonsense}
 use Rattle.cuttree.proofs.Nodes.{here}
 use Rattle.wholetree.specs.Whole.{whole}
-use Rattle.treestore.specs.Arrays.{Lent}
+use Rattle.treestore.specs.Arrays.{NodeStore}
 use Rattle.randomcuttree.specs.declared.RCFTree.{RCFTree}
 use Rattle.randomcuttree.specs.declared.BranchRow.{BranchRow}
-use Rattle.randomcuttree.specs.declared.BranchAnswer.TheVariants.{Branch}
 use Rattle.randomcuttree.specs.State.{State}
 use Rattle.randomcuttree.specs.Queries.{branch_read}
 use Rattle.randomcuttree.proofs.Parts.{root_is, total_is}
@@ -22,8 +22,8 @@ use Rattle.masses.proofs.Nodes.{branch_found_lem, one_mass, node_weighs, sides_w
 use Rattle.masses.proofs.Reports.{reports_weigh}
 use Rattle.masses.proofs.Printed.{prints_weigh}
 
-module _ {d c : ℕ} {s : Float} {W : World (whole d)} {tree : RCFTree} {a : Lent} {points : List (List Float)} {marks : List ℕ} (S : State d c s W tree a points marks) where
-  sides : (o : Option (Tree (whole d))) → W.tree ≡ o → (x : ℕ) (r : BranchRow) → branch_read a.nodes a.cuts x ≡ Branch r
+module _ {d c : ℕ} {s : Float} {W : World (whole d)} {tree : RCFTree} {a : NodeStore} {points : List (List Float)} {marks : List ℕ} (S : State d c s W tree a points marks) where
+  sides : (o : Option (Tree (whole d))) → W.tree ≡ o → (x : ℕ) (r : BranchRow) → branch_read a.nodes a.cuts x ≡ Ok r
       → (m : ℕ) × (n : ℕ) × Weighs tree a r.left m × Weighs tree a r.right n × (r.mass ≡ m + n)
   sides none T x r e = let F = branch_found_lem S T x r e in nonsense (cc F.found)
   sides (some t) T x r e = sides_weigh S T x r e

@@ -5,6 +5,7 @@ use mathlib.Core.Option.{Option, none, some}
 use mathlib.Core.List.{List}
 use Prim.Native.Nat.{ℕ, ◌+◌}
 use lib.Ieee.{Float}
+use Rattle.std.specs.Prelude.{Ok}
 use Rattle.cuttree.specs.Setting.{Cut}
 use Rattle.cuttree.specs.Tree.{Tree, leaf, branch, id, mass}
 use Rattle.cuttree.specs.Run.{World, look, look_in, copies_found, branch_found}
@@ -13,18 +14,16 @@ use Rattle.cuttree.proofs.Masses.{mass_laws}
 use Rattle.cuttree.proofs.Nodes.{In, left, right, here, in_trans, look_in_lem, in_look, nodes_one}
 use Rattle.wholetree.specs.Whole.{whole}
 use Rattle.wholetree.proofs.Laws.{whole_laws}
-use Rattle.treestore.specs.Arrays.{Lent}
+use Rattle.treestore.specs.Arrays.{NodeStore}
 use Rattle.randomcuttree.specs.declared.RCFTree.{RCFTree}
 use Rattle.randomcuttree.specs.declared.BranchRow.{BranchRow}
-use Rattle.randomcuttree.specs.declared.CopiesAnswer.TheVariants.{Copies}
-use Rattle.randomcuttree.specs.declared.BranchAnswer.TheVariants.{Branch}
 use Rattle.randomcuttree.specs.State.{State}
 use Rattle.randomcuttree.specs.Queries.{copies_say, branch_says, row_says, copies_read, branch_read}
 use Rattle.randomcuttree.proofs.Given.{sound}
 use Rattle.randomcuttree.proofs.Told.{copies_are_told, branches_are_told}
 use Rattle.masses.specs.Masses.{Weighs}
 
-module _ {d c : ℕ} {s : Float} {W : World (whole d)} {tree : RCFTree} {a : Lent} {points : List (List Float)} {marks : List ℕ} (S : State d c s W tree a points marks) {o : Option (Tree (whole d))} (T : W.tree ≡ o) where
+module _ {d c : ℕ} {s : Float} {W : World (whole d)} {tree : RCFTree} {a : NodeStore} {points : List (List Float)} {marks : List ℕ} (S : State d c s W tree a points marks) {o : Option (Tree (whole d))} (T : W.tree ≡ o) where
   copies_told : (x : ℕ) → copies_read tree a.copies x ≡ copies_say d (copies_found (whole d) (look_in (whole d) c o x))
   copies_told x = copies_are_told tree a.copies x d c s W a points marks S refl ∙ ap (λ (y : Option (Tree (whole d))). copies_say d (copies_found (whole d) (look_in (whole d) c y x))) T
 
@@ -42,10 +41,10 @@ module _ {d c : ℕ} {s : Float} {W : World (whole d)} {tree : RCFTree} {a : Len
     pub right_is : r.right ≡ id (whole d) c high
     pub mass_is : r.mass ≡ mass (whole d) (branch number cut low high)
 
-  pub branch_found_lem : (x : ℕ) (r : BranchRow) → branch_read a.nodes a.cuts x ≡ Branch r → Found x r
+  pub branch_found_lem : (x : ℕ) (r : BranchRow) → branch_read a.nodes a.cuts x ≡ Ok r → Found x r
   branch_found_lem x r e = go (look_in (whole d) c o x) refl (sym (branch_told x) ∙ e)
     where
-      go : (y : Option (Tree (whole d))) → look_in (whole d) c o x ≡ y → branch_says d (branch_found (whole d) c y) ≡ Branch r → Found x r
+      go : (y : Option (Tree (whole d))) → look_in (whole d) c o x ≡ y → branch_says d (branch_found (whole d) c y) ≡ Ok r → Found x r
       go none f g = nonsense (cc)
       go (some (leaf i q n)) f g = nonsense (cc)
       go (some (branch b k l h)) f g =
@@ -56,7 +55,7 @@ module _ {d c : ℕ} {s : Float} {W : World (whole d)} {tree : RCFTree} {a : Len
   pub node_found : (x m : ℕ) → Weighs tree a x m → (v : Tree (whole d)) × (look_in (whole d) c o x ≡ some v) × (mass (whole d) v ≡ m)
   node_found x m (inl e) = go (look_in (whole d) c o x) refl (sym (copies_told x) ∙ e)
     where
-      go : (y : Option (Tree (whole d))) → look_in (whole d) c o x ≡ y → copies_say d (copies_found (whole d) y) ≡ Copies m → (v : Tree (whole d)) × (look_in (whole d) c o x ≡ some v) × (mass (whole d) v ≡ m)
+      go : (y : Option (Tree (whole d))) → look_in (whole d) c o x ≡ y → copies_say d (copies_found (whole d) y) ≡ Ok m → (v : Tree (whole d)) × (look_in (whole d) c o x ≡ some v) × (mass (whole d) v ≡ m)
       go none f g = nonsense (cc)
       go (some (leaf i q n)) f g = (leaf i q n, f, cc)
       go (some (branch b k l h)) f g = nonsense (cc)
@@ -70,7 +69,7 @@ module _ {d c : ℕ} {s : Float} {W : World (whole d)} {tree : RCFTree} {a : Len
       sym f ∙ ap (mass (whole d)) z ∙ h
 
 -- the state's tree
-module _ {d c : ℕ} {s : Float} {W : World (whole d)} {tree : RCFTree} {a : Lent} {points : List (List Float)} {marks : List ℕ} (S : State d c s W tree a points marks) {t : Tree (whole d)} (T : W.tree ≡ some t) where
+module _ {d c : ℕ} {s : Float} {W : World (whole d)} {tree : RCFTree} {a : NodeStore} {points : List (List Float)} {marks : List ℕ} (S : State d c s W tree a points marks) {t : Tree (whole d)} (T : W.tree ≡ some t) where
   found_at : {v : Tree (whole d)} → In (whole d) v t → look (whole d) c t (id (whole d) c v) ≡ some v
   found_at i = look_in_lem (whole d) c (nodes_one (whole d) c (whole_laws d) W.table t W.free (sound S.reachable T)) i
 
@@ -78,7 +77,7 @@ module _ {d c : ℕ} {s : Float} {W : World (whole d)} {tree : RCFTree} {a : Len
   node_weighs (leaf i q n) j = inl (copies_told S T (i + c) ∙ ap (λ (y : Option (Tree (whole d))). copies_say d (copies_found (whole d) y)) (found_at j))
   node_weighs (branch b k l r) j = inr (_, branch_told S T b ∙ ap (λ (y : Option (Tree (whole d))). branch_says d (branch_found (whole d) c y)) (found_at j), refl)
 
-  pub sides_weigh : (x : ℕ) (r : BranchRow) → branch_read a.nodes a.cuts x ≡ Branch r → (m : ℕ) × (n : ℕ) × Weighs tree a r.left m × Weighs tree a r.right n × (r.mass ≡ m + n)
+  pub sides_weigh : (x : ℕ) (r : BranchRow) → branch_read a.nodes a.cuts x ≡ Ok r → (m : ℕ) × (n : ℕ) × Weighs tree a r.left m × Weighs tree a r.right n × (r.mass ≡ m + n)
   sides_weigh x r e =
       let F = branch_found_lem S T x r e in
       let (i, z) = in_look (whole d) c t x _ F.found in (

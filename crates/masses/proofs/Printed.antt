@@ -10,7 +10,7 @@ use Rattle.cuttree.specs.Tree.{Tree, leaf, branch, id, mass}
 use Rattle.cuttree.specs.Run.{World}
 use Rattle.cuttree.proofs.Masses.{mass_laws}
 use Rattle.wholetree.specs.Whole.{whole}
-use Rattle.treestore.specs.Arrays.{Lent}
+use Rattle.treestore.specs.Arrays.{NodeStore}
 use Rattle.randomcuttree.specs.declared.RCFTree.{RCFTree}
 use Rattle.randomcuttree.specs.State.{State}
 use Rattle.randomcuttree.proofs.Parts.{root_is, total_is}
@@ -25,7 +25,7 @@ lines_weigh d c (branch b k l r) =
     let cut = to_bits binary32 k.value.value in
     subst (λ (m : ℕ). LinesWeigh b m (branch_line b k.channel cut (id (whole d) c l) (id (whole d) c r) m ++ lines_of d c l ++ lines_of d c r)) (sym e) (branch_lines k.channel cut (lines_weigh d c l) (lines_weigh d c r))
 
-module _ {d c : ℕ} {s : Float} {W : World (whole d)} {tree : RCFTree} {a : Lent} {points : List (List Float)} {marks : List ℕ} (S : State d c s W tree a points marks) where
+module _ {d c : ℕ} {s : Float} {W : World (whole d)} {tree : RCFTree} {a : NodeStore} {points : List (List Float)} {marks : List ℕ} (S : State d c s W tree a points marks) where
   abbrev Lined : List ℕ → Type 0
   Lined lines = ((tree.total ≡ 0) × (lines ≡ [])) ⊎ LinesWeigh tree.root tree.total lines
 

@@ -3,11 +3,12 @@ use mathlib.Core.Path.{◌≡◌, refl, sym, ap, ◌∙◌, subst}
 use mathlib.Core.Bool.{not}
 use mathlib.Core.Option.{Option, none, some}
 use mathlib.Core.List.{List, [], ◌++◌}
-use Prim.Native.Nat.{ℕ, ◌+◌, ◌-◌, ◌<◌}
+use Prim.Native.Nat.{ℕ, ◌-◌, ◌<◌}
 use native.Mathlib.Omega.{arith}
 use lib.Dec.{ltb}
 use lib.ListN.{length, get_or, drop, get_or-append}
 use lib.Ieee.{Float}
+use Rattle.std.specs.Prelude.{Ok}
 use Rattle.cuttree.specs.Tree.{Tree, mass, height, walk}
 use Rattle.cuttree.specs.Walk.{sub}
 use Rattle.cuttree.specs.Run.{World}
@@ -18,24 +19,23 @@ use Rattle.wholetree.specs.Whole.{whole, tab}
 use Rattle.wholetree.proofs.Readings.{tab_length, tab_at}
 use Rattle.layout.specs.Slots.{field}
 use Rattle.layout.proofs.Replaced.{in_sub}
-use Rattle.treestore.specs.Arrays.{Lent}
+use Rattle.treestore.specs.Arrays.{NodeStore}
 use Rattle.randomcuttree.specs.declared.RCFTree.{RCFTree}
 use Rattle.randomcuttree.specs.State.{State}
 use Rattle.randomcuttree.proofs.Parts.{total_is}
-use Rattle.nodeview.specs.declared.ReportAnswer.TheVariants.{Rows}
 use Rattle.nodeview.specs.Report.{Report, rows, rows_of, row_at, report_in, report_of}
 use Rattle.nodeview.specs.Told.{numbers_of, report_says, rows_after, ReportTold}
 use Rattle.nodeview.proofs.Fronts.{map_tab}
 use Rattle.masses.specs.Masses.{Weighs}
 use Rattle.masses.proofs.Nodes.{node_weighs}
 
-module _ {d c : ℕ} {s : Float} {W : World (whole d)} {tree : RCFTree} {a : Lent} {points : List (List Float)} {marks : List ℕ} (S : State d c s W tree a points marks) (lent : List (List ℕ)) where
+module _ {d c : ℕ} {s : Float} {W : World (whole d)} {tree : RCFTree} {a : NodeStore} {points : List (List Float)} {marks : List ℕ} (S : State d c s W tree a points marks) (lent : List (List ℕ)) where
   abbrev Rowed : ℕ → List (List ℕ) → Type 0
   Rowed n after = ((i : ℕ) → i < n → Weighs tree a (field after i 0) (field after i 2)) × (field after (n - 1) 2 ≡ tree.total)
 
   -- whatever report x is, if it is not refused
   abbrev Told : Report → Type 0
-  Told x = (n : ℕ) (after : List (List ℕ)) → Rows n ≡ report_says x → after ≡ rows_after x lent → Rowed n after
+  Told x = (n : ℕ) (after : List (List ℕ)) → Ok n ≡ report_says x → after ≡ rows_after x lent → Rowed n after
 
   module _ {t : Tree (whole d)} (T : W.tree ≡ some t) (p : Reading) where
     row_at_lem : (i : ℕ) → i < walk (whole d) t p → get_or (rows_after (rows (rows_of d c t p)) lent) i [] ≡ numbers_of (row_at d c t p i)
@@ -64,7 +64,7 @@ module _ {d c : ℕ} {s : Float} {W : World (whole d)} {tree : RCFTree} {a : Len
   told xs = by_cond Told (not ((whole d).counted xs)) _ _ (λ _ n after e f. nonsense (cc))
       (λ _. by_cond Told (not ((whole d).good xs)) _ _ (λ _ n after e f. nonsense (cc)) (λ _. in_tree W.tree refl (reading xs)))
 
-  pub reports_weigh : (xs : List Float) (after : List (List ℕ)) (n : ℕ) → ReportTold tree a.nodes a.cuts a.copies points a.boxes xs lent (Rows n) after → Rowed n after
+  pub reports_weigh : (xs : List Float) (after : List (List ℕ)) (n : ℕ) → ReportTold tree a.nodes a.cuts a.copies points a.boxes xs lent (Ok n) after → Rowed n after
   reports_weigh xs after n R =
       let x = R d c s W a marks S (record { nodes_are = refl; cuts_are = refl; copies_are = refl; boxes_are = refl }) in
       told xs n after x.answer x.after

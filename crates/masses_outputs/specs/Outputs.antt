@@ -1,6 +1,6 @@
 -- MASSES THAT COUNT LANTERNS (request A.2), of what is given out: of the answers that `sicklephlox_run` writes, and of the tree that `treelist` prints. The
 -- statements, which are those of demand 3 for both with masses said besides: of a run's last tree, and of the lines. Every beginning of a run is a run.
-use Rattle.std.specs.Prelude.{◌≡◌, ◌⊎◌, List, [], ◌∷◌, ◌++◌, map, ℕ}
+use Rattle.std.specs.Prelude.{◌≡◌, ◌⊎◌, List, [], ◌∷◌, ◌++◌, map, ℕ, Ok}
 use Rattle.std.proofs.Math.Option.{some}
 use Rattle.cuttree.specs.Run.{Answer}
 use Rattle.cuttree.specs.Counts.{Counts, count_all, nothing, NothingHeld, Values}
@@ -8,9 +8,7 @@ use Rattle.cuttree.specs.Graph.{View}
 use Rattle.wholetree.specs.Reading.{Reading}
 use Rattle.wholetree.specs.Whole.{whole}
 use Rattle.randomcuttree.specs.declared.RCFTree.{RCFTree}
-use Rattle.randomcuttree.specs.declared.Made.TheVariants.{Tree}
 use Rattle.samplerplustree.specs.declared.SamplerPlusTree.{SamplerPlusTree}
-use Rattle.samplerplustree.specs.declared.MadeSampled.TheVariants as Sampled
 use Rattle.runlayout.specs.Layout.{RunCall, channels, capacity, calls}
 use Rattle.run.specs.Outcome.{given, made, outcome}
 use Rattle.form.specs.Rows.{Op}
@@ -27,7 +25,7 @@ use Rattle.masses_outputs.specs.Seen.{copies_of_all, MassClaim}
 
 -- For every run in the layout whose making is accepted: the answers that are as demand 3 says, and masses in the last tree that count.
 abbrev pub RunsCount : Type 0
-RunsCount = (run lent : List ℕ) (es : List (RunCall (channels run))) (h : SamplerPlusTree) → calls run ≡ some es → made run ≡ Sampled.Tree h
+RunsCount = (run lent : List ℕ) (es : List (RunCall (channels run))) (h : SamplerPlusTree) → calls run ≡ some es → made run ≡ Ok h
     → (as' : RunAnswers (channels run) es) × (G : View (whole (channels run)))
     × RunAnswered (channels run) (capacity run) (MassClaim (whole (channels run))) G (nothing (whole (channels run))) es as'
     × (outcome run lent ≡ given (0 ∷ all_numbers (channels run) (capacity run) es as') lent)
@@ -41,7 +39,7 @@ LinesCount d K lines = (NothingHeld (whole d) K × (lines ≡ []))
 -- For every text in form whose making is accepted: the answers that are as demand 3 says, and lines of the last tree whose masses count, against the counts
 -- of these answers.
 abbrev pub TextsCount : Type 0
-TextsCount = (text : List ℕ) (m : Making) (os : List Op) (tree : RCFTree) → parsed text ≡ read m os → listed_by m.channels m.capacity (sixteenths_of m.sixteenths) ≡ Tree tree
+TextsCount = (text : List ℕ) (m : Making) (os : List Op) (tree : RCFTree) → parsed text ≡ read m os → listed_by m.channels m.capacity (sixteenths_of m.sixteenths) ≡ Ok tree
     → (as' : List (Answer (whole m.channels))) × (lines : List ℕ) × (G : View (whole m.channels))
     × Answered m.channels m.capacity (Listing m.channels lines) G (nothing (whole m.channels)) (map (call_of m.channels) os) as'
     × (output text ≡ told_rows m.channels 0 as' ++ (names_line ++ lines))

@@ -1,4 +1,5 @@
 -- The fields from a place on that name words, one by one. Assumes nothing.
+use Rattle.std.specs.Prelude.{is_some}
 use mathlib.Core.Path.{◌≡◌, refl, ap, ◌∙◌}
 use mathlib.Core.Bool.{Bool, true, false, cond, ◌&&◌, false≢true}
 use mathlib.Core.List.{List, [], ◌∷◌}
@@ -10,7 +11,7 @@ use lib.ListN.{length, get_or, take, drop}
 use lib.Seq.{get_or-drop}
 use Rattle.text.specs.Pieces.{pieces_from, PieceEnds}
 use Rattle.text.specs.Numbers.{word_of}
-use Rattle.text.specs.Fields.{number_in_form, word_in}
+use Rattle.text.specs.Fields.{word_in}
 use Rattle.text.proofs.Pieces.{from_first, from_past, from_some}
 use Rattle.form.specs.Rows.{are_words}
 use Rattle.hexbytes.specs.Hex.{hex_bytes}
@@ -53,7 +54,7 @@ module _ (s : List ℕ) (k : ℕ) where
         unfolding is_named
         named_word y =
             let g : e + 1 ≤ length s = omega arith in
-            rw (two, ← q, y, from_first 32 s (e + 1) f g x, from_past 32 s (f + 1) (omega arith)) (one (number_in_form (word_of (take (f - (e + 1)) (drop (e + 1) s)))))
+            rw (two, ← q, y, from_first 32 s (e + 1) f g x, from_past 32 s (f + 1) (omega arith)) (one (is_some (word_of (take (f - (e + 1)) (drop (e + 1) s)))))
           where
             one : (b : Bool) → cond b true false ≡ b
             one true = refl
@@ -63,7 +64,7 @@ module _ (s : List ℕ) (k : ℕ) where
 pub has_key : (qs : List (List ℕ)) → is_named qs ≡ true → is_key (get_or qs 0 []) ≡ true
 unfolding is_named
 has_key qs e =
-    let (p, _) = both (eqb (length qs) 2 && is_key (get_or qs 0 [])) (number_in_form (word_of (get_or qs 1 []))) e in
+    let (p, _) = both (eqb (length qs) 2 && is_key (get_or qs 0 [])) (is_some (word_of (get_or qs 1 []))) e in
     (both (eqb (length qs) 2) (is_key (get_or qs 0 [])) p).1
 
 module _ (s : List ℕ) (k : ℕ) (n : is_named (pieces_from 32 s k) ≡ true) where

@@ -13,7 +13,8 @@ use Rattle.limits.specs.Limits.{capacity_limit}
 use Rattle.text.proofs.Stores.{sets_front}
 use Rattle.hexbytes.specs.Hex.{are_digits}
 use Rattle.hexbytes.proofs.Digits.{bytes_long}
-use Rattle.wordsource.specs.declared.Filled.{Filled}
+use Rattle.std.specs.Prelude.{Result}
+use Rattle.refusals.specs.declared.Refusal.{Refusal}
 use Rattle.wordsource.specs.Stream.{key_bytes, stream_word, word_limit, stream_words}
 use Rattle.wordsource.specs.Filled.{is_stretch, filled}
 use Rattle.namedwords.specs.Named.{is_named, key_in, first_in, row_words, is_beyond, named_in}
@@ -91,13 +92,13 @@ stretch_part n skip count e h k =
     rw (lt-ltb _ _ x, le-leb _ _ y)
 
 pub filled_is : (qs : List (List ℕ)) → is_named qs ≡ true → is_stretch (first_in qs) row_words ≡ true → {key : List ℕ} {n : ℕ} → key ≡ key_in qs → n ≡ first_in qs → (skip : ℕ) (words : List ℕ) → skip < row_words → skip + length words ≤ row_words
-    → {r : Filled} {after : List ℕ} → (r, after) ≡ filled key (n + skip) words → after ≡ stream_words (key_in qs) (first_in qs + skip) (length words)
+    → {r : Result ℕ Refusal} {after : List ℕ} → (r, after) ≡ filled key (n + skip) words → after ≡ stream_words (key_in qs) (first_in qs + skip) (length words)
 unfolding filled
 filled_is qs m e p q skip words h k f =
     let digits : length (get_or qs 0 []) ≡ 2 * key_bytes = eqb-true (length (get_or qs 0 [])) (2 * key_bytes) (both (eqb (length (get_or qs 0 [])) (2 * key_bytes)) (are_digits (get_or qs 0 [])) (has_key qs m)).0 in
     let l : length (key_in qs) ≡ key_bytes = bytes_long (get_or qs 0 []) key_bytes digits in
     let t = stretch_part (first_in qs) skip (length words) (stretch_end (first_in qs) e) h k in
-    ap (λ (x : Filled × List ℕ). x.1) (rw (p, q, eq-eqb _ _ l, t) at f)
+    ap (λ (x : Result ℕ Refusal × List ℕ). x.1) (rw (p, q, eq-eqb _ _ l, t) at f)
 
 module _ (qs : List (List ℕ)) (n : is_named qs ≡ true) {u : Bool} (b : u ≡ is_beyond qs) where
   -- the starting chance's

@@ -1,10 +1,10 @@
 -- What stands after an arrival's weight where it names its words, a key and a first word number in their place (docs/ARCHIVE_TEXT.md, 'Words by a key', whose words are
 -- quoted here). Definitions.
-use Rattle.std.specs.Prelude.{◌≡◌, refl, Bool, true, false, ◌&&◌, not, cond, List, [], ◌∷◌, ℕ, ◌+◌, eqb, length, get_or}
+use Rattle.std.specs.Prelude.{◌≡◌, refl, Bool, true, false, ◌&&◌, not, cond, List, [], ◌∷◌, ℕ, ◌+◌, eqb, length, get_or, is_some}
 use Rattle.limits.specs.Limits.{capacity_limit}
 use Rattle.text.specs.Quoted.{bytes}
 use Rattle.text.specs.Numbers.{digit_value, digits_from, word_of}
-use Rattle.text.specs.Fields.{number_in_form, word_in}
+use Rattle.text.specs.Fields.{word_in}
 use Rattle.hexbytes.specs.Hex.{is_hex, hex_bytes}
 use Rattle.wordsource.specs.Stream.{key_bytes, stream_words}
 use Rattle.wordsource.specs.Filled.{is_stretch}
@@ -15,7 +15,7 @@ is_key s = is_hex key_bytes s
 
 -- Whether the fields after the weight are KEY and FIRST, 'the number of its first word in the key's stream by 16' digits, and no more.
 unfoldable pub is_named : List (List ℕ) → Bool
-is_named qs = eqb (length qs) 2 && is_key (get_or qs 0 []) && number_in_form (word_of (get_or qs 1 []))
+is_named qs = eqb (length qs) 2 && is_key (get_or qs 0 []) && is_some (word_of (get_or qs 1 []))
 
 -- so the key's bytes, and the number of the first word in its stream
 abbrev pub key_in : List (List ℕ) → List ℕ

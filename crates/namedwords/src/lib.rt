@@ -19,11 +19,9 @@ const BYTES: usize = 32;
 // The last number from which the stream has a word for the starting chance and those for the tree.
 const LAST: u64 = LIMIT - 1 - CAPACITY as u64;
 
-fn is_key_at(row: &[u8], start: usize, end: usize) -> bool
-    requires { (start ≤ end) × (end ≤ length row.now) }
-    ensures { result ≡ is_key (take (end - start) (drop start row.now)) }
+fn is_key(field: &[u8]) -> bool
+    ensures { result ≡ is_key field.now }
 {
-    let field = &row[start..end];
     let mut key = [0u8; BYTES];
     hexbytes::read_hex(field, &mut key)
 }
@@ -44,7 +42,7 @@ pub fn is_named(row: &[u8], start: usize) -> bool
     if text::piece_end(row, at, 32) != row.len() {
         return false;
     }
-    if !is_key_at(row, start, end) {
+    if !is_key(&row[start..end]) {
         return false;
     }
     form::all_words(row, at)
@@ -82,8 +80,7 @@ fn read_key(row: &[u8], start: usize) -> [u8; 32]
     ensures { result ≡ key_in (pieces_from 32 row.now start) }
 {
     let end = text::piece_end(row, start, 32);
-    let field = &row[start..end];
-    key_of(field)
+    key_of(&row[start..end])
 }
 
 // Fills a lent list with words of the stream, from so many after the first named one on.
@@ -95,7 +92,7 @@ fn fill_from(row: &[u8], start: usize, skip: u64, words: &mut [u64])
 {
     let key = read_key(row, start);
     let first = read_first(row, start);
-    wordsource::fill(&key, first + skip, words);
+    let _ = wordsource::fill(&key, first + skip, words);
 }
 
 // The word for the starting chance that the fields from a place on name, 0 where the stream has too few.

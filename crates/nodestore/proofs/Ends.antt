@@ -7,7 +7,7 @@ use mathlib.Core.List.{List}
 use Prim.Native.Nat.{ℕ, suc, ◌+◌, ◌-◌, ◌≤◌, ◌<◌}
 use native.Mathlib.Omega.{arith}
 use lib.Dec.{eqb, ltb}
-use lib.ListN.{get_or, take, set}
+use lib.ListN.{length, get_or, take, set}
 use lib.Ieee.{Float}
 use borrow.Author.Tests.{lt-ltb, le-ltb, eq-eqb, ne_eqb}
 use Rattle.limits.specs.Limits.{branch_limit, point_limit, total_limit}
@@ -32,7 +32,7 @@ use Rattle.layout.proofs.Counts.{count_ending}
 use Rattle.walk.proofs.Ends.{walk_is, fork_is, sibling_is}
 use Rattle.nodestore.specs.Rows.{mass_over, heavier, lighter, Climb, relink}
 use Rattle.nodestore.specs.Stored.{Arrays, Stored, Reached}
-use Rattle.nodestore.proofs.Facts.{root_replace}
+use Rattle.nodestore.proofs.Facts.{relinked, last_taken, root_replace}
 use Rattle.nodestore.proofs.Climbs.{climbs}
 use Rattle.nodestore.proofs.Recounts.{copy_linked, copy_arrays}
 use Rattle.nodestore.proofs.Removals.{gone_small, parent_low, gone_climb, gone_arrays}
@@ -97,25 +97,28 @@ module _ {d c n index : ℕ} {N path : List (List ℕ)} {C : List Float} {K : Li
       up : (n - 2) + 1 ≡ height S t p
       up = omega (arith, w.walked.count)
 
+      long : n - 2 ≤ length path
+      long = omega (arith, w.walked.long, w.walked.most)
+
       pub fork_asks : (b s : ℕ) → b ≡ field path (n - 2) 0 → s ≡ field path (n - 1) 1 →
-          (b < branch_limit) × ((0 < n - 2 → field path ((n - 2) - 1) 0 < branch_limit) × Climb 1 total_limit (relink (set N b no_row) path (n - 2) b s) (take (n - 2) path))
-      fork_asks b s x y = rw (x ∙ fork_is w.walked deep, y ∙ sibling_is w.walked deep) (
+          (b < branch_limit) × ((0 < length (take (n - 2) path) → field (take (n - 2) path) (length (take (n - 2) path) - 1) 0 < branch_limit) × Climb 1 total_limit (relink (set N b no_row) (take (n - 2) path) (length (take (n - 2) path)) b s) (take (n - 2) path))
+      fork_asks b s x y = rw (relinked path (n - 2) long (set N b no_row) b s) (rw (x ∙ fork_is w.walked deep, y ∙ sibling_is w.walked deep) (
         gone_small d c t p N C K w.stored below_root (sym copies_are ∙ one),
         (
-          parent_low d c t p N C K w.stored below_root (sym copies_are ∙ one) (n - 2) path up (walk_is w.walked),
+          last_taken path (n - 2) long (parent_low d c t p N C K w.stored below_root (sym copies_are ∙ one) (n - 2) path up (walk_is w.walked)),
           gone_climb d c t p N C K w.stored below_root (sym copies_are ∙ one) (n - 2) path up (walk_is w.walked),
         ),
-      )
+      ))
 
       -- the root is the sibling where the branch was the root
       pub fork_root : (root s : ℕ) → root ≡ id S c t → s ≡ field path (n - 1) 1 → cond (eqb (n - 2) 0) s root ≡ root_of d c 0 (forget S p t)
       fork_root root s x y = rw ((last_lifted S c p t below_root last).0, x, y ∙ sibling_is w.walked deep) (sym (root_replace d c t (sibling S t 0 p) p 1 (n - 2) up))
 
       pub fork_arrays : (b s : ℕ) → b ≡ field path (n - 2) 0 → s ≡ field path (n - 1) 1 →
-          Arrays d c (mass_over lighter (take (n - 2) path) (relink (set N b no_row) path (n - 2) b s)) (set C b nought) (set K index 0) (forget S p t) × (freed S p t ≡ some b)
+          Arrays d c (mass_over lighter (take (n - 2) path) (relink (set N b no_row) (take (n - 2) path) (length (take (n - 2) path)) b s)) (set C b nought) (set K index 0) (forget S p t) × (freed S p t ≡ some b)
       fork_arrays b s x y = let z = last_lifted S c p t below_root last in
-          rw (x ∙ fork_is w.walked deep, y ∙ sibling_is w.walked deep)
-          (rw (z.0, w.index_is) (gone_arrays d c t p N C K w.stored below_root (sym copies_are ∙ one) (n - 2) path up (walk_is w.walked)), z.1)
+          rw (relinked path (n - 2) long (set N b no_row) b s) (rw (x ∙ fork_is w.walked deep, y ∙ sibling_is w.walked deep)
+          (rw (z.0, w.index_is) (gone_arrays d c t p N C K w.stored below_root (sym copies_are ∙ one) (n - 2) path up (walk_is w.walked)), z.1))
 
 -- THE FIRST LEAF
 pub first_arrays : (d c : ℕ) (nodes : List (List ℕ)) (cuts : List Float) (copies : List ℕ) (index : ℕ) (p : Reading) → index < point_limit → Arrays d c nodes cuts copies none → Arrays d c nodes cuts (set copies index 1) (some (leaf index p 1))

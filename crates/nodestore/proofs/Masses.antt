@@ -5,10 +5,10 @@ use mathlib.Core.Logic.{◌≢◌}
 use Prim.Native.Nat.{ℕ, zero, suc, ◌+◌, ◌≤◌, ◌<◌}
 use native.Mathlib.Omega.{arith}
 use lib.Dec.{eqb}
-use lib.ListN.{length, get_or, take, drop, set, length-set, drop_of_length-le}
-use lib.Seq.{drop-cons, get_or-take, get_or-set_same, get_or-set_other, length-take-le}
+use lib.ListN.{length, get_or, drop, set, length-set, drop_of_length-le}
+use lib.Seq.{drop-cons, get_or-set_same, get_or-set_other}
 use borrow.Author.Tests.{eqb-true}
-use Rattle.limits.specs.Limits.{capacity_limit, branch_limit}
+use Rattle.limits.specs.Limits.{branch_limit}
 use Rattle.cuttree.specs.Tree.{is}
 use Rattle.cuttree.proofs.Tests.{by-test}
 use Rattle.cuttree.proofs.Intervals.{is_same}
@@ -48,30 +48,28 @@ module _ (f : ℕ → ℕ) where
   times_drop [] (suc k) b = omega arith
   times_drop (s ∷ ss) (suc k) b = omega (arith, times_drop ss k b)
 
-  -- THE LOOP: of the first n rows those from k on are done
-  pub record Turn (low high : ℕ) (n₀ path : List (List ℕ)) (n : ℕ) (now : List (List ℕ)) (k b : ℕ) : Type 0 where
+  -- THE LOOP: of the rows those from k on are done
+  pub record Turn (low high : ℕ) (n₀ ss now : List (List ℕ)) (k b : ℕ) : Type 0 where
     pub small : b < branch_limit
     pub at_least : low ≤ field now b 2
     pub at_most : field now b 2 ≤ high
-    pub next : weigh f now b ≡ mass_over f (drop k (take n path)) n₀
+    pub next : weigh f now b ≡ mass_over f (drop k ss) n₀
 
-  module _ (n₀ path : List (List ℕ)) (n : ℕ) (most : n ≤ capacity_limit) (long : length path ≡ capacity_limit) where
-    pub turn : {low high : ℕ} → Climb low high n₀ (take n path) → (now : List (List ℕ)) (j k b : ℕ) → now ≡ mass_over f (drop j (take n path)) n₀ → j ≡ suc k → k < n → b ≡ field path k 0 → Turn low high n₀ path n now k b
-    turn w now j k b g z lt h =
-        let e : now ≡ mass_over f (drop (suc k) (take n path)) n₀ = g ∙ ap (λ x. mass_over f (drop x (take n path)) n₀) z in
-        let l : drop k (take n path) ≡ get_or path k [] ∷ drop (suc k) (take n path) =
-        drop-cons (take n path) k [] (omega (arith, length-take-le n path (omega arith))) ∙ ap (λ x. x ∷ drop (suc k) (take n path)) (get_or-take n path k [] lt) in
-        let o : times (drop k (take n path)) b ≡ is (field path k 0) b + times (drop (suc k) (take n path)) b = ap (λ x. times x b) l in
-        let i : is (field path k 0) b ≡ 1 = rw h (is_same (field path k 0)) in
-        let u = times_drop (take n path) k b in
-        let s : get_or now b [] ≡ get_or n₀ b [] = rw e (mass_other (drop (suc k) (take n path)) n₀ b (omega (arith, w.once b))) in
-        let r = w.masses b (omega arith) in
-        record {
-          small = w.ids b (omega arith);
-          at_least = rw s r.0;
-          at_most = rw s r.1;
-          next = ap (λ x. weigh f x b) e ∙ ap (weigh f (mass_over f (drop (suc k) (take n path)) n₀)) h ∙ ap (λ x. mass_over f x n₀) (sym l);
-        }
+  pub turn : (n₀ ss : List (List ℕ)) {low high : ℕ} → Climb low high n₀ ss → (now : List (List ℕ)) (j k b : ℕ) → now ≡ mass_over f (drop j ss) n₀ → j ≡ suc k → k < length ss → b ≡ field ss k 0 → Turn low high n₀ ss now k b
+  turn n₀ ss w now j k b g z lt h =
+      let e : now ≡ mass_over f (drop (suc k) ss) n₀ = g ∙ ap (λ x. mass_over f (drop x ss) n₀) z in
+      let l : drop k ss ≡ get_or ss k [] ∷ drop (suc k) ss = drop-cons ss k [] lt in
+      let o : times (drop k ss) b ≡ is (field ss k 0) b + times (drop (suc k) ss) b = ap (λ x. times x b) l in
+      let i : is (field ss k 0) b ≡ 1 = rw h (is_same (field ss k 0)) in
+      let u = times_drop ss k b in
+      let s : get_or now b [] ≡ get_or n₀ b [] = rw e (mass_other (drop (suc k) ss) n₀ b (omega (arith, w.once b))) in
+      let r = w.masses b (omega arith) in
+      record {
+        small = w.ids b (omega arith);
+        at_least = rw s r.0;
+        at_most = rw s r.1;
+        next = ap (λ x. weigh f x b) e ∙ ap (weigh f (mass_over f (drop (suc k) ss) n₀)) h ∙ ap (λ x. mass_over f x n₀) (sym l);
+      }
 
-    pub begin : n₀ ≡ mass_over f (drop n (take n path)) n₀
-    begin = rw (drop_of_length-le (take n path) {i = n} (omega (arith, length-take-le n path (omega arith))))
+  pub begin : (n₀ ss : List (List ℕ)) → n₀ ≡ mass_over f (drop (length ss) ss) n₀
+  begin n₀ ss = rw (drop_of_length-le ss {i = length ss} (omega arith))

@@ -1,6 +1,6 @@
 -- Rows of branches and rows of a path, as lists: what an edit writes. Definitions.
 use Rattle.std.specs.Prelude.{Bool, cond, List, [], ◌∷◌, ℕ, ◌+◌, ◌-◌, ◌≤◌, ◌<◌, eqb, ltb, get_or, set}
-use Rattle.limits.specs.Limits.{branch_limit}
+use Rattle.limits.specs.Limits.{branch_limit, total_limit}
 use Rattle.cuttree.specs.Tree.{is}
 use Rattle.layout.specs.Slots.{field}
 use Rattle.walk.specs.Walks.{node_of}
@@ -28,7 +28,21 @@ heavier x = x + 1
 abbrev pub lighter : ℕ → ℕ
 lighter x = x - 1
 
--- what this asks: different branches, with masses from low to high
+-- one of these two
+abbrev pub counted : Bool → ℕ → ℕ
+counted more x = cond more (heavier x) (lighter x)
+
+-- what is small and large enough to be counted so
+abbrev pub fewest : Bool → ℕ
+fewest more = cond more 0 1
+
+abbrev pub most : Bool → ℕ
+most more = cond more (total_limit - 1) total_limit
+
+abbrev pub Countable : Bool → ℕ → Type 0
+Countable more x = (fewest more ≤ x) × (x ≤ most more)
+
+-- what masses ask: different branches, with masses from low to high
 pub record Climb (low high : ℕ) (n ss : List (List ℕ)) : Type 0 where
   pub ids : (b : ℕ) → 0 < times ss b → b < branch_limit
   pub once : (b : ℕ) → times ss b ≤ 1

@@ -2,7 +2,7 @@
 // to other crates.
 #![tactic(auto)]
 
-ghost use Rattle.std.specs.Prelude.{◌≡◌, Bool, cond, List, ℕ, ◌+◌, ◌-◌, ◌<◌, ◌≤◌, eqb, length, get_or, set, take, Float};
+ghost use Rattle.std.specs.Prelude.{◌≡◌, Bool, cond, List, ℕ, ◌+◌, ◌-◌, ◌<◌, ◌≤◌, eqb, length, get_or, set, Float};
 ghost use Rattle.std.proofs.Math.Option.{none, some};
 ghost use Rattle.limits.specs.Limits.{width, capacity_limit, branch_limit, point_limit, total_limit};
 ghost use Rattle.readings.specs.Number.{nought};
@@ -13,7 +13,7 @@ ghost use Rattle.wholetree.specs.Reading.{Reading};
 ghost use Rattle.wholetree.specs.Whole.{whole};
 ghost use Rattle.layout.specs.Layout.{no_row, root_of};
 ghost use Rattle.layout.specs.Slots.{field};
-ghost use Rattle.nodestore.specs.Rows.{mass_over, weigh, heavier, lighter, Climb, redirect, relink, row_for, mass_at};
+ghost use Rattle.nodestore.specs.Rows.{mass_over, heavier, lighter, counted, fewest, most, Countable, Climb, redirect, relink, row_for, mass_at};
 ghost use Rattle.nodestore.specs.Stored.{Arrays, Reached, SomeReached, Graft, SomeGraft};
 ghost use Rattle.cut.specs.declared.Cut.{Cut};
 
@@ -22,46 +22,22 @@ use cut::Cut;
 use limits::{Copies, Cuts, Nodes, Path};
 use walk::{node_at, sibling_at};
 
-fn heavier_by_one(nodes: &mut Nodes, i: usize)
-    requires i_lt_branch_limit { i < branch_limit }
-    requires i_bound { field nodes.old i 2 ≤ total_limit - 1 }
-    ensures { nodes.new ≡ weigh heavier nodes.old i }
+// One more where `MORE` is true, else one less.
+fn counted<const MORE: bool>(x: u16) -> u16
+    requires { Countable MORE x }
+    ensures { result ≡ counted MORE x }
 {
-    nodes[i][2] = nodes[i][2] + 1;
+    if MORE { x + 1 } else { x - 1 }
 }
 
-fn lighter_by_one(nodes: &mut Nodes, i: usize)
-    requires i_lt_branch_limit { i < branch_limit }
-    requires bound { 1 ≤ field nodes.old i 2 }
-    ensures { nodes.new ≡ weigh lighter nodes.old i }
+// The masses of the rows of a path, from the last to the root: `manage_ancestors_add` and `manage_ancestors_delete` of nodestore.rs.
+fn manage_ancestors<const MORE: bool>(nodes: &mut Nodes, above: &[[u16; 2]])
+    requires { Climb (fewest MORE) (most MORE) nodes.old above.now }
+    ensures { nodes.new ≡ mass_over (counted MORE) above.now nodes.old }
 {
-    nodes[i][2] = nodes[i][2] - 1;
-}
-
-// The masses of the first n nodes of the path, from the last to the root.
-fn manage_ancestors_add(nodes: &mut Nodes, path: &Path, n: usize)
-    requires n_le_capacity_limit { n ≤ capacity_limit }
-    requires path_len { length path.now ≡ capacity_limit }
-    requires climb { Climb 0 (total_limit - 1) nodes.old (take n path.now) }
-    ensures { nodes.new ≡ mass_over heavier (take n path.now) nodes.old }
-{
-    let mut k = n;
-    while 0 < k {
-        k -= 1;
-        heavier_by_one(nodes, wide16(path[k][0]));
-    }
-}
-
-fn manage_ancestors_delete(nodes: &mut Nodes, path: &Path, n: usize)
-    requires n_le_capacity_limit { n ≤ capacity_limit }
-    requires path_len { length path.now ≡ capacity_limit }
-    requires climb { Climb 1 total_limit nodes.old (take n path.now) }
-    ensures { nodes.new ≡ mass_over lighter (take n path.now) nodes.old }
-{
-    let mut k = n;
-    while 0 < k {
-        k -= 1;
-        lighter_by_one(nodes, wide16(path[k][0]));
+    for k in (0..above.len()).rev() {
+        let i = wide16(above[k][0]);
+        nodes[i][2] = counted::<MORE>(nodes[i][2]);
     }
 }
 
@@ -82,16 +58,16 @@ fn replace_node(nodes: &mut Nodes, a: usize, old: u16, new: u16)
     nodes[a][side] = new;
 }
 
-// The node `old` below the first k nodes of the path is made `new`.
-fn relink_at(nodes: &mut Nodes, path: &Path, k: usize, old: u16, new: u16)
-    requires k_le_capacity_limit { k ≤ capacity_limit }
-    requires k_bound { 0 < k → field path.now (k - 1) 0 < branch_limit }
-    ensures { nodes.new ≡ relink nodes.old path.now k old new }
+// The node `old` below the rows of a path is made `new`.
+fn relink_at(nodes: &mut Nodes, above: &[[u16; 2]], old: u16, new: u16)
+    requires { 0 < length above.now → field above.now (length above.now - 1) 0 < branch_limit }
+    ensures { nodes.new ≡ relink nodes.old above.now (length above.now) old new }
 {
+    let k = above.len();
     if k == 0 {
         return;
     }
-    replace_node(nodes, wide16(path[k - 1][0]), old, new);
+    replace_node(nodes, wide16(above[k - 1][0]), old, new);
 }
 
 // The row and the cut of a branch.
@@ -103,43 +79,38 @@ fn put_cell(nodes: &mut Nodes, cuts: &mut Cuts, b: usize, row: [u16; 4], cut: f3
     cuts[b] = cut;
 }
 
-// The branch b, below the first k nodes of the path, goes; the node s takes its place.
-fn lift(nodes: &mut Nodes, cuts: &mut Cuts, path: &Path, k: usize, b: u16, s: u16)
+// The branch b, below those rows of a path, goes; the node s takes its place.
+fn lift(nodes: &mut Nodes, cuts: &mut Cuts, above: &[[u16; 2]], b: u16, s: u16)
     requires b_lt_branch_limit { b < branch_limit }
-    requires k_le_capacity_limit { k ≤ capacity_limit }
-    requires path_len { length path.now ≡ capacity_limit }
-    requires k_bound { 0 < k → field path.now (k - 1) 0 < branch_limit }
-    requires climb { Climb 1 total_limit (relink (set nodes.old b no_row) path.now k b s) (take k path.now) }
-    ensures linked { nodes.new ≡ mass_over lighter (take k path.now) (relink (set nodes.old b no_row) path.now k b s) }
+    requires last { 0 < length above.now → field above.now (length above.now - 1) 0 < branch_limit }
+    requires climb { Climb 1 total_limit (relink (set nodes.old b no_row) above.now (length above.now) b s) above.now }
+    ensures linked { nodes.new ≡ mass_over lighter above.now (relink (set nodes.old b no_row) above.now (length above.now) b s) }
     ensures cut_after { cuts.new ≡ set cuts.old b nought }
 {
     put_cell(nodes, cuts, wide16(b), [0, 0, 0, 0], 0.0);
-    relink_at(nodes, path, k, b, s);
-    manage_ancestors_delete(nodes, path, k);
+    relink_at(nodes, above, b, s);
+    manage_ancestors::<false>(nodes, above);
 }
 
-// The branch b comes, below the first k nodes of the path and above the node `old`.
+// The branch b comes, below those rows of a path and above the node `old`.
 fn insert(
     nodes: &mut Nodes,
     cuts: &mut Cuts,
-    path: &Path,
-    k: usize,
+    above: &[[u16; 2]],
     b: u16,
     row: [u16; 4],
     value: f32,
     old: u16,
 )
     requires b_lt_branch_limit { b < branch_limit }
-    requires k_le_capacity_limit { k ≤ capacity_limit }
-    requires path_len { length path.now ≡ capacity_limit }
-    requires k_bound { 0 < k → field path.now (k - 1) 0 < branch_limit }
-    requires climb { Climb 0 (total_limit - 1) (relink (set nodes.old b row) path.now k old b) (take k path.now) }
-    ensures linked { nodes.new ≡ mass_over heavier (take k path.now) (relink (set nodes.old b row) path.now k old b) }
+    requires last { 0 < length above.now → field above.now (length above.now - 1) 0 < branch_limit }
+    requires climb { Climb 0 (total_limit - 1) (relink (set nodes.old b row) above.now (length above.now) old b) above.now }
+    ensures linked { nodes.new ≡ mass_over heavier above.now (relink (set nodes.old b row) above.now (length above.now) old b) }
     ensures cut_after { cuts.new ≡ set cuts.old b value }
 {
     put_cell(nodes, cuts, wide16(b), row, value);
-    relink_at(nodes, path, k, old, b);
-    manage_ancestors_add(nodes, path, k);
+    relink_at(nodes, above, old, b);
+    manage_ancestors::<true>(nodes, above);
 }
 
 fn put_copies(copies: &mut Copies, index: usize, n: u16)
@@ -149,20 +120,12 @@ fn put_copies(copies: &mut Copies, index: usize, n: u16)
     copies[index] = n;
 }
 
-fn one_more(copies: &mut Copies, index: usize)
+fn recount<const MORE: bool>(copies: &mut Copies, index: usize)
     requires index_lt_point_limit { index < point_limit }
-    requires index_bound { get_or copies.old index 0 ≤ total_limit - 1 }
-    ensures { copies.new ≡ set copies.old index (get_or copies.old index 0 + 1) }
+    requires countable { Countable MORE (get_or copies.old index 0) }
+    ensures { copies.new ≡ set copies.old index (counted MORE (get_or copies.old index 0)) }
 {
-    copies[index] = copies[index] + 1;
-}
-
-fn one_less(copies: &mut Copies, index: usize)
-    requires index_lt_point_limit { index < point_limit }
-    requires bound { 1 ≤ get_or copies.old index 0 }
-    ensures { copies.new ≡ set copies.old index (get_or copies.old index 0 - 1) }
-{
-    copies[index] = copies[index] - 1;
+    copies[index] = counted::<MORE>(copies[index]);
 }
 
 // One copy more of the leaf that the path ends in.
@@ -172,8 +135,8 @@ pub fn add_copy(nodes: &mut Nodes, copies: &mut Copies, path: &Path, n: usize, i
     ensures { (d c : ℕ) (cuts : List Float) (t : Tree (whole d)) (p : Reading) → Reached d c nodes.old cuts copies.old path.now n index t p
         → Arrays d c nodes.new cuts copies.new (some (add_copy (whole d) p t)) }
 {
-    one_more(copies, index);
-    manage_ancestors_add(nodes, path, n - 1);
+    recount::<true>(copies, index);
+    manage_ancestors::<true>(nodes, &path[..n - 1]);
 }
 
 // One copy less of that leaf, where copies are left.
@@ -184,8 +147,8 @@ pub fn drop_copy(nodes: &mut Nodes, copies: &mut Copies, path: &Path, n: usize, 
     ensures { (d c : ℕ) (cuts : List Float) (t : Tree (whole d)) (p : Reading) → Reached d c nodes.old cuts copies.old path.now n index t p
         → Arrays d c nodes.new cuts copies.new (forget (whole d) p t) × (freed (whole d) p t ≡ none) }
 {
-    one_less(copies, index);
-    manage_ancestors_delete(nodes, path, n - 1);
+    recount::<false>(copies, index);
+    manage_ancestors::<false>(nodes, &path[..n - 1]);
 }
 
 // The first leaf of an empty tree.
@@ -230,7 +193,7 @@ pub fn remove_leaf(
     let b = node_at(path, n - 2);
     let s = sibling_at(path, n - 1);
     put_copies(copies, index, 0);
-    lift(nodes, cuts, path, n - 2, b, s);
+    lift(nodes, cuts, &path[..n - 2], b, s);
     b
 }
 
@@ -311,7 +274,7 @@ pub fn place_branch(
     let m = mass_of(nodes, copies, old, capacity);
     let row = row_for(left, leaf_id(index, capacity), old, m, cut.dimension);
     put_copies(copies, index, 1);
-    insert(nodes, cuts, path, k, b, row, cut.value, old);
+    insert(nodes, cuts, &path[..k], b, row, cut.value, old);
 }
 
 // The id of the root after that: the new branch's where nothing is above it.

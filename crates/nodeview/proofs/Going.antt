@@ -56,7 +56,7 @@ module _ (c k : ℕ) (nodes : List (List ℕ)) (copies : List ℕ) (points : Lis
     pub written : (d : ℕ) (t : Tree (whole d)) (p : Reading) → In d t p → rows ≡ front (numbers d t p) m lent
 
   -- at the branch of height m, the node below it on the walk and that one's sibling; c' is the capacity too
-  module _ {d : ℕ} {t : Tree (whole d)} {p : Reading} (w : In d t p) (m : ℕ) (z : 0 < m) (h : m < len) (c' : ℕ) (e : c' ≡ c) (below : ℕ) (f : below ≡ field path (len - m) 0) (side : ℕ) (g : side ≡ get_or (get_or path (len - 1 - (m - 1)) []) 1 0) where
+  module _ {d : ℕ} {t : Tree (whole d)} {p : Reading} (w : In d t p) (m : ℕ) (z : 0 < m) (h : m < len) (c' : ℕ) (e : c' ≡ c) (below : ℕ) (f : below ≡ field path (len - m) 0) (side : ℕ) (g : side ≡ field path (len - m) 1) where
     pub both_stand : SomeBoxed c' k below nodes points boxes × SomeBoxed c' k side nodes points boxes
     both_stand = rw e (Walks.both_stand path p w.boxed (apart_once d c t w.stored.apart) w.walked.count w.walked.is_trail m z h below f side g)
 

@@ -1,6 +1,6 @@
 -- A report by its steps: each refusal, what the walk and the rows are told of a state, what the walk leaves, and the rows as the report's. Assumes nothing.
 use mathlib.Core.Path.{◌≡◌, refl, sym, ap, ◌∙◌}
-use mathlib.Core.Bool.{true, false}
+use mathlib.Core.Bool.{true, false, true≢false}
 use mathlib.Core.Option.{Option, none, some}
 use mathlib.Core.List.{List, ◌++◌, map}
 use Prim.Native.Nat.{ℕ, ◌≤◌, ◌<◌}
@@ -18,37 +18,44 @@ use Rattle.wholetree.specs.Reading.{Reading, padded, reading}
 use Rattle.wholetree.specs.Whole.{whole, all_coordinates}
 use Rattle.wholetree.proofs.Readings.{tab_length, padded_length, reading_row}
 use Rattle.layout.specs.Stands.{trail}
-use Rattle.pointstore.specs.Puts.{point_refusal}
+use Rattle.pointstore.specs.Puts.{point_checked}
+use Rattle.refusals.specs.declared.Refusal.{Refusal}
+use Rattle.refusals.specs.declared.Refusal.TheVariants as Why
+use Rattle.std.specs.Prelude.{Result, Ok, Err, is_ok}
 use Rattle.walk.specs.Walks.{Walks, Walked}
 use Rattle.boxstore.specs.Boxed.{Boxed}
 use Rattle.rowboxes.specs.Rows.{PaddedRow, PaddedBoxes}
-use Rattle.treestore.specs.Arrays.{Lent}
+use Rattle.treestore.specs.Arrays.{NodeStore}
 use Rattle.randomcuttree.specs.declared.RCFTree.{RCFTree}
 use Rattle.randomcuttree.specs.State.{State}
 use Rattle.randomcuttree.proofs.Parts.{dimensions_are, capacity_is, cached_is, cached_few}
 use Rattle.randomcuttree.proofs.Given.{stored, walks_of, boxed, table_padded, boxes_padded as slots-padded}
 use Rattle.randomcuttree.proofs.Calls.{no_tree}
-use Rattle.nodeview.specs.declared.ReportAnswer.{ReportAnswer}
-use Rattle.nodeview.specs.declared.ReportAnswer.TheVariants.{Rows, NoReport}
-use Rattle.nodeview.specs.Report.{ReportRefusal, few_rows, tree_empty, coordinate_count, bad_coordinate, report_number, refused, rows, row_at, rows_of, report_in, report_of}
-use Rattle.nodeview.specs.Told.{numbers_of, report_says, rows_after, ReportRead, Reported}
+use Rattle.nodeview.specs.Report.{ReportRefusal, few_rows, tree_empty, coordinate_count, bad_coordinate, refused, rows, row_at, rows_of, report_in, report_of}
+use Rattle.nodeview.specs.Told.{refusal_told, numbers_of, report_says, rows_after, ReportRead, Reported}
 use Rattle.nodeview.specs.Walking.{Chanced, Unchanced, tree_walked, Left, SomeWalking}
 use Rattle.nodeview.specs.Writing.{Writing, SomeWriting, Writes}
 use Rattle.nodeview.proofs.Chances.{narrow_point}
 
 -- what is wrong with a given point, or nothing
-by_point : {P : Type 0} (d : ℕ) (xs : List Float) → (eqb (length xs) d ≡ false → point_refusal d xs ≡ 6 → P) → (eqb (length xs) d ≡ true → all_coordinates xs ≡ false → point_refusal d xs ≡ 7 → P)
-    → (eqb (length xs) d ≡ true → all_coordinates xs ≡ true → point_refusal d xs ≡ 0 → P) → P
-unfolding point_refusal
+abbrev bad : Refusal → Result ℕ Refusal
+bad n = Err n
+
+abbrev told_rows : ℕ → Result ℕ Refusal
+told_rows n = Ok n
+
+by_point : {P : Type 0} (d : ℕ) (xs : List Float) → (eqb (length xs) d ≡ false → point_checked d xs ≡ Err Why.CoordinateCount → P) → (eqb (length xs) d ≡ true → all_coordinates xs ≡ false → point_checked d xs ≡ Err Why.BadCoordinate → P)
+    → (eqb (length xs) d ≡ true → all_coordinates xs ≡ true → point_checked d xs ≡ Ok tt → P) → P
+unfolding point_checked
 by_point d xs f g h = by-test (eqb (length xs) d) (λ a. by-test (all_coordinates xs) (λ b. h a b (rw (a, b))) (λ b. g a b (rw (a, b)))) (λ a. f a (rw a))
 
-module _ {d c : ℕ} {s : Float} {W : World (whole d)} {tree : RCFTree} {a : Lent} {points : List (List Float)} {marks : List ℕ} {nodes : List (List ℕ)} {cuts : List Float} {copies : List ℕ} {boxes : List (List (List Float))}
+module _ {d c : ℕ} {s : Float} {W : World (whole d)} {tree : RCFTree} {a : NodeStore} {points : List (List Float)} {marks : List ℕ} {nodes : List (List ℕ)} {cuts : List Float} {copies : List ℕ} {boxes : List (List (List Float))}
     (H : State d c s W tree a points marks) (E : ReportRead a nodes cuts copies boxes) (xs : List Float) where
-  abbrev Done : List (List ℕ) → ReportAnswer → List (List ℕ) → Type 0
+  abbrev Done : List (List ℕ) → Result ℕ Refusal → List (List ℕ) → Type 0
   Done lent r lent' = Reported (report_of d c W (length lent) xs) lent r lent'
 
-  not_done : (lent : List (List ℕ)) (r : ReportRefusal) (n : ℕ) → report_of d c W (length lent) xs ≡ refused r → n ≡ report_number r → Done lent (NoReport n) lent
-  not_done lent r n e f = record { answer = ap NoReport f ∙ sym (ap report_says e); after = sym (ap (λ x. rows_after x lent) e) }
+  not_done : (lent : List (List ℕ)) (r : ReportRefusal) (n : Refusal) → report_of d c W (length lent) xs ≡ refused r → n ≡ refusal_told r → Done lent (Err n) lent
+  not_done lent r n e f = record { answer = ap bad f ∙ sym (ap report_says e); after = sym (ap (λ x. rows_after x lent) e) }
 
   -- the path and the chances after it
   abbrev After : List (List ℕ) → List Float → List (List ℕ) → List Float → Type 0
@@ -58,23 +65,26 @@ module _ {d c : ℕ} {s : Float} {W : World (whole d)} {tree : RCFTree} {a : Len
   not_walked path chances e = rw e (refl, refl)
 
   -- ---- the given coordinates
-  module _ (r : ℕ) (e : r ≡ point_refusal tree.dimensions xs) where
-    is : r ≡ point_refusal d xs
-    is = e ∙ ap (λ x. point_refusal x xs) (dimensions_are H)
+  module _ (r : Result Unit Refusal) (e : r ≡ point_checked tree.dimensions xs) where
+    is : r ≡ point_checked d xs
+    is = e ∙ ap (λ x. point_checked x xs) (dimensions_are H)
 
-    module _ (h : r ≡ 0 → ⊥) where
-      pub no_point : (lent : List (List ℕ)) → Done lent (NoReport r) lent
+    module _ (x : Refusal) (h : r ≡ Err x) where
+      given : (y : Refusal) → point_checked d xs ≡ Err y → x ≡ y
+      given y f = let z : ◌≡◌ {A = Result Unit Refusal} (Err x) (Err y) = sym h ∙ is ∙ f in cc
+
+      pub no_point : (lent : List (List ℕ)) → Done lent (Err x) lent
       no_point lent = by_point d xs
-          (λ a f. not_done lent coordinate_count r (rw a refl) (is ∙ f))
-          (λ a b f. not_done lent bad_coordinate r (rw (a, b) refl) (is ∙ f))
-          (λ a b f. absurd (h (is ∙ f)))
+          (λ a f. not_done lent coordinate_count x (rw a refl) (given _ f))
+          (λ a b f. not_done lent bad_coordinate x (rw (a, b) refl) (given _ f))
+          (λ a b f. absurd (true≢false (ap is_ok (sym (is ∙ f) ∙ h))))
 
       pub unwalked : (path : List (List ℕ)) (chances : List Float) → After path chances path chances
-      unwalked path chances = not_walked path chances (by_point d xs (λ a f. rw a refl) (λ a b f. rw (a, b) refl) (λ a b f. absurd (h (is ∙ f))))
+      unwalked path chances = not_walked path chances (by_point d xs (λ a f. rw a refl) (λ a b f. rw (a, b) refl) (λ a b f. absurd (true≢false (ap is_ok (sym (is ∙ f) ∙ h)))))
 
-    module _ (z : r ≡ 0) where
+    module _ (z : r ≡ Ok tt) where
       taken : (eqb (length xs) d ≡ true) × (all_coordinates xs ≡ true)
-      taken = by_point d xs (λ a f. absurd (omega (arith, sym (is ∙ f) ∙ z))) (λ a b f. absurd (omega (arith, sym (is ∙ f) ∙ z))) (λ a b f. (a, b))
+      taken = by_point d xs (λ a f. absurd (true≢false (ap is_ok (sym z ∙ is ∙ f)))) (λ a b f. absurd (true≢false (ap is_ok (sym z ∙ is ∙ f)))) (λ a b f. (a, b))
 
       -- the report is that of the tree, and its walk the tree's
       in_tree : (n : ℕ) (o : Option (Tree (whole d))) → W.tree ≡ o → report_of d c W n xs ≡ report_in d c o n (reading xs)
@@ -84,8 +94,8 @@ module _ {d c : ℕ} {s : Float} {W : World (whole d)} {tree : RCFTree} {a : Len
       walked_tree o T = rw (taken.0, taken.1, T) refl
 
       module _ (h : tree.total ≡ 0) where
-        pub empty : (lent : List (List ℕ)) → Done lent (NoReport 12) lent
-        empty lent = not_done lent tree_empty 12 (in_tree (length lent) none (no_tree H h)) refl
+        pub empty : (lent : List (List ℕ)) → Done lent (Err Why.TreeEmpty) lent
+        empty lent = not_done lent tree_empty _ (in_tree (length lent) none (no_tree H h)) refl
 
         pub empty_unwalked : (path : List (List ℕ)) (chances : List Float) → After path chances path chances
         empty_unwalked path chances = not_walked path chances (walked_tree none (no_tree H h))
@@ -137,8 +147,8 @@ module _ {d c : ℕ} {s : Float} {W : World (whole d)} {tree : RCFTree} {a : Len
             unchanced = rw walked.count at g;
           })
 
-          pub too_few : (lent : List (List ℕ)) → length lent < n → Done lent (NoReport 15) lent
-          too_few lent h = not_done lent few_rows 15 (in_tree (length lent) (some t) T ∙ cond_true _ _ _ (lt-ltb (length lent) (walk (whole d) t p) (omega (arith, walked.count)))) refl
+          pub too_few : (lent : List (List ℕ)) → length lent < n → Done lent (Err Why.FewRows) lent
+          too_few lent h = not_done lent few_rows _ (in_tree (length lent) (some t) T ∙ cond_true _ _ _ (lt-ltb (length lent) (walk (whole d) t p) (omega (arith, walked.count)))) refl
 
           module _ (lent : List (List ℕ)) (room : n ≤ length lent) where
             writing : Writing d tree.capacity tree.cached nodes copies points boxes path n point t p
@@ -163,11 +173,11 @@ module _ {d c : ℕ} {s : Float} {W : World (whole d)} {tree : RCFTree} {a : Len
               room = room;
             })
 
-            pub told : (lent' : List (List ℕ)) → Writes tree.capacity tree.cached nodes copies points boxes path n point lent lent' → Done lent (Rows n) lent'
+            pub told : (lent' : List (List ℕ)) → Writes tree.capacity tree.cached nodes copies points boxes path n point lent lent' → Done lent (Ok n) lent'
             told lent' g =
                 let e : report_of d c W (length lent) xs ≡ rows (rows_of d c t p) = in_tree (length lent) (some t) T ∙ cond_false _ _ _ (le-ltb (length lent) (walk (whole d) t p) (omega (arith, walked.count))) in
                 let l : length (rows_of d c t p) ≡ n = tab_length (walk (whole d) t p) (row_at d c t p) ∙ sym walked.count in
                 record {
-                  answer = ap Rows (sym l) ∙ sym (ap report_says e);
+                  answer = ap told_rows (sym l) ∙ sym (ap report_says e);
                   after = rw (capacity_is H) at (g d t p writing) ∙ sym (ap (λ x. rows_after x lent) e ∙ ap (λ x. map numbers_of (rows_of d c t p) ++ drop x lent) l);
                 }

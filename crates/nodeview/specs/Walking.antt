@@ -14,7 +14,7 @@ use Rattle.walk.specs.Walks.{Walks}
 use Rattle.boxstore.specs.Boxed.{Boxed}
 use Rattle.boxstore.specs.Written.{low_in, high_in}
 use Rattle.rowboxes.specs.Rows.{PaddedRow, PaddedBoxes}
-use Rattle.treestore.specs.Arrays.{Lent}
+use Rattle.treestore.specs.Arrays.{NodeStore}
 use Rattle.randomcuttree.specs.declared.RCFTree.{RCFTree}
 use Rattle.randomcuttree.specs.State.{State}
 use Rattle.nodeview.specs.Told.{ReportRead}
@@ -61,5 +61,5 @@ Left d c k boxes (some t) p path chances path' chances' = WalkLeft d c k boxes t
 -- A report of the coordinates xs leaves this in them: that of each world whose header and arrays these are.
 abbrev pub MemoryLeft : RCFTree → List (List ℕ) → List Float → List ℕ → List (List Float) → List (List (List Float)) → List Float → List (List ℕ) → List Float → List (List ℕ) → List Float → Type 0
 MemoryLeft tree nodes cuts copies points boxes xs path chances path' chances' =
-    (d c : ℕ) (s : Float) (W : World (whole d)) (a : Lent) (marks : List ℕ) → State d c s W tree a points marks
+    (d c : ℕ) (s : Float) (W : World (whole d)) (a : NodeStore) (marks : List ℕ) → State d c s W tree a points marks
     → ReportRead a nodes cuts copies boxes → Left d c tree.cached boxes (tree_walked d W xs) ((whole d).point xs) path chances path' chances'

@@ -14,29 +14,26 @@ ghost use Rattle.cuttree.specs.Tree.{Tree};
 ghost use Rattle.wholetree.specs.Reading.{Reading, same_row};
 ghost use Rattle.wholetree.specs.Whole.{whole};
 ghost use Rattle.walk.specs.Walks.{Walks, Walked};
-ghost use Rattle.boxstore.specs.Boxed.{SomeBoxed};
-ghost use Rattle.boxstore.specs.Grown.{BoxOf};
 ghost use Rattle.boxstore.specs.Written.{low_in, high_in};
 ghost use Rattle.nodeview.specs.Told.{ReportTold, SomeReportRead};
 ghost use Rattle.nodeview.specs.Walking.{kept_chance, Chanced, Unchanced, MemoryLeft, SomeWalking};
-ghost use Rattle.rowboxes.specs.Rows.{capacity_of, cached_of, channels_of, PaddedRow, PaddedTable, PaddedBoxes, PaddedEnds, box_of};
-ghost use Rattle.branchboxes.specs.Pairs.{PairBox};
+ghost use Rattle.rowboxes.specs.Rows.{PaddedRow, PaddedEnds, box_of};
+ghost use Rattle.rowboxes.specs.Boxings.{Stands, OfNode};
+ghost use Rattle.branchboxes.specs.Pairs.{OfPair};
 ghost use Rattle.nodeview.specs.Writing.{SomeWriting, Writes};
 
 use casts::wide16;
 use limits::{Boxes, CAPACITY, Copies, Cuts, Nodes, Path, Points, Row};
 use randomcuttree::RCFTree;
-use rowboxes::{Ends, Sizes};
+use refusals::Refusal;
+use rowboxes::{Boxing, Ends, Sizes};
+use treestore::NodeStore;
 
 // The chance of each cached branch of a walk, by its depth: working memory.
 pub type Chances = [f64; CAPACITY];
 
-// What a report answers: how many rows it has written, or document 01's number.
-#[derive(Clone, Copy)]
-pub enum ReportAnswer {
-    Rows(usize),
-    NoReport(u8),
-}
+// The rows that a report is written to before they are told: no walk has more nodes than a tree has leaves.
+pub type Rows = [[u64; 4]; CAPACITY];
 
 // A row as numbers: a float by its bits.
 fn numbers_of(id: u16, depth: usize, mass: u16, probability: f64) -> [u64; 4]
@@ -120,6 +117,7 @@ fn walk_down(
     walk::begin(path, root);
     let mut n: usize = 1;
     let mut node = root;
+    // A walk is over at a leaf, and not after a number of turns that is known before.
     while node < capacity {
         let i = wide16(node);
         let s = walk::step_at(nodes, cuts, point, i);
@@ -132,28 +130,18 @@ fn walk_down(
 }
 
 // The ends of a branch's box, from the node below it on the walk and that node's sibling. A cached branch needs none, its chance being kept, and they are left.
-fn branch_ends<'a>(
-    ends: &mut Ends,
-    branch: usize,
-    below: usize,
-    sibling: usize,
-    nodes: &Nodes,
-    points: &'a Points,
-    boxes: &'a Boxes,
-    sizes: &Sizes,
-)
-    requires few { (capacity_of sizes.now ≤ capacity_limit) × (cached_of sizes.now ≤ branch_limit) × (channels_of sizes.now ≤ width) }
-    requires stands { SomeBoxed (capacity_of sizes.now) (cached_of sizes.now) below nodes.now points.now boxes.now × SomeBoxed (capacity_of sizes.now) (cached_of sizes.now) sibling nodes.now points.now boxes.now }
-    requires given { (leb (capacity_of sizes.now) below || ltb below (cached_of sizes.now)) ≡ false → BoxOf (capacity_of sizes.now) (cached_of sizes.now) below nodes.now points.now boxes.now (box_of ends.old) }
-    requires padded { PaddedTable (channels_of sizes.now) points.now × PaddedBoxes (channels_of sizes.now) boxes.now × PaddedEnds (channels_of sizes.now) ends.old }
-    ensures left { branch < cached_of sizes.now → ends.new ≡ ends.old }
-    ensures pair { cached_of sizes.now ≤ branch → PairBox (capacity_of sizes.now) (cached_of sizes.now) below sibling nodes.now points.now boxes.now (box_of ends.new) }
-    ensures padded { PaddedEnds (channels_of sizes.now) ends.new }
+fn branch_ends(ends: &mut Ends, branch: usize, below: usize, sibling: usize, boxing: &Boxing)
+    requires stands { Stands boxing.now below × Stands boxing.now sibling }
+    requires given { (leb boxing.now.sizes.capacity below || ltb below boxing.now.sizes.cached) ≡ false → OfNode boxing.now below (box_of ends.old) }
+    requires padded { PaddedEnds boxing.now.sizes.channels ends.old }
+    ensures left { branch < boxing.now.sizes.cached → ends.new ≡ ends.old }
+    ensures pair { boxing.now.sizes.cached ≤ branch → OfPair boxing.now below sibling (box_of ends.new) }
+    ensures padded { PaddedEnds boxing.now.sizes.channels ends.new }
 {
-    if branch < sizes[1] {
+    if branch < boxing.sizes.cached {
         return;
     }
-    branchboxes::ends_above(ends, below, sibling, nodes, points, boxes, sizes);
+    branchboxes::ends_above(ends, below, sibling, boxing);
 }
 
 // A branch's chance: the one worked out on the way down if it is cached, else that of the ends of its box and the query.
@@ -195,7 +183,17 @@ fn write_rows<'a>(
     requires chances { Chanced cached boxes.now point.now path.now len chances.now }
     ensures { Writes capacity cached nodes.now copies.now points.now boxes.now path.now len point.now rows.old rows.new }
 {
-    let sizes = [wide16(capacity), cached, dimensions];
+    let sizes = Sizes {
+        capacity: wide16(capacity),
+        cached,
+        channels: dimensions,
+    };
+    let boxing = Boxing {
+        nodes,
+        points,
+        boxes,
+        sizes,
+    };
     let leaf = walk::leaf_at(path, len, capacity);
     let leaf_id = walk::node_at(path, len - 1);
     let leaf_mass = nodestore::mass_of(nodes, copies, leaf_id, capacity);
@@ -208,25 +206,16 @@ fn write_rows<'a>(
         dimensions,
     );
     let mut ends: Ends = [*point, *point];
-    let mut m: usize = 1;
-    while m < len {
+    for m in 1..len {
         let depth = len - 1 - m;
         let node = walk::node_at(path, depth);
         let branch = wide16(node);
-        branch_ends(
-            &mut ends,
-            branch,
-            wide16(walk::node_at(path, len - m)),
-            boxstore::sibling_at(path, len, m - 1),
-            nodes,
-            points,
-            boxes,
-            &sizes,
-        );
+        let below = wide16(walk::node_at(path, len - m));
+        let sibling = wide16(walk::sibling_at(path, len - m));
+        branch_ends(&mut ends, branch, below, sibling, &boxing);
         let chance = chance_of(branch, cached, chances[depth], &ends, point, dimensions);
         let mass = nodestore::mass_of(nodes, copies, node, capacity);
         rows[m] = numbers_of(node, depth, mass, chance);
-        m += 1;
     }
 }
 
@@ -235,32 +224,26 @@ fn write_rows<'a>(
 // Rules out a path written for a query that is refused for its coordinates, and a chance put beyond the walk's depth.
 pub fn traverse_in<'a>(
     tree: RCFTree,
-    nodes: &Nodes,
-    cuts: &Cuts,
-    copies: &Copies,
+    store: &'a NodeStore,
     points: &'a Points,
-    boxes: &'a Boxes,
     query: &[f32],
     rows: &mut [[u64; 4]],
     path: &mut Path,
     chances: &mut Chances,
-) -> ReportAnswer
-    requires { SomeReportRead tree nodes.now cuts.now copies.now points.now boxes.now }
-    ensures told { ReportTold tree nodes.now cuts.now copies.now points.now boxes.now query.now rows.old result rows.new }
-    ensures memory { MemoryLeft tree nodes.now cuts.now copies.now points.now boxes.now query.now path.old chances.old path.new chances.new }
+) -> Result<usize, Refusal>
+    requires { SomeReportRead tree store.now.nodes store.now.cuts store.now.copies points.now store.now.boxes }
+    ensures told { ReportTold tree store.now.nodes store.now.cuts store.now.copies points.now store.now.boxes query.now rows.old result rows.new }
+    ensures memory { MemoryLeft tree store.now.nodes store.now.cuts store.now.copies points.now store.now.boxes query.now path.old chances.old path.new chances.new }
 {
-    let refusal = pointstore::check_point(tree.dimensions, query);
-    if refusal != 0 {
-        return ReportAnswer::NoReport(refusal);
-    }
+    pointstore::check_point(tree.dimensions, query)?;
     if tree.total == 0 {
-        return ReportAnswer::NoReport(12);
+        return Err(Refusal::TreeEmpty);
     }
     let point = pointstore::row_of(query);
     let n = walk_down(
-        nodes,
-        cuts,
-        boxes,
+        &store.nodes,
+        &store.cuts,
+        &store.boxes,
         &point,
         tree.root,
         tree.capacity,
@@ -270,13 +253,13 @@ pub fn traverse_in<'a>(
         chances,
     );
     if rows.len() < n {
-        return ReportAnswer::NoReport(15);
+        return Err(Refusal::FewRows);
     }
     write_rows(
-        nodes,
-        copies,
+        &store.nodes,
+        &store.copies,
         points,
-        boxes,
+        &store.boxes,
         path,
         chances,
         n,
@@ -286,7 +269,7 @@ pub fn traverse_in<'a>(
         tree.dimensions,
         rows,
     );
-    ReportAnswer::Rows(n)
+    Ok(n)
 }
 
 // The report of a query: a row for each node of its walk, from the leaf to the root, written to the lent rows; or a refusal, in document 01's order, and
@@ -294,29 +277,15 @@ pub fn traverse_in<'a>(
 // Rules out depths counted from the leaf, and a row written before too few are told.
 pub fn traverse<'a>(
     tree: RCFTree,
-    nodes: &Nodes,
-    cuts: &Cuts,
-    copies: &Copies,
+    store: &'a NodeStore,
     points: &'a Points,
-    boxes: &'a Boxes,
     query: &[f32],
     rows: &mut [[u64; 4]],
-) -> ReportAnswer
-    requires { SomeReportRead tree nodes.now cuts.now copies.now points.now boxes.now }
-    ensures { ReportTold tree nodes.now cuts.now copies.now points.now boxes.now query.now rows.old result rows.new }
+) -> Result<usize, Refusal>
+    requires { SomeReportRead tree store.now.nodes store.now.cuts store.now.copies points.now store.now.boxes }
+    ensures { ReportTold tree store.now.nodes store.now.cuts store.now.copies points.now store.now.boxes query.now rows.old result rows.new }
 {
     let mut path = [[0u16; 2]; CAPACITY];
     let mut chances = [0.0f64; CAPACITY];
-    traverse_in(
-        tree,
-        nodes,
-        cuts,
-        copies,
-        points,
-        boxes,
-        query,
-        rows,
-        &mut path,
-        &mut chances,
-    )
+    traverse_in(tree, store, points, query, rows, &mut path, &mut chances)
 }

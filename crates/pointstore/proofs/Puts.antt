@@ -5,7 +5,6 @@ use mathlib.Core.Logic.{◌≢◌}
 use mathlib.Core.Bool.{true, false}
 use mathlib.Core.Option.{Option, none, some}
 use Prim.Native.Nat.{ℕ, ◌≤◌, ◌<◌}
-use native.Mathlib.Omega.{arith}
 use lib.Dec.{eqb, leb, ltb}
 use lib.ListN.{length, set, get_or}
 use lib.Ieee.{Float}
@@ -13,7 +12,8 @@ use borrow.Author.Tests.{eq-eqb, ne_eqb, eqb-true, eqb-false, le-leb, lt-leb, le
 use Rattle.limits.specs.Limits.{width, point_limit}
 use Rattle.readings.proofs.Tests.{yes}
 use Rattle.cuttree.specs.Tree.{Tree, All, OfTree}
-use Rattle.cuttree.specs.Run.{World, put, call, Answer, refused, written, is_leaf, write, Refusal, index_above, coordinate_count, bad_coordinate, index_is_leaf}
+use Rattle.std.specs.Prelude.{Result, Ok, Err}
+use Rattle.cuttree.specs.Run.{World, put, call, Answer, refused, written, is_leaf, write, index_above, coordinate_count, bad_coordinate, index_is_leaf}
 use Rattle.cuttree.proofs.Tests.{by-test}
 use Rattle.cuttree.proofs.Room.{leaf_copies}
 use Rattle.wholetree.specs.Reading.{Reading, padded, reading}
@@ -21,8 +21,10 @@ use Rattle.wholetree.specs.Whole.{whole, tab, all_coordinates}
 use Rattle.wholetree.proofs.Readings.{reading_row}
 use Rattle.layout.specs.Layout.{Table, table_of, count_in, point_row, mark}
 use Rattle.layout.proofs.Tabs.{entry_of, set_tab}
-use Rattle.pointstore.specs.Puts.{put_refusal, put_answer, put_says, Puts, Tabled, PutDone, PutsAreCalls}
-use Rattle.pointstore.specs.declared.PutAnswer.{PutAnswer}
+use Rattle.cuttree.specs.Run as Run
+use Rattle.refusals.specs.declared.Refusal.{Refusal}
+use Rattle.pointstore.specs.Refusals.{refusal_of}
+use Rattle.pointstore.specs.Puts.{put_checked, put_says, Puts, Tabled, PutDone, PutsAreCalls}
 use Rattle.pointstore.proofs.Refusals.{wrong_count, bad_point, good_point, index_refused, point_refused, leaf_refused, none_refused}
 
 -- ---- an index is a leaf's exactly where it has copies
@@ -32,16 +34,15 @@ module _ (d c i : ℕ) where
   leaf_is (some t) h = leaf_copies (whole d) t i h
 
 -- ---- the cases
-module _ (d c : ℕ) (W : World (whole d)) (i : ℕ) (xs : List Float) (points : List (List Float)) (marks copies : List ℕ) (points' : List (List Float)) (marks' : List ℕ) (r : PutAnswer)
+module _ (d c : ℕ) (W : World (whole d)) (i : ℕ) (xs : List Float) (points : List (List Float)) (marks copies : List ℕ) (points' : List (List Float)) (marks' : List ℕ) (r : Result Unit Refusal)
     (H : Tabled d c W points marks copies) (P : Puts d copies i xs points marks points' marks' r) where
   -- refused: the world is the same, and so are the arrays
-  refuse_done : (x : Refusal) (n : ℕ) → PutAnswer.Refused n ≡ put_says d (refused x) → eqb n 0 ≡ false → put_refusal d copies i xs ≡ n → call (whole d) c W (put i xs) ≡ (refused x, W) → PutDone d c W i xs points' marks' r
-  refuse_done x n s z e f =
-      let a : points' ≡ points = P.rows ∙ rw (e, z) refl in
-      let b : marks' ≡ marks = P.marked ∙ rw (e, z) refl in
-      let g : put_answer n ≡ PutAnswer.Refused n = rw z refl in
+  refuse_done : (x : Run.Refusal) → put_checked d copies i xs ≡ Err (refusal_of x) → call (whole d) c W (put i xs) ≡ (refused x, W) → PutDone d c W i xs points' marks' r
+  refuse_done x e f =
+      let a : points' ≡ points = P.rows ∙ rw e refl in
+      let b : marks' ≡ marks = P.marked ∙ rw e refl in
       record {
-        answer = P.answer ∙ ap put_answer e ∙ g ∙ s ∙ ap (λ (y : Answer (whole d) × World (whole d)). put_says d y.0) (sym f);
+        answer = P.answer ∙ e ∙ ap (λ (y : Answer (whole d) × World (whole d)). put_says d y.0) (sym f);
         table = rw (a, b) (H.table ∙ ap (λ (y : Answer (whole d) × World (whole d)). table_of y.1.table) (sym f));
       }
 
@@ -52,7 +53,7 @@ module _ (d c : ℕ) (W : World (whole d)) (i : ℕ) (xs : List Float) (points :
     leaf_done : 0 < get_or copies i 0 → PutDone d c W i xs points' marks' r
     leaf_done h =
         let some : ltb 0 (count_in d c 0 W.tree i) ≡ true = lt-ltb 0 (count_in d c 0 W.tree i) (subst (λ (n : ℕ). 0 < n) (copies_are I) h) in
-        refuse_done index_is_leaf 8 refl refl (leaf_refused d copies i xs I (good_point d xs L G) h)
+        refuse_done index_is_leaf (leaf_refused d copies i xs I (good_point d xs L G) h)
         (rw (lt-leb point_limit i I, eq-eqb (length xs) d L, G, leaf_is d c i W.tree H.sound.filled, some))
 
     accepted : get_or copies i 0 ≤ 0 → call (whole d) c W (put i xs) ≡ (written, record { table = write (whole d) W.table i (reading xs); tree = W.tree; free = W.free })
@@ -68,11 +69,11 @@ module _ (d c : ℕ) (W : World (whole d)) (i : ℕ) (xs : List Float) (points :
 
     written_done : get_or copies i 0 ≤ 0 → PutDone d c W i xs points' marks' r
     written_done h = record {
-      answer = P.answer ∙ ap put_answer fine ∙ ap (λ (y : Answer (whole d) × World (whole d)). put_says d y.0) (sym (accepted h));
+      answer = P.answer ∙ fine ∙ ap (λ (y : Answer (whole d) × World (whole d)). put_says d y.0) (sym (accepted h));
       table = rw (P.rows ∙ rw fine refl ∙ rows, P.marked ∙ rw fine refl ∙ marked) (ap (λ (y : Answer (whole d) × World (whole d)). table_of y.1.table) (sym (accepted h)));
     }
       where
-        fine : put_refusal d copies i xs ≡ 0
+        fine : put_checked d copies i xs ≡ Ok tt
         fine = none_refused d copies i xs I (good_point d xs L G) h
 
         f : ℕ → Option Reading
@@ -87,14 +88,14 @@ module _ (d c : ℕ) (W : World (whole d)) (i : ℕ) (xs : List Float) (points :
   put_done : PutDone d c W i xs points' marks' r
   put_done =
       by-test (leb point_limit i)
-      (λ t. let m = leb-true point_limit i t in refuse_done index_above 5 refl refl (index_refused d copies i xs m) (rw (le-leb point_limit i m)))
+      (λ t. let m = leb-true point_limit i t in refuse_done index_above (index_refused d copies i xs m) (rw (le-leb point_limit i m)))
       (λ t. let I = leb-false point_limit i t in
       by-test (eqb (length xs) d)
       (λ l. let L = eqb-true (length xs) d l in
       by-test (all_coordinates xs)
       (λ G. by-test (ltb 0 (get_or copies i 0)) (λ h. leaf_done I L G (ltb-true 0 (get_or copies i 0) h)) (λ h. written_done I L G (ltb-false 0 (get_or copies i 0) h)))
-      (λ G. refuse_done bad_coordinate 7 refl refl (point_refused d copies i xs I 7 refl (bad_point d xs L G)) (rw (lt-leb point_limit i I, eq-eqb (length xs) d L, G))))
-      (λ l. let n = eqb-false (length xs) d l in refuse_done coordinate_count 6 refl refl (point_refused d copies i xs I 6 refl (wrong_count d xs n)) (rw (lt-leb point_limit i I, ne_eqb (length xs) d n))))
+      (λ G. refuse_done bad_coordinate (point_refused d copies i xs I _ (bad_point d xs L G)) (rw (lt-leb point_limit i I, eq-eqb (length xs) d L, G))))
+      (λ l. let n = eqb-false (length xs) d l in refuse_done coordinate_count (point_refused d copies i xs I _ (wrong_count d xs n)) (rw (lt-leb point_limit i I, ne_eqb (length xs) d n))))
 
 pub puts_are_calls : PutsAreCalls
 puts_are_calls = put_done

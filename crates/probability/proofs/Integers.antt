@@ -2,8 +2,8 @@
 use mathlib.Core.Path.{◌≡◌, refl, sym, ap, ap₂, ◌∙◌, subst}
 use mathlib.Core.List.{List}
 use mathlib.Core.Bool.{true, false}
-use Prim.Native.Nat.{ℕ, ◌+◌, ◌-◌, ◌^◌, ◌≤◌, ◌<◌, max}
-use native.Mathlib.Nat.{le_refl, le-add_right, zero-lt-suc, zero-mul}
+use Prim.Native.Nat.{ℕ, ◌+◌, ◌^◌, ◌≤◌, ◌<◌, max}
+use native.Mathlib.Nat.{zero-add, le_refl, zero-lt-suc, zero-mul}
 use native.Mathlib.Omega.{arith}
 use lib.Dec.{eqb→eq}
 use lib.Ieee.{Float, binary64, round}
@@ -14,8 +14,7 @@ use Rattle.readings.specs.Number.{nought}
 use Rattle.readings.proofs.Tests.{yes}
 use Rattle.boundingbox.specs.Ends.{channel}
 use Rattle.boundingbox.specs.Contained.{contains}
-use Rattle.boundingbox.specs.Wholes.{Box, side, sum_to}
-use Rattle.boundingbox.proofs.Sums.{sum_to_next, sum_fits}
+use Rattle.boundingbox.specs.Wholes.{side, sum_to}
 use Rattle.cut.specs.Draw.{low_end, high_end}
 use Rattle.cut.specs.Laws.{Readings, Padded}
 use Rattle.cut.proofs.Stretched.{sum_same, sum_stretched}
@@ -28,13 +27,11 @@ use Rattle.probability.proofs.Computed.{computed_exact}
 use Rattle.probability.proofs.Padding.{sides_pad, outside_pad}
 use Rattle.probability.proofs.Quotient.{distance_is, held, some_out, one_division}
 
--- ---- a turn of a sum: one more side is added, and the sum is a u32
-module _ (lo hi : ℕ → Float) (n : ℕ) (B : Box lo hi n) (i : ℕ) (h : i < n) (sum x : ℕ) (e : sum ≡ sum_to (side lo hi) i) (f : x ≡ side lo hi i) where
-  pub turn : sum + x ≡ sum_to (side lo hi) (i + 1)
-  turn = rw (e, f) (sym (sum_to_next (side lo hi) i))
-
-  pub turn_fits : sum + x < 4294967296
-  turn_fits = omega (arith, turn, sum_fits lo hi n B (i + 1) (omega arith))
+-- ---- what a sum from the first channel on grows by is the sum
+pub sum_first : (g : ℕ → ℕ) (n r : ℕ) → sum_to g 0 + r ≡ sum_to g (0 + n) → r ≡ sum_to g n
+sum_first g n r e = let z : sum_to g 0 ≡ 0 = unfold sum_to in refl in
+    let m : sum_to g (0 + n) ≡ sum_to g n = ap (sum_to g) (zero-add n) in
+    omega arith
 
 -- ---- the quotient
 -- nothing, over any whole number from 1 on
@@ -43,7 +40,7 @@ none_over m h = let is : round binary64 false 0 1 ≡ nought = unfold round in r
 
 module _ (n : ℕ) (lo hi p : List Float) (R : Readings lo hi p n) where
   -- the sides grow by what lies outside
-  grows : sum_to (side (low_end lo p) (high_end hi p)) n ≡ W lo hi n + S lo hi p n
+  pub grows : sum_to (side (low_end lo p) (high_end hi p)) n ≡ W lo hi n + S lo hi p n
   grows =
       let e : S lo hi p n ≡ _ = sum_same _ _ n (λ i h. distance_is (rank (channel lo i)) (rank (channel hi i)) (rank (channel p i)) (R.box.ordered i h)) in
       go _ _ _ _ e (sum_stretched lo hi p n R)
@@ -78,16 +75,10 @@ module _ (d n : ℕ) (lo hi p : List Float) (Z : Padded lo hi p d n) (R : Readin
   pub few_small : m ≤ 8 → S lo hi p n ≤ 2 ^ 24
   few_small l = rw (outside_pad d n lo hi p Z m h k) at (S-small m lo hi p (fewer m n lo hi p k R) l)
 
-  -- as they were added up
-  module _ (t w : ℕ) (e : t ≡ sum_to (side (low_end lo p) (high_end hi p)) m) (f : w ≡ W lo hi m) where
+  -- and of more channels they are the same
+  module _ (s t : ℕ) (e : s ≡ S lo hi p m) (f : t ≡ W lo hi m + S lo hi p m) where
+    pub told_part : s ≡ S lo hi p n
+    told_part = e ∙ outside_pad d n lo hi p Z m h k
+
     pub told_all : t ≡ W lo hi n + S lo hi p n
-    told_all = e ∙ grows m lo hi p (fewer m n lo hi p k R) ∙ ap₂ (λ (w s : ℕ). w + s) (sides_pad d n lo hi p Z m h k) (outside_pad d n lo hi p Z m h k)
-
-    told_sides : w ≡ W lo hi n
-    told_sides = f ∙ sides_pad d n lo hi p Z m h k
-
-    pub told_le : w ≤ t
-    told_le = rw (told_all, told_sides) (le-add_right (W lo hi n) (S lo hi p n))
-
-    pub told_part : t - w ≡ S lo hi p n
-    told_part = rw (told_all, told_sides) (omega arith)
+    told_all = f ∙ ap₂ (λ (w s : ℕ). w + s) (sides_pad d n lo hi p Z m h k) (outside_pad d n lo hi p Z m h k)

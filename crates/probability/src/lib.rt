@@ -18,6 +18,13 @@ use limits::{CHANNELS, Row};
 // Up to this every whole number is an f32.
 const EXACT: u32 = 16777216;
 
+// What lies outside a box, and the sides and it.
+#[derive(Clone, Copy)]
+struct Sums {
+    part: u32,
+    all: u32,
+}
+
 // The chance that a cut of the box with the point in it parts the two: what lies outside over the sides and it, 0 where nothing does.
 // Rules out what lies above measured from the lower ends, and a quotient by the sides alone, which passes 1.
 pub fn probability_of_cut(bounding_box: BoundingBox, point: &Row) -> f64
@@ -44,11 +51,9 @@ fn summed_distance(low: &Row, high: &Row, point: &Row) -> f32
 {
     let mut minsum: f32 = 0.0;
     let mut maxsum: f32 = 0.0;
-    let mut i: usize = 0;
-    while i < CHANNELS {
+    for i in 0..CHANNELS {
         minsum = minsum + past_by(low[i], point[i]);
         maxsum = maxsum + past_by(point[i], high[i]);
-        i += 1;
     }
     maxsum + minsum
 }
@@ -71,28 +76,22 @@ pub fn whole_probability_of_cut(low: &Row, high: &Row, point: &Row, dimensions: 
     ensures { result ≡ probability low.now high.now point.now width }
 {
     if dimensions <= 8 {
-        let all = stretched_to(low, high, point, 8);
-        let sides = sides_to(low, high, 8);
-        return part_of(all - sides, all);
+        return part_of(sums_to(low, high, point, 8));
     }
     if dimensions <= 16 {
-        let all = stretched_to(low, high, point, 16);
-        let sides = sides_to(low, high, 16);
-        return part_or_rounded(all - sides, all, low, high, point);
+        return part_or_rounded(sums_to(low, high, point, 16), low, high, point);
     }
-    let all = stretched_to(low, high, point, CHANNELS);
-    let sides = sides_to(low, high, CHANNELS);
-    part_or_rounded(all - sides, all, low, high, point)
+    part_or_rounded(sums_to(low, high, point, CHANNELS), low, high, point)
 }
 
 // The integers divided where the part is an f32, else the chance of the sums as the Rust adds them up, which may be rounded.
-fn part_or_rounded(part: u32, all: u32, low: &Row, high: &Row, point: &Row) -> f64
+fn part_or_rounded(sums: Sums, low: &Row, high: &Row, point: &Row) -> f64
     requires readings { Readings low.now high.now point.now width }
-    requires sums { (part ≡ S low.now high.now point.now width) × (all ≡ W low.now high.now width + S low.now high.now point.now width) }
+    requires sums { (sums.part ≡ S low.now high.now point.now width) × (sums.all ≡ W low.now high.now width + S low.now high.now point.now width) }
     ensures { result ≡ probability low.now high.now point.now width }
 {
-    if part <= EXACT {
-        return part_of(part, all);
+    if sums.part <= EXACT {
+        return part_of(sums);
     }
     let bounding_box = BoundingBox {
         min_values: *low,
@@ -101,42 +100,25 @@ fn part_or_rounded(part: u32, all: u32, low: &Row, high: &Row, point: &Row) -> f
     probability_of_cut(bounding_box, point)
 }
 
-// The sum of the first n sides.
-fn sides_to(low: &Row, high: &Row, n: usize) -> u32
-    requires { (Box (channel low.now) (channel high.now) width) × (n ≤ width) }
-    ensures { result ≡ W low.now high.now n }
-{
-    let mut sum: u32 = 0;
-    let mut i: usize = 0;
-    while i < n {
-        sum = sum + boundingbox::whole_side(low[i], high[i]);
-        i += 1;
-    }
-    sum
-}
-
-// The sum of the first n sides of the box with the point in it.
-fn stretched_to(low: &Row, high: &Row, point: &Row, n: usize) -> u32
+// The sums of the first n channels: the sides of the box with the point in it, and by how much they are more than those of the box alone.
+fn sums_to(low: &Row, high: &Row, point: &Row, n: usize) -> Sums
     requires { (Readings low.now high.now point.now width) × (n ≤ width) }
-    ensures { result ≡ sum_to (side (low_end low.now point.now) (high_end high.now point.now)) n }
+    ensures { (result.part ≡ S low.now high.now point.now n) × (result.all ≡ W low.now high.now n + S low.now high.now point.now n) }
 {
-    let mut sum: u32 = 0;
-    let mut i: usize = 0;
-    while i < n {
-        let lower = boundingbox::least_of(low[i], point[i]);
-        let upper = boundingbox::greatest_of(high[i], point[i]);
-        sum = sum + boundingbox::whole_side(lower, upper);
-        i += 1;
+    let all = boundingbox::sum_of(0, n, &|i| cut::stretched_side(low[i], high[i], point[i]));
+    let sides = boundingbox::sum_of(0, n, &|i| boundingbox::whole_side(low[i], high[i]));
+    Sums {
+        part: all - sides,
+        all,
     }
-    sum
 }
 
-// A part over all, in one rounded division; over 1 where there is nothing.
-fn part_of(part: u32, all: u32) -> f64
-    requires { (part ≤ all) × (all ≤ 67108864) }
-    ensures { result ≡ round binary64 false part (max all 1) }
+// The part over all, in one rounded division; over 1 where there is nothing.
+fn part_of(sums: Sums) -> f64
+    requires { (sums.part ≤ sums.all) × (sums.all ≤ 67108864) }
+    ensures { result ≡ round binary64 false sums.part (max sums.all 1) }
 {
-    (part as f64) / (at_least_one(all) as f64)
+    (sums.part as f64) / (at_least_one(sums.all) as f64)
 }
 
 fn at_least_one(x: u32) -> u32

@@ -2,7 +2,7 @@
 use mathlib.Core.Path.{◌≡◌, refl, sym, ap, ◌∙◌, subst}
 use mathlib.Core.Option.{Option, none, some}
 use mathlib.Core.List.{List, []}
-use Prim.Native.Nat.{ℕ, ◌-◌, ◌≤◌, ◌<◌}
+use Prim.Native.Nat.{ℕ, ◌-◌, ◌<◌}
 use native.Mathlib.Omega.{arith}
 use lib.Dec.{ltb}
 use lib.ListN.{get_or}
@@ -19,11 +19,11 @@ use Rattle.layout.specs.Layout.{Table, table_of, mark}
 use Rattle.layout.proofs.Tabs.{entry_of}
 use Rattle.treestore.specs.declared.Edited.{Edited}
 use Rattle.treestore.specs.declared.Found.{Found}
-use Rattle.treestore.specs.Arrays.{Lent, arrays_of, EditDone}
+use Rattle.treestore.specs.Arrays.{NodeStore, arrays_of, EditDone}
 use Rattle.treestore.specs.Finds.{Sought, SomeSought, Finds, FoundIn}
 use Rattle.treestore.specs.Edits.{Walking}
 use Rattle.randomcuttree.specs.declared.RCFTree.{RCFTree}
-use Rattle.randomcuttree.specs.State.{cached_by, State, Reachable, header_of, headed}
+use Rattle.randomcuttree.specs.State.{store_header, cached_by, State, Reachable, header_of, headed}
 use Rattle.randomcuttree.specs.Answers.{Called}
 use Rattle.randomcuttree.specs.Finds.{Seeks, Sees, SomeSeen}
 use Rattle.randomcuttree.proofs.Parts.{cached_few, total_is}
@@ -36,7 +36,7 @@ seen_there S = record {
   walked = λ n t p Q. let F = S.walked n t p Q in record { walked = F.walked; leaf_is = F.leaf_is; held_is = F.held_is; rest = refl };
 }
 
-module _ {d c : ℕ} {s : Float} {W : World (whole d)} {tree : RCFTree} {a : Lent} {points : List (List Float)} {marks : List ℕ} (H : State d c s W tree a points marks) where
+module _ {d c : ℕ} {s : Float} {W : World (whole d)} {tree : RCFTree} {a : NodeStore} {points : List (List Float)} {marks : List ℕ} (H : State d c s W tree a points marks) where
   abbrev k : ℕ
   k = cached_by s c
 
@@ -49,7 +49,7 @@ module _ {d c : ℕ} {s : Float} {W : World (whole d)} {tree : RCFTree} {a : Len
   unchanged says x y r e f = subst (λ z. Called d c s says z r a points marks) (sym e) (record { answer = f; state = own })
 
   -- an accepted call: from what an edit answers and leaves
-  pub changed : {R : Type 0} (says : RCFTree → Answer (whole d) → R) (x : Answer (whole d) × World (whole d)) (y : Answer (whole d)) (W' : World (whole d)) (e : Edited) (n : ℕ) (header : RCFTree) (b : Lent) (r : R) → x ≡ (y, W') → r ≡ says header y
+  pub changed : {R : Type 0} (says : RCFTree → Answer (whole d) → R) (x : Answer (whole d) × World (whole d)) (y : Answer (whole d)) (W' : World (whole d)) (e : Edited) (n : ℕ) (header : RCFTree) (b : NodeStore) (r : R) → x ≡ (y, W') → r ≡ says header y
       → header ≡ headed tree e.root n e.manager → n ≡ total_of (whole d) W'.tree → EditDone d c k W'.tree W'.free e b → W'.table ≡ W.table → Reachable d c x.1 → Called d c s says x r b points marks
   changed says x y W' e n header b r E f h N L t R =
       let same : header ≡ header_of d c s W' = h ∙ ap (λ z. headed z e.root n e.manager) H.header_is ∙ ap (λ (z : Edited). headed (header_of d c s W) z.root n z.manager) L.answer
@@ -100,12 +100,12 @@ module _ {d c : ℕ} {s : Float} {W : World (whole d)} {tree : RCFTree} {a : Len
     sought : Sought d c (header_of d c s W).root a.nodes a.cuts points i t p
     sought = record { small = H.limits.3; channels_few = H.limits.1; index_small = l; walks = walks own T i p P; leaves = leaves_stand H.reachable T H.table_is; padded = table_padded H }
 
-    pub some_sought : SomeSought tree.dimensions tree.capacity tree.root a.nodes a.cuts points i
-    some_sought = subst (λ (x : RCFTree). SomeSought x.dimensions x.capacity x.root a.nodes a.cuts points i) (sym H.header_is) (record { tree = t; reading = p; sought = sought })
+    pub some_sought : SomeSought (store_header tree) a.nodes a.cuts points i
+    some_sought = subst (λ (x : RCFTree). SomeSought (store_header x) a.nodes a.cuts points i) (sym H.header_is) (record { tree = t; reading = p; sought = sought })
 
-    module _ {before path : List (List ℕ)} {f : Found} (F : Finds tree.dimensions tree.capacity tree.root a.nodes a.cuts points i before f path) where
+    module _ {before path : List (List ℕ)} {f : Found} (F : Finds (store_header tree) a.nodes a.cuts points i before f path) where
       pub found_in : FoundIn d c t p before f path
-      found_in = subst (λ (x : RCFTree). Finds x.dimensions x.capacity x.root a.nodes a.cuts points i before f path) H.header_is F t p sought
+      found_in = subst (λ (x : RCFTree). Finds (store_header x) a.nodes a.cuts points i before f path) H.header_is F t p sought
 
       pub walking : Walking d c k t W.free p (header_of d c s W).root (header_of d c s W).manager a points path f.walk f.leaf (get_or points i [])
       walking =

@@ -29,7 +29,7 @@ use Rattle.nodestore.specs.Stored.{Stored}
 use Rattle.boxstore.specs.Boxed.{Boxed}
 use Rattle.rowboxes.specs.Rows.{PaddedRow, PaddedTable, PaddedBoxes}
 use Rattle.rowboxes.proofs.Rows.{no_ends_lem}
-use Rattle.treestore.specs.Arrays.{Lent}
+use Rattle.treestore.specs.Arrays.{NodeStore}
 use Rattle.treestore.proofs.Links.{linked}
 use Rattle.treestore.proofs.Padding.{boxes_padded as kept_padded}
 use Rattle.randomcuttree.specs.declared.RCFTree.{RCFTree}
@@ -74,14 +74,14 @@ module _ {d c : ℕ} {W : World (whole d)} (R : Reachable d c W) {t : Tree (whol
     leaves_stand = all_map (whole d) _ _ t (λ i q n e. point_at i q e) sound.agree
 
 -- every row of the table is a reading's of the tree's width, or of zeros
-pub table_padded : {d c : ℕ} {s : Float} {W : World (whole d)} {tree : RCFTree} {a : Lent} {points : List (List Float)} {marks : List ℕ} → State d c s W tree a points marks → PaddedTable d points
+pub table_padded : {d c : ℕ} {s : Float} {W : World (whole d)} {tree : RCFTree} {a : NodeStore} {points : List (List Float)} {marks : List ℕ} → State d c s W tree a points marks → PaddedTable d points
 table_padded {d} {W = W} {points = points} H i l = subst (PaddedRow d) (sym (entry_of point_limit (λ (j : ℕ). point_row (W.table j)) points (ap (λ (x : Table). x.points) H.table_is) [] i l)) (go (W.table i) refl)
   where
     go : (o : Option Reading) → W.table i ≡ o → PaddedRow d (point_row o)
     go none e = (no_ends_lem d).low
     go (some p) e = record { whole_row = row_length p; rest = H.reachable.narrow i p e }
 
-module _ {d c : ℕ} {s : Float} {W : World (whole d)} {tree : RCFTree} {a : Lent} {points : List (List Float)} {marks : List ℕ} (H : State d c s W tree a points marks) {t : Tree (whole d)} (T : W.tree ≡ some t) where
+module _ {d c : ℕ} {s : Float} {W : World (whole d)} {tree : RCFTree} {a : NodeStore} {points : List (List Float)} {marks : List ℕ} (H : State d c s W tree a points marks) {t : Tree (whole d)} (T : W.tree ≡ some t) where
   abbrev k : ℕ
   k = cached_by s c
 

@@ -1,4 +1,7 @@
 -- A making, place by place: which number or header it answers, and that an accepted one leaves the state of a fresh tree. Assumes nothing.
+use Rattle.refusals.specs.declared.Refusal.{Refusal}
+use Rattle.refusals.specs.declared.Refusal.TheVariants as Why
+use Rattle.std.specs.Prelude.{Ok, Err}
 use mathlib.Core.Path.{◌≡◌, refl, ap}
 use mathlib.Core.Bool.{Bool, true, false, cond, ◌&&◌}
 use mathlib.Core.Option.{none}
@@ -16,10 +19,9 @@ use Rattle.randomcuttree.proofs.Reaches.{reachable_fresh}
 use Rattle.wholetree.specs.Whole.{whole}
 use Rattle.layout.specs.Layout.{no_row, no_box_ends, table_of}
 use Rattle.layout.proofs.Tabs.{constant}
-use Rattle.treestore.specs.Arrays.{Lent}
+use Rattle.treestore.specs.Arrays.{NodeStore}
 use Rattle.treestore.proofs.Parts.{lent_is}
 use Rattle.randomcuttree.specs.declared.RCFTree.{RCFTree}
-use Rattle.randomcuttree.specs.declared.Made.{Made}
 use Rattle.randomcuttree.specs.State.{cached_by, State}
 use Rattle.randomcuttree.specs.Making.{channels_taken, capacity_taken, empty_tree, made_by, cleared, lent_by, MakeDone}
 
@@ -48,30 +50,30 @@ in_bounds low high x h = by-test (leb low x)
     (λ e. (leb-true low x e, leb-true x high (rw e at h)))
     (λ e. clash (leb low x && leb x high) h (rw e refl))
 
-module _ (d c : ℕ) (s : Float) (a : Lent) where
+module _ (d c : ℕ) (s : Float) (a : NodeStore) where
   -- refused: nothing is written
-  refuse : (n : ℕ) → Made.NotMade n ≡ made_by d c s → (channels_taken d && (capacity_taken c && is_share s)) ≡ false → MakeDone d c s a a (Made.NotMade n)
+  refuse : (n : Refusal) → Err n ≡ made_by d c s → (channels_taken d && (capacity_taken c && is_share s)) ≡ false → MakeDone d c s a a (Err n)
   unfolding lent_by
   refuse n e f = record { answer = e; arrays = rw f refl; state = λ tree h. nonsense (cc) }
 
-  pub refused_1 : channels_taken d ≡ false → MakeDone d c s a a (Made.NotMade 1)
+  pub refused_1 : channels_taken d ≡ false → MakeDone d c s a a (Err Why.Channels)
   unfolding made_by
-  refused_1 h = refuse 1 (rw h refl) (rw h refl)
+  refused_1 h = refuse _ (rw h refl) (rw h refl)
 
   module _ (D : channels_taken d ≡ true) where
-    pub refused_2 : capacity_taken c ≡ false → MakeDone d c s a a (Made.NotMade 2)
+    pub refused_2 : capacity_taken c ≡ false → MakeDone d c s a a (Err Why.Capacity)
     unfolding made_by
-    refused_2 h = refuse 2 (rw (D, h) refl) (rw (D, h) refl)
+    refused_2 h = refuse _ (rw (D, h) refl) (rw (D, h) refl)
 
     module _ (C : capacity_taken c ≡ true) where
-      pub refused_3 : is_share s ≡ false → MakeDone d c s a a (Made.NotMade 3)
+      pub refused_3 : is_share s ≡ false → MakeDone d c s a a (Err Why.CachedShare)
       unfolding made_by
-      refused_3 h = refuse 3 (rw (D, C, h) refl) (rw (D, C, h) refl)
+      refused_3 h = refuse _ (rw (D, C, h) refl) (rw (D, C, h) refl)
 
-      pub made : is_share s ≡ true → (tree : RCFTree) (after : Lent) → tree ≡ empty_tree d c s → after ≡ cleared c → MakeDone d c s a after (Made.Tree tree)
+      pub made : is_share s ≡ true → (tree : RCFTree) (after : NodeStore) → tree ≡ empty_tree d c s → after ≡ cleared c → MakeDone d c s a after (Ok tree)
       unfolding made_by lent_by
       made h tree after e f = record {
-        answer = rw (D, C, h) (ap (λ (t : RCFTree). Made.Tree t) e);
+        answer = rw (D, C, h) (ap (λ (t : RCFTree). Ok t) e);
         arrays = rw (D, C, h) f;
         state = λ other g points marks t.
             let z : empty_tree d c s ≡ other = cc in

@@ -11,12 +11,17 @@ use Rattle.cuttree.specs.Sound.{Sound}
 use Rattle.wholetree.specs.Reading.{Reading}
 use Rattle.wholetree.specs.Whole.{whole}
 use Rattle.layout.specs.Layout.{root_of, table_of}
-use Rattle.treestore.specs.Arrays.{Lent, manager_of, arrays_of}
+use Rattle.treestore.specs.declared.Header.{Header}
+use Rattle.treestore.specs.Arrays.{NodeStore, manager_of, arrays_of}
 use Rattle.randomcuttree.specs.declared.RCFTree.{RCFTree}
 
 -- 'Branches below the whole part of share × c (one rounded product) are cached.' There are c − 1 branches at most.
 abbrev pub cached_by : Float → ℕ → ℕ
 cached_by s c = min (cached_part s c) (c - 1)
+
+-- what the arrays are read and changed by
+abbrev pub store_header : RCFTree → Header
+store_header tree = record { root = tree.root; manager = tree.manager; dimensions = tree.dimensions; capacity = tree.capacity; cached = tree.cached }
 
 -- every branch is cut on one of the tree's d channels
 abbrev pub OnChannels : (d : ℕ) → Tree (whole d) → Type 0
@@ -45,7 +50,7 @@ module _ (d c : ℕ) (s : Float) where
   }
 
   -- header, arrays and table are the world's, slot by slot
-  pub record State (W : World (whole d)) (tree : RCFTree) (a : Lent) (points : List (List Float)) (marks : List ℕ) : Type 0 where
+  pub record State (W : World (whole d)) (tree : RCFTree) (a : NodeStore) (points : List (List Float)) (marks : List ℕ) : Type 0 where
     pub header_is : tree ≡ header_of W
     pub arrays_are : a ≡ arrays_of d c (cached_by s c) W.tree W.free
     pub table_is : record { points = points; written = marks } ≡ table_of W.table
@@ -53,7 +58,7 @@ module _ (d c : ℕ) (s : Float) where
     pub limits : (1 ≤ d) × (d ≤ width) × (2 ≤ c) × (c ≤ capacity_limit) × (is_share s ≡ true)
 
 -- What a state function asks of its caller: that the lent state is one that a making and its calls leave.
-pub record SomeState (tree : RCFTree) (a : Lent) (points : List (List Float)) (marks : List ℕ) : Type 0 where
+pub record SomeState (tree : RCFTree) (a : NodeStore) (points : List (List Float)) (marks : List ℕ) : Type 0 where
   pub channels : ℕ
   pub capacity : ℕ
   pub share : Float

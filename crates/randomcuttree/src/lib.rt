@@ -6,23 +6,21 @@ ghost use Rattle.limits.specs.Limits.{branch_limit, point_limit, total_limit};
 ghost use Rattle.readings.specs.Number.{nought};
 ghost use Rattle.layout.specs.Layout.{no_row, no_box_ends};
 ghost use Rattle.pointstore.specs.Puts.{Puts};
-ghost use Rattle.treestore.specs.Arrays.{lent};
-ghost use Rattle.randomcuttree.specs.State.{headed, SomeState};
+ghost use Rattle.randomcuttree.specs.State.{store_header, headed, SomeState};
 ghost use Rattle.randomcuttree.specs.Answers.{AddDone, SeenAdded, DeleteDone, SeenDeleted};
 ghost use Rattle.randomcuttree.specs.Finds.{nowhere, Seeks, Sees, SomeSeen};
 ghost use Rattle.randomcuttree.specs.Making.{MakeDone};
-ghost use Rattle.randomcuttree.specs.Queries.{copies_read, branch_read, BoxTold, SomeBoxRead, no_box};
+ghost use Rattle.randomcuttree.specs.Queries.{copies_read, branch_read, BoxTold, SomeBoxRead};
 
 use boundingbox::BoundingBox;
 use casts::{wide16, within};
 use cut::Cut;
 use intervalstoremanager::IntervalStoreManager;
-use limits::{
-    BRANCHES, Boxes, CAPACITY, CHANNELS, Copies, Cuts, Free, Marks, Nodes, POINTS, Path, Points,
-};
-use pointstore::PutAnswer;
-use rowboxes::{Ends, Sizes};
-use treestore::Found;
+use limits::{BRANCHES, Boxes, CAPACITY, CHANNELS, Copies, Cuts, Nodes, POINTS, Path, Points};
+use pointstore::PointStore;
+use refusals::Refusal;
+use rowboxes::{Boxing, Ends, Sizes};
+use treestore::{Found, Header, NodeStore};
 
 // The header of a tree. The arrays beside it hold the branches' rows and cuts, the leaves' copies, the free branch numbers and the cached boxes.
 // `cached` is how many branches `cache_fraction` has cached.
@@ -37,32 +35,19 @@ pub struct RCFTree {
     pub manager: IntervalStoreManager,
 }
 
-// What an add answers: the header after it, the leaf's point index and the words taken; or document 01's number, and the header is as it was.
+// An add that is done: the header after it, the leaf's point index and the words taken. One that is refused leaves the header as it was.
 #[derive(Clone, Copy)]
-pub enum AddAnswer {
-    Added(RCFTree, usize, usize),
-    NotAdded(u8),
+pub struct Added {
+    pub tree: RCFTree,
+    pub leaf: usize,
+    pub words: usize,
 }
 
-// What a delete answers: the header after it and the leaf's point index; or document 01's number, and the header is as it was.
+// A delete that is done: the header after it and the leaf's point index. One that is refused leaves the header as it was.
 #[derive(Clone, Copy)]
-pub enum DeleteAnswer {
-    Deleted(RCFTree, usize),
-    NotDeleted(u8),
-}
-
-// What a making answers: the header of an empty tree, or document 01's number.
-#[derive(Clone, Copy)]
-pub enum Made {
-    Tree(RCFTree),
-    NotMade(u8),
-}
-
-// A leaf's copies, or document 01's number.
-#[derive(Clone, Copy)]
-pub enum CopiesAnswer {
-    Copies(usize),
-    NoLeaf(u8),
+pub struct Deleted {
+    pub tree: RCFTree,
+    pub leaf: usize,
 }
 
 // What is told of a branch: its cut, the ids of its sides and its mass.
@@ -72,20 +57,6 @@ pub struct BranchRow {
     pub left: usize,
     pub right: usize,
     pub mass: usize,
-}
-
-// A branch's row, or document 01's number.
-#[derive(Clone, Copy)]
-pub enum BranchAnswer {
-    Branch(BranchRow),
-    NoBranch(u8),
-}
-
-// A branch's box, with 0 for the refusal; or document 01's number, and a box of zeros. An enum cannot hold the ends.
-#[derive(Clone, Copy)]
-pub struct BoxAnswer {
-    pub refusal: u8,
-    pub bounding_box: BoundingBox,
 }
 
 // Clears what a tree keeps of its branches and leaves.
@@ -110,19 +81,6 @@ fn field_at(nodes: &Nodes, node: usize, i: usize) -> usize
     wide16(nodes[node][i])
 }
 
-// Document 01's 16, with no box.
-fn no_box() -> BoxAnswer
-    ensures { result ≡ no_box 16 }
-{
-    BoxAnswer {
-        refusal: 16,
-        bounding_box: BoundingBox {
-            min_values: [0.0; CHANNELS],
-            max_values: [0.0; CHANNELS],
-        },
-    }
-}
-
 // What is found where no walk is made.
 // Rules out a node counted, and a value told as held.
 pub fn no_walk() -> Found
@@ -140,13 +98,10 @@ fn headed_by(tree: RCFTree, root: u16, total: usize, manager: IntervalStoreManag
     ensures { result ≡ headed tree root total manager }
 {
     RCFTree {
-        dimensions: tree.dimensions,
-        capacity: tree.capacity,
-        cache_fraction: tree.cache_fraction,
-        cached: tree.cached,
         root,
         total,
         manager,
+        ..tree
     }
 }
 
@@ -166,31 +121,30 @@ impl RCFTree {
         dimensions: usize,
         capacity: usize,
         cache_fraction: f64,
-        nodes: &mut Nodes,
-        cuts: &mut Cuts,
-        copies: &mut Copies,
-        free: &mut Free,
-        boxes: &mut Boxes,
-    ) -> Made
-        ensures { MakeDone dimensions capacity cache_fraction
-            (lent nodes.old cuts.old copies.old free.old boxes.old)
-            (lent nodes.new cuts.new copies.new free.new boxes.new) result }
+        store: &mut NodeStore,
+    ) -> Result<Self, Refusal>
+        ensures { MakeDone dimensions capacity cache_fraction store.old store.new result }
     {
         if !within(dimensions, 1, Self::CHANNELS) {
-            return Made::NotMade(1);
+            return Err(Refusal::Channels);
         }
         if !within(capacity, 2, Self::CAPACITY) {
-            return Made::NotMade(2);
+            return Err(Refusal::Capacity);
         }
         if !readings::is_share(cache_fraction) {
-            return Made::NotMade(3);
+            return Err(Refusal::CachedShare);
         }
-        clear(nodes, cuts, copies, boxes);
+        clear(
+            &mut store.nodes,
+            &mut store.cuts,
+            &mut store.copies,
+            &mut store.boxes,
+        );
         let c = capacity as u16;
         let part = readings::cached_part(cache_fraction, c);
         let cached = casts::at_most(part, capacity - 1);
-        let manager = IntervalStoreManager::new(c - 1, free);
-        Made::Tree(RCFTree {
+        let manager = IntervalStoreManager::new(c - 1, &mut store.free);
+        Ok(Self {
             dimensions,
             capacity: c,
             cache_fraction,
@@ -203,37 +157,37 @@ impl RCFTree {
 
     // The copies of a leaf by its id.
     // Rules out copies answered for a branch's id, and 0 copies in place of the refusal.
-    pub fn copies_of(self, copies: &Copies, id: usize) -> CopiesAnswer
+    pub fn copies_of(self, copies: &Copies, id: usize) -> Result<usize, Refusal>
         ensures { result ≡ copies_read self copies.now id }
     {
         let capacity = wide16(self.capacity);
         if id < capacity {
-            return CopiesAnswer::NoLeaf(16);
+            return Err(Refusal::NoSuchNode);
         }
         let index = id - capacity;
         if Self::POINTS <= index {
-            return CopiesAnswer::NoLeaf(16);
+            return Err(Refusal::NoSuchNode);
         }
         let n = copies[index];
         if n == 0 {
-            return CopiesAnswer::NoLeaf(16);
+            return Err(Refusal::NoSuchNode);
         }
-        CopiesAnswer::Copies(wide16(n))
+        Ok(wide16(n))
     }
 
     // The row of a branch by its number.
     // Rules out the sides swapped, and a row of zeros in place of the refusal.
-    pub fn branch_of(self, nodes: &Nodes, cuts: &Cuts, id: usize) -> BranchAnswer
+    pub fn branch_of(self, nodes: &Nodes, cuts: &Cuts, id: usize) -> Result<BranchRow, Refusal>
         ensures { result ≡ branch_read nodes.now cuts.now id }
     {
         if BRANCHES <= id {
-            return BranchAnswer::NoBranch(16);
+            return Err(Refusal::NoSuchNode);
         }
         let mass = field_at(nodes, id, 2);
         if mass == 0 {
-            return BranchAnswer::NoBranch(16);
+            return Err(Refusal::NoSuchNode);
         }
-        BranchAnswer::Branch(BranchRow {
+        Ok(BranchRow {
             cut: walk::cut_at(nodes, cuts, id),
             left: field_at(nodes, id, 0),
             right: field_at(nodes, id, 1),
@@ -249,28 +203,34 @@ impl RCFTree {
         points: &'a Points,
         boxes: &'a Boxes,
         id: usize,
-    ) -> BoxAnswer
+    ) -> Result<BoundingBox, Refusal>
         requires { SomeBoxRead self nodes.now points.now boxes.now }
         ensures { BoxTold self nodes.now points.now boxes.now id result }
     {
         if BRANCHES <= id {
-            return no_box();
+            return Err(Refusal::NoSuchNode);
         }
         if field_at(nodes, id, 2) == 0 {
-            return no_box();
+            return Err(Refusal::NoSuchNode);
         }
-        let sizes: Sizes = [wide16(self.capacity), self.cached, self.dimensions];
+        let sizes = Sizes {
+            capacity: wide16(self.capacity),
+            cached: self.cached,
+            channels: self.dimensions,
+        };
+        let boxing = Boxing {
+            nodes,
+            points,
+            boxes,
+            sizes,
+        };
         let mut ends: Ends = [[0.0; CHANNELS]; 2];
-        branchboxes::set_branch(&mut ends, id, nodes, points, boxes, &sizes);
-        let min_values = ends[0];
-        let max_values = ends[1];
-        BoxAnswer {
-            refusal: 0,
-            bounding_box: BoundingBox {
-                min_values,
-                max_values,
-            },
-        }
+        branchboxes::set_branch(&mut ends, id, &boxing);
+        let [min_values, max_values] = ends;
+        Ok(BoundingBox {
+            min_values,
+            max_values,
+        })
     }
 
     // Writes the coordinates for a point index, as its row and its mark; or refuses, in document 01's order, and writes nothing.
@@ -278,94 +238,86 @@ impl RCFTree {
     pub fn put(
         self,
         copies: &Copies,
-        points: &mut Points,
-        written: &mut Marks,
+        table: &mut PointStore,
         index: usize,
         coordinates: &[f32],
-    ) -> PutAnswer
-        ensures { Puts self.dimensions copies.now index coordinates.now points.old written.old points.new written.new result }
+    ) -> Result<(), Refusal>
+        ensures { Puts self.dimensions copies.now index coordinates.now table.old.points table.old.written table.new.points table.new.written result }
     {
-        pointstore::put(self.dimensions, copies, points, written, index, coordinates)
+        table.put(self.dimensions, copies, index, coordinates)
+    }
+
+    // What the tree's arrays are read and changed by.
+    fn header(self) -> Header
+        ensures { result ≡ store_header self }
+    {
+        Header {
+            root: self.root,
+            manager: self.manager,
+            dimensions: self.dimensions,
+            capacity: self.capacity,
+            cached: self.cached,
+        }
     }
 
     // Looks for the reading of an index: its walk is written to the path. In an empty tree there is none.
     // Rules out a walk through the rows of an empty tree, and a leaf of another value taken for the reading's own.
-    pub fn find(
-        self,
-        nodes: &Nodes,
-        cuts: &Cuts,
-        points: &Points,
-        index: usize,
-        path: &mut Path,
-    ) -> Found
-        requires { Seeks self nodes.now cuts.now points.now index }
-        ensures { Sees self nodes.now cuts.now points.now index path.old result path.new }
+    pub fn find(self, store: &NodeStore, points: &Points, index: usize, path: &mut Path) -> Found
+        requires { Seeks self store.now.nodes store.now.cuts points.now index }
+        ensures { Sees self store.now.nodes store.now.cuts points.now index path.old result path.new }
     {
         if self.total == 0 {
             return no_walk();
         }
-        treestore::find(
-            self.root,
-            self.dimensions,
-            self.capacity,
-            nodes,
-            cuts,
-            points,
-            index,
-            path,
-        )
+        treestore::find(self.header(), store, points, index, path)
     }
 
     // The add of a reading that was looked for, in a tree below its total: the walk tells how many words it takes before any of them is needed.
     // Rules out words taken for a value that is held, and a leaf put where the walk doesn't end.
     pub fn add_found(
         self,
-        nodes: &mut Nodes,
-        cuts: &mut Cuts,
-        copies: &mut Copies,
-        free: &mut Free,
-        boxes: &mut Boxes,
+        store: &mut NodeStore,
         points: &Points,
         index: usize,
         path: &Path,
         found: Found,
         words: &[u64],
-    ) -> AddAnswer
-        requires seen { SomeSeen self (lent nodes.old cuts.old copies.old free.old boxes.old) points.now index path.now found }
+    ) -> Result<Added, Refusal>
+        requires seen { SomeSeen self store.old points.now index path.now found }
         requires room { self.total ≡ total_limit → ⊥ }
-        ensures { SeenAdded self (lent nodes.old cuts.old copies.old free.old boxes.old) points.now index words.now result (lent nodes.new cuts.new copies.new free.new boxes.new) }
+        ensures { SeenAdded self store.old points.now index words.now result store.new }
     {
         let total = self.total;
         if total == 0 {
-            nodestore::add_root(copies, index);
+            nodestore::add_root(&mut store.copies, index);
             let root = index as u16 + self.capacity;
             let tree = headed_by(self, root, 1, self.manager);
-            return AddAnswer::Added(tree, index, 0);
+            return Ok(Added {
+                tree,
+                leaf: index,
+                words: 0,
+            });
         }
         let n = found.walk;
         let leaf = found.leaf;
         if found.held {
-            nodestore::add_copy(nodes, copies, path, n, leaf);
+            nodestore::add_copy(&mut store.nodes, &mut store.copies, path, n, leaf);
             let tree = headed_by(self, self.root, total + 1, self.manager);
-            return AddAnswer::Added(tree, leaf, 0);
+            return Ok(Added {
+                tree,
+                leaf,
+                words: 0,
+            });
         }
         if self.manager.is_empty() {
-            return AddAnswer::NotAdded(10);
+            return Err(Refusal::Full);
         }
         if words.len() < n {
-            return AddAnswer::NotAdded(11);
+            return Err(Refusal::FewWords);
         }
         let entered = treestore::insert_leaf(
-            self.root,
-            self.manager,
-            self.dimensions,
-            self.capacity,
-            self.cached,
-            nodes,
-            cuts,
-            copies,
-            free,
-            boxes,
+            self.header(),
+            store,
             points,
             path,
             n,
@@ -375,7 +327,11 @@ impl RCFTree {
             &points[index],
         );
         let tree = headed_by(self, entered.root, total + 1, entered.manager);
-        AddAnswer::Added(tree, index, entered.words)
+        Ok(Added {
+            tree,
+            leaf: index,
+            words: entered.words,
+        })
     }
 
     // One copy more of the reading written for an index, with a word for each node of the walk where its value is new; or a refusal, in
@@ -383,71 +339,52 @@ impl RCFTree {
     // Rules out words taken for a value that is held, and a full tree told before the value is looked for.
     pub fn add(
         self,
-        nodes: &mut Nodes,
-        cuts: &mut Cuts,
-        copies: &mut Copies,
-        free: &mut Free,
-        boxes: &mut Boxes,
-        points: &Points,
-        written: &Marks,
+        store: &mut NodeStore,
+        table: &PointStore,
         index: usize,
         words: &[u64],
-    ) -> AddAnswer
-        requires { SomeState self (lent nodes.old cuts.old copies.old free.old boxes.old) points.now written.now }
-        ensures { AddDone self (lent nodes.old cuts.old copies.old free.old boxes.old) points.now written.now index words.now result (lent nodes.new cuts.new copies.new free.new boxes.new) }
+    ) -> Result<Added, Refusal>
+        requires { SomeState self store.old table.now.points table.now.written }
+        ensures { AddDone self store.old table.now.points table.now.written index words.now result store.new }
     {
         if Self::POINTS <= index {
-            return AddAnswer::NotAdded(5);
+            return Err(Refusal::IndexAbove);
         }
-        if written[index] == 0 {
-            return AddAnswer::NotAdded(9);
+        if table.written[index] == 0 {
+            return Err(Refusal::NeverWritten);
         }
         if self.total == Self::TOTAL {
-            return AddAnswer::NotAdded(10);
+            return Err(Refusal::Full);
         }
         let mut path = [[0u16; 2]; CAPACITY];
-        let found = self.find(nodes, cuts, points, index, &mut path);
-        self.add_found(
-            nodes, cuts, copies, free, boxes, points, index, &path, found, words,
-        )
+        let found = self.find(store, &table.points, index, &mut path);
+        self.add_found(store, &table.points, index, &path, found, words)
     }
 
     // The delete of a reading that was looked for; or a refusal, in document 01's order, and nothing written.
     // Rules out a value told as not held where the tree is empty, and a delete that leaves the last copy's branch.
     pub fn delete_found(
         self,
-        nodes: &mut Nodes,
-        cuts: &mut Cuts,
-        copies: &mut Copies,
-        free: &mut Free,
-        boxes: &mut Boxes,
+        store: &mut NodeStore,
         points: &Points,
         index: usize,
         path: &Path,
         found: Found,
-    ) -> DeleteAnswer
-        requires { SomeSeen self (lent nodes.old cuts.old copies.old free.old boxes.old) points.now index path.now found }
-        ensures { SeenDeleted self (lent nodes.old cuts.old copies.old free.old boxes.old) points.now index result (lent nodes.new cuts.new copies.new free.new boxes.new) }
+    ) -> Result<Deleted, Refusal>
+        requires { SomeSeen self store.old points.now index path.now found }
+        ensures { SeenDeleted self store.old points.now index result store.new }
     {
         let total = self.total;
         if total == 0 {
-            return DeleteAnswer::NotDeleted(12);
+            return Err(Refusal::TreeEmpty);
         }
         let leaf = found.leaf;
         if !found.held {
-            return DeleteAnswer::NotDeleted(13);
+            return Err(Refusal::NotHeld);
         }
         let edited = treestore::remove_copy(
-            self.root,
-            self.manager,
-            self.dimensions,
-            self.capacity,
-            self.cached,
-            nodes,
-            cuts,
-            copies,
-            free,
-            boxes,
+            self.header(),
+            store,
             points,
             path,
             found.walk,
@@ -455,35 +392,28 @@ impl RCFTree {
             &points[index],
         );
         let tree = headed_by(self, edited.root, total - 1, edited.manager);
-        DeleteAnswer::Deleted(tree, leaf)
+        Ok(Deleted { tree, leaf })
     }
 
     // One copy less of the reading written for an index; or a refusal, in document 01's order, and nothing written.
     // Rules out the index asked for answered in place of the leaf's, and an empty tree told before the index is looked at.
     pub fn delete(
         self,
-        nodes: &mut Nodes,
-        cuts: &mut Cuts,
-        copies: &mut Copies,
-        free: &mut Free,
-        boxes: &mut Boxes,
-        points: &Points,
-        written: &Marks,
+        store: &mut NodeStore,
+        table: &PointStore,
         index: usize,
-    ) -> DeleteAnswer
-        requires { SomeState self (lent nodes.old cuts.old copies.old free.old boxes.old) points.now written.now }
-        ensures { DeleteDone self (lent nodes.old cuts.old copies.old free.old boxes.old) points.now written.now index result (lent nodes.new cuts.new copies.new free.new boxes.new) }
+    ) -> Result<Deleted, Refusal>
+        requires { SomeState self store.old table.now.points table.now.written }
+        ensures { DeleteDone self store.old table.now.points table.now.written index result store.new }
     {
         if Self::POINTS <= index {
-            return DeleteAnswer::NotDeleted(5);
+            return Err(Refusal::IndexAbove);
         }
-        if written[index] == 0 {
-            return DeleteAnswer::NotDeleted(9);
+        if table.written[index] == 0 {
+            return Err(Refusal::NeverWritten);
         }
         let mut path = [[0u16; 2]; CAPACITY];
-        let found = self.find(nodes, cuts, points, index, &mut path);
-        self.delete_found(
-            nodes, cuts, copies, free, boxes, points, index, &path, found,
-        )
+        let found = self.find(store, &table.points, index, &mut path);
+        self.delete_found(store, &table.points, index, &path, found)
     }
 }

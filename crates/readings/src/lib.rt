@@ -21,6 +21,7 @@ const INFINITE_32: u32 = 2139095040;
 // The pattern of 2^20: the field is 127 + 20.
 const LARGEST_COORDINATE: u32 = 1233125376;
 
+// Not one trait over both formats: no function here is for both, and `narrow` goes from the one to the other.
 // An f64's pattern is its sign (2^63), its exponent's field (11 bits) and 52 digits; the leading digit, 2^52, is not written.
 const SIGN_64: u64 = 9223372036854775808;
 

@@ -1,8 +1,8 @@
 -- Rows of floats read channel by channel and tested so, and what is told of a cut. Laws.
 use mathlib.Core.Path.{◌≡◌, refl, sym, ◌∙◌, subst}
 use mathlib.Core.Logic.{⊎_elim}
-use mathlib.Core.Bool.{Bool, true, false, ◌&&◌, cond}
-use mathlib.Core.List.{List, [], ◌++◌}
+use mathlib.Core.Bool.{Bool, true, false, ◌&&◌}
+use mathlib.Core.List.{List, ◌++◌}
 use Prim.Native.Nat.{ℕ, zero, suc, ◌+◌, ◌*◌, ◌≤◌, ◌<◌}
 use native.Mathlib.Nat.{eq-or-lt_of_le}
 use native.Mathlib.Numerals.{add-one}
@@ -18,14 +18,11 @@ use Rattle.readings.specs.Coordinate.{is_coordinate}
 use Rattle.readings.proofs.Tests.{yes}
 use Rattle.readings.proofs.Ranks.{le_rank}
 use Rattle.boundingbox.specs.Ends.{channel}
-use Rattle.cut.specs.declared.Separation.{Separation}
 use Rattle.cut.specs.Draw.{separation}
 use Rattle.cut.specs.Laws.{Readings}
-use Rattle.little.specs.Little.{little32, little64, bytes32}
+use Rattle.little.specs.Little.{little32, little64}
 use Rattle.lines.specs.Lines.{Wrote}
-use Rattle.lines.proofs.Writes.{then}
-use Rattle.recorded.specs.declared.cuts.Told.{Told}
-use Rattle.recorded.specs.Cuts.{row_bytes, given_bytes, row_at, told_of, told_cut, is_reading, are_readings, low, high, point, told, cut_answer}
+use Rattle.recorded.specs.Cuts.{row_bytes, given_bytes, row_at, told_cut, is_reading, are_readings, low, high, point, cut_answer}
 use Rattle.recorded.proofs.Stores.{nothing}
 
 -- A ROW, of which the first i channels are read
@@ -94,11 +91,6 @@ readings_tested lo hi p h =
       };
       point = λ i l. (all i l).inner;
     }
-
--- A CUT TOLD
-pub told_three : (d : Separation) {t : Told} → t ≡ told_of d → {l : List ℕ} {at p q r : ℕ} {m n o : List ℕ} → Wrote l at (bytes32 t.kind) p m → Wrote m p (bytes32 t.dimension) q n → Wrote n q (bytes32 t.bits) r o → Wrote l at (told_cut d) r o
-unfolding told_cut
-told_three d {t} e u v w = rw e at (then (then u v) w)
 
 -- THE ANSWER: none where too many or too few bytes are given, or no readings
 pub no_case : (given : List ℕ) → (length given ≡ given_bytes → ⊥) → {l : List ℕ} → Wrote l 0 (cut_answer given) 0 l

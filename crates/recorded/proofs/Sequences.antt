@@ -8,7 +8,7 @@ use lib.ListN.{length}
 use Rattle.limits.specs.Limits.{branch_limit}
 use Rattle.intervalstoremanager.specs.declared.IntervalStoreManager.{IntervalStoreManager}
 use Rattle.intervalstoremanager.specs.declared.Got.{Got}
-use Rattle.intervalstoremanager.specs.declared.Released.{Released}
+use Rattle.std.specs.Prelude.{Option}
 use Rattle.intervalstoremanager.specs.Stack.{fresh}
 use Rattle.intervalstoremanager.specs.Rows.{layout, got_of, rows_got, released_of, rows_released}
 use Rattle.little.specs.Little.{little16}
@@ -20,11 +20,11 @@ use Rattle.recorded.specs.Sequences.{getting, looking, look_bytes, gotten, taken
 use Rattle.recorded.proofs.Stores.{nothing}
 
 module _ (m : IntervalStoreManager) (rows : List (List ℕ)) (i : ℕ) {r : Called} {rows' : List (List ℕ)} where
-  pub called_got : i ≡ getting → {g : Got} → g ≡ got_of m rows → r ≡ gotten m g → rows' ≡ rows_got m rows → (r ≡ called m rows i) × (rows' ≡ rows_called m rows i)
+  pub called_got : i ≡ getting → {g : Option Got} → g ≡ got_of m rows → r ≡ gotten m g → rows' ≡ rows_got m rows → (r ≡ called m rows i) × (rows' ≡ rows_called m rows i)
   unfolding called rows_called
   called_got h e f k = (rw (eq-eqb i getting h) (rw e at f), rw (eq-eqb i getting h) k)
 
-  pub called_released : (i ≡ getting → ⊥) → {g : Released} → g ≡ released_of m rows i → r ≡ taken m i g → rows' ≡ rows_released m rows i → (r ≡ called m rows i) × (rows' ≡ rows_called m rows i)
+  pub called_released : (i ≡ getting → ⊥) → {g : Option IntervalStoreManager} → g ≡ released_of m rows i → r ≡ taken m i g → rows' ≡ rows_released m rows i → (r ≡ called m rows i) × (rows' ≡ rows_called m rows i)
   unfolding called rows_called
   called_released h e f k = (rw (ne_eqb i getting h) (rw e at f), rw (ne_eqb i getting h) k)
 

@@ -1,15 +1,13 @@
 -- What is answered to a recorded cut choice. Definitions.
-use Rattle.std.specs.Prelude.{Bool, true, ◌&&◌, cond, List, [], ◌∷◌, ◌++◌, ℕ, zero, suc, ◌+◌, ◌*◌, eqb, length, Float}
+use Rattle.std.specs.Prelude.{Bool, true, ◌&&◌, cond, Option, Some, None, List, [], ◌∷◌, ◌++◌, ℕ, zero, suc, ◌+◌, ◌*◌, eqb, length, Float}
 use Rattle.std.specs.Float.{binary32}
 use Rattle.std.specs.Float.Ieee.{of_bits, to_bits, le}
 use Rattle.limits.specs.Limits.{width}
 use Rattle.readings.specs.Coordinate.{is_coordinate}
 use Rattle.boundingbox.specs.Ends.{channel}
 use Rattle.cut.specs.declared.Separation.{Separation}
-use Rattle.cut.specs.declared.Separation.TheVariants.{NoCut, Drawn}
 use Rattle.cut.specs.Draw.{separation}
 use Rattle.little.specs.Little.{little32, little64, bytes32}
-use Rattle.recorded.specs.declared.cuts.Told.{Told}
 
 -- a row has an f32 for each channel; given are the lower ends of a box, its upper ends, a point and a word
 abbrev pub row_bytes : ℕ
@@ -32,13 +30,10 @@ unfoldable pub are_readings : List Float → List Float → List Float → ℕ �
 are_readings lo hi p zero = true
 are_readings lo hi p (suc n) = are_readings lo hi p n && is_reading (channel lo n) (channel hi n) (channel p n)
 
--- 1 for a cut that does not part, 2 for one that parts; for no cut all is 0
-abbrev pub told_of : Separation → Told
-told_of NoCut = record { kind = 0; dimension = 0; bits = 0 }
-told_of (Drawn k parts) = record { kind = 1 + cond parts 1 0; dimension = k.dimension; bits = to_bits binary32 k.value }
-
-unfoldable pub told_cut : Separation → List ℕ
-told_cut drawn = bytes32 (told_of drawn).kind ++ bytes32 (told_of drawn).dimension ++ bytes32 (told_of drawn).bits
+-- three words: 1 for a cut that does not part, 2 for one that parts, then its channel and its bits; for no cut all are 0
+unfoldable pub told_cut : Option Separation → List ℕ
+told_cut None = bytes32 0 ++ bytes32 0 ++ bytes32 0
+told_cut (Some s) = bytes32 (1 + cond s.parts 1 0) ++ bytes32 s.cut.dimension ++ bytes32 (to_bits binary32 s.cut.value)
 
 -- the cut that is drawn of what is given, twice
 module _ (given : List ℕ) where

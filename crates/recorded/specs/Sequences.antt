@@ -1,12 +1,9 @@
 -- What is answered to a recorded sequence of an interval manager. Definitions.
-use Rattle.std.specs.Prelude.{◌≡◌, cond, List, [], ◌∷◌, ◌++◌, ℕ, zero, suc, ◌+◌, ◌-◌, ◌*◌, ◌/◌, ◌≤◌, eqb, length, get_or}
+use Rattle.std.specs.Prelude.{◌≡◌, cond, Option, Some, None, List, [], ◌∷◌, ◌++◌, ℕ, zero, suc, ◌+◌, ◌-◌, ◌*◌, ◌/◌, ◌≤◌, eqb, length, get_or}
 use Rattle.limits.specs.Limits.{branch_limit}
 use Rattle.little.specs.Little.{little16}
 use Rattle.intervalstoremanager.specs.declared.IntervalStoreManager.{IntervalStoreManager}
 use Rattle.intervalstoremanager.specs.declared.Got.{Got}
-use Rattle.intervalstoremanager.specs.declared.Got.TheVariants.{Index, Empty}
-use Rattle.intervalstoremanager.specs.declared.Released.{Released}
-use Rattle.intervalstoremanager.specs.declared.Released.TheVariants.{Done, Full}
 use Rattle.intervalstoremanager.specs.Stack.{fresh}
 use Rattle.intervalstoremanager.specs.Rows.{layout, topped, got_of, rows_got, released_of, rows_released}
 use Rattle.lines.specs.Lines.{Wrote}
@@ -39,13 +36,13 @@ rows_to rows zero = []
 rows_to rows (suc n) = rows_to rows n ++ pair_bytes (get_or rows n [])
 
 -- what a call answers, and the manager after it
-abbrev pub gotten : IntervalStoreManager → Got → Called
-gotten m (Index i after) = record { answer = i; manager = after }
-gotten m Empty = record { answer = refused; manager = m }
+abbrev pub gotten : IntervalStoreManager → Option Got → Called
+gotten m (Some g) = record { answer = g.index; manager = g.manager }
+gotten m None = record { answer = refused; manager = m }
 
-abbrev pub taken : IntervalStoreManager → ℕ → Released → Called
-taken m i (Done after) = record { answer = i; manager = after }
-taken m i Full = record { answer = refused; manager = m }
+abbrev pub taken : IntervalStoreManager → ℕ → Option IntervalStoreManager → Called
+taken m i (Some after) = record { answer = i; manager = after }
+taken m i None = record { answer = refused; manager = m }
 
 -- an answer, the rows in use after it, and the top one
 abbrev pub told_top : Called → List (List ℕ) → List ℕ

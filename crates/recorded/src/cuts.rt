@@ -4,7 +4,8 @@ ghost use Rattle.limits.specs.Limits.{width};
 ghost use Rattle.lines.specs.Lines.{Wrote};
 ghost use Rattle.cut.specs.Draw.{separation};
 ghost use Rattle.cut.specs.Laws.{Readings};
-ghost use Rattle.recorded.specs.Cuts.{row_bytes, row_at, is_reading, are_readings, told_of, told_cut, cut_answer};
+ghost use Rattle.little.specs.Little.{bytes32};
+ghost use Rattle.recorded.specs.Cuts.{row_bytes, row_at, is_reading, are_readings, told_cut, cut_answer};
 
 use boundingbox::BoundingBox;
 use cut::{Cut, Separation};
@@ -23,24 +24,14 @@ const WORD: usize = 3 * ROW;
 
 const GIVEN: usize = WORD + 8;
 
-// What is told of a cut.
-#[derive(Clone, Copy)]
-pub struct Told {
-    pub kind: usize,
-    pub dimension: usize,
-    pub bits: usize,
-}
-
 // The floats of all channels, from byte `at` on.
 fn row_at(bytes: &[u8], at: usize) -> Row
     requires { at + row_bytes ≤ length bytes.now }
     ensures { result ≡ row_at bytes.now at width }
 {
     let mut row = [0.0f32; CHANNELS];
-    let mut i: usize = 0;
-    while i < CHANNELS {
+    for i in 0..CHANNELS {
         row[i] = little::float_of(little::u32_at(bytes, at + 4 * i));
-        i += 1;
     }
     row
 }
@@ -60,42 +51,37 @@ fn are_readings(low: Row, high: Row, point: Row) -> bool
     ensures { result ≡ are_readings low high point width }
 {
     let mut all = true;
-    let mut i: usize = 0;
-    while i < CHANNELS {
+    for i in 0..CHANNELS {
         let is = is_reading(low[i], high[i], point[i]);
         all = all & is;
-        i += 1;
     }
     all
 }
 
-// Whether there is a cut and whether it parts, its channel and its bits.
-fn told_of(drawn: Separation) -> Told
-    ensures { result ≡ told_of drawn }
+// Writes three words, one after another.
+fn put_three(out: &mut [u8], at: usize, x: usize, y: usize, z: usize) -> usize
+    requires { at < 100000000000 }
+    ensures wrote { Wrote out.old at (bytes32 x ++ bytes32 y ++ bytes32 z) result out.new }
+    ensures next { result ≡ at + 12 }
 {
-    match drawn {
-        Separation::NoCut => Told {
-            kind: 0,
-            dimension: 0,
-            bits: 0,
-        },
-        Separation::Drawn(cut, parts) => Told {
-            kind: 1 + crate::words::bit(parts),
-            dimension: cut.dimension,
-            bits: casts::wide32(little::pattern_of(cut.value)),
-        },
-    }
+    let p = crate::words::put_word(out, at, x);
+    let q = crate::words::put_word(out, p, y);
+    crate::words::put_word(out, q, z)
 }
 
-fn put_cut(out: &mut [u8], at: usize, drawn: Separation) -> usize
+// Writes whether there is a cut and whether it parts, its channel and its bits.
+fn put_cut(out: &mut [u8], at: usize, drawn: Option<Separation>) -> usize
     requires { at < 100000000000 }
     ensures wrote { Wrote out.old at (told_cut drawn) result out.new }
     ensures next { result ≡ at + 12 }
 {
-    let told = told_of(drawn);
-    let p = crate::words::put_word(out, at, told.kind);
-    let q = crate::words::put_word(out, p, told.dimension);
-    crate::words::put_word(out, q, told.bits)
+    let Some(drawn) = drawn else {
+        return put_three(out, at, 0, 0, 0);
+    };
+    let cut = drawn.cut;
+    let kind = 1 + crate::words::bit(drawn.parts);
+    let bits = casts::wide32(little::pattern_of(cut.value));
+    put_three(out, at, kind, cut.dimension, bits)
 }
 
 // The cut in the way that serves every float, and in the way that serves readings.

@@ -6,34 +6,23 @@ ghost use Rattle.recorded.specs.Floats.{value_of, floats_answer};
 // The bytes of an input: its bits, and a capacity.
 const INPUT: usize = 12;
 
-// What the function of a kind answers to bits.
+// What the function of a kind answers to bits. The kinds are the recorded file's numbers.
+#[tactic(auto, unfolding(crate::specs::Floats::value_of))]
 fn value_of(kind: usize, bits: u64, capacity: u16) -> usize
     ensures { result ≡ value_of kind bits capacity }
 {
     let x = little::float_of((bits % 4294967296) as u32);
     let y = little::double_of(bits);
-    if kind == 4 {
-        return crate::words::bit(readings::is_coordinate(x));
+    match kind {
+        4 => crate::words::bit(readings::is_coordinate(x)),
+        5 => crate::words::bit(readings::is_weight(x)),
+        6 => crate::words::bit(readings::is_share(y)),
+        7 => casts::wide64(little::pattern_of_double(readings::factor(bits))),
+        8 => casts::wide32(little::pattern_of(readings::narrow(y))),
+        9 => readings::cached_part(y, capacity),
+        10 => casts::wide32(little::pattern_of(x)),
+        _ => casts::wide64(little::pattern_of_double(y)),
     }
-    if kind == 5 {
-        return crate::words::bit(readings::is_weight(x));
-    }
-    if kind == 6 {
-        return crate::words::bit(readings::is_share(y));
-    }
-    if kind == 7 {
-        return casts::wide64(little::pattern_of_double(readings::factor(bits)));
-    }
-    if kind == 8 {
-        return casts::wide32(little::pattern_of(readings::narrow(y)));
-    }
-    if kind == 9 {
-        return readings::cached_part(y, capacity);
-    }
-    if kind == 10 {
-        return casts::wide32(little::pattern_of(x));
-    }
-    casts::wide64(little::pattern_of_double(y))
 }
 
 // The answers to all inputs, one after another.
@@ -44,12 +33,10 @@ pub fn answer_floats(kind: usize, given: &[u8], out: &mut [u8]) -> usize
 {
     let n = given.len() / INPUT;
     let mut p: usize = 0;
-    let mut i: usize = 0;
-    while i < n {
+    for i in 0..n {
         let bits = little::u64_at(given, INPUT * i);
         let capacity = little::u16_at(given, INPUT * i + 8);
         p = crate::words::put_double(out, p, value_of(kind, bits, capacity));
-        i += 1;
     }
     p
 }

@@ -5,7 +5,7 @@ ghost use Rattle.limits.specs.Limits.{branch_limit};
 ghost use Rattle.lines.specs.Lines.{Wrote};
 ghost use Rattle.recorded.specs.Sequences.{look_bytes, top_of, rows_to, gotten, taken, called, rows_called, Told, Turned, sequence_answer};
 
-use intervalstoremanager::{Got, IntervalStoreManager, Released};
+use intervalstoremanager::{Got, IntervalStoreManager};
 use limits::{BRANCHES, Free};
 
 // What is given for a `get`, and for a look at all rows; any other number is released.
@@ -30,15 +30,15 @@ pub struct Reached {
     pub place: usize,
 }
 
-fn after_get(manager: IntervalStoreManager, got: Got) -> Called
+fn after_get(manager: IntervalStoreManager, got: Option<Got>) -> Called
     ensures { result ≡ gotten manager got }
 {
     match got {
-        Got::Index(index, after) => Called {
-            answer: index,
-            manager: after,
+        Some(got) => Called {
+            answer: got.index,
+            manager: got.manager,
         },
-        Got::Empty => Called {
+        None => Called {
             answer: NONE,
             manager,
         },
@@ -46,15 +46,19 @@ fn after_get(manager: IntervalStoreManager, got: Got) -> Called
 }
 
 // A number that is taken back is its own answer.
-fn after_release(manager: IntervalStoreManager, number: u16, released: Released) -> Called
+fn after_release(
+    manager: IntervalStoreManager,
+    number: u16,
+    released: Option<IntervalStoreManager>,
+) -> Called
     ensures { result ≡ taken manager number released }
 {
     match released {
-        Released::Done(after) => Called {
+        Some(after) => Called {
             answer: number,
             manager: after,
         },
-        Released::Full => Called {
+        None => Called {
             answer: NONE,
             manager,
         },
@@ -105,10 +109,8 @@ fn put_rows(out: &mut [u8], at: usize, rows: &Free) -> usize
     ensures next { result ≡ at + look_bytes }
 {
     let mut p = at;
-    let mut k: usize = 0;
-    while k < BRANCHES {
-        p = crate::words::put_pair(out, p, rows[k]);
-        k += 1;
+    for row in rows {
+        p = crate::words::put_pair(out, p, *row);
     }
     p
 }
@@ -150,11 +152,9 @@ pub fn answer_sequence(given: &[u8], out: &mut [u8]) -> usize
         manager,
     };
     let mut state = put_call(out, 0, made, &rows);
-    let mut i: usize = 1;
-    while i < n {
+    for i in 1..n {
         let number = little::u16_at(given, 2 * i);
         state = turn(out, state.place, number, state.manager, &mut rows);
-        i += 1;
     }
     state.place
 }

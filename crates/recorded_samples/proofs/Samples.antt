@@ -43,7 +43,7 @@ module _ (s : Sampler) (share : Float) (ks : List Entry) (word : ℕ) (w : Float
         capacity_is = rw T.sampler_is A.capacity_is;
         fits = rw T.sampler_is A.fits;
         kept = rw (g, T.sampler_is) A.kept;
-        wrote = rw (f, A.kept.size) (rw (A.kind_is, A.index_is, A.weight_is, c) at T.wrote);
+        wrote = rw (f, A.kept.size) (rw (A.done_is, c) at T.wrote);
         few = omega (arith, T.next);
       }
 

@@ -1,13 +1,12 @@
 -- What is answered to a recorded sequence of a sample. Definitions.
-use Rattle.std.specs.Prelude.{◌≡◌, Bool, true, false, cond, not, ◌&&◌, ◌||◌, List, [], ◌∷◌, ◌++◌, ℕ, zero, suc, ◌+◌, ◌-◌, ◌*◌, ◌/◌, ◌≤◌, ◌<◌, eqb, ltb, length, get_or, replicate, Float}
+use Rattle.std.specs.Prelude.{◌≡◌, Bool, true, false, Option, Some, None, cond, not, ◌&&◌, ◌||◌, List, [], ◌∷◌, ◌++◌, ℕ, zero, suc, ◌+◌, ◌-◌, ◌*◌, ◌/◌, ◌≤◌, ◌<◌, eqb, ltb, length, get_or, replicate, Float}
 use Rattle.std.specs.Float.{nan, binary32, binary64}
 use Rattle.std.specs.Float.Ieee.{of_bits, to_bits}
 use Rattle.limits.specs.Limits.{capacity_limit}
 use Rattle.readings.specs.Number.{nought}
 use Rattle.startingchance.specs.Chance.{fill_fraction, chance_of, starts_by}
 use Rattle.sampler.specs.declared.Sampler.{Sampler}
-use Rattle.sampler.specs.declared.Accepted.{Accepted}
-use Rattle.sampler.specs.declared.Accepted.TheVariants.{Started, Evicting}
+use Rattle.sampler.specs.declared.Evicted.{Evicted}
 use Rattle.sampler.specs.Heap.{pushed, popped}
 use Rattle.sampler.specs.Sample.{Entry, above, beyond, Slots}
 use Rattle.sampledtree.specs.Sampled.{Offer, passes, begins, evicts, offer}
@@ -15,6 +14,8 @@ use Rattle.little.specs.Little.{little16, little32, little64, bytes32}
 use Rattle.lines.specs.Lines.{Wrote}
 use Rattle.recorded.specs.Words.{bytes64, pair_bytes}
 use Rattle.recorded_samples.specs.declared.Arrived.{Arrived}
+use Rattle.recorded_samples.specs.declared.Done.{Done}
+use Rattle.recorded_samples.specs.declared.Done.TheVariants.{Nothing, Start, Gone}
 use Rattle.recorded_samples.specs.declared.Reached.{Reached}
 
 -- the bytes of the share and the capacity, of an arrival, of an eviction and of a look
@@ -48,9 +49,9 @@ abbrev pub sized : Sampler → ℕ → Sampler
 sized s n = record { capacity = s.capacity; current_size = n }
 
 -- what an accepted arrival evicts, before its point is added
-abbrev pub left_of : Sampler → Accepted → Arrived
-left_of s Started = record { kind = 1; index = 0; weight = nought; sampler = s }
-left_of s (Evicting e) = record { kind = 2; index = e.index; weight = e.weight; sampler = e.sampler }
+abbrev pub left_of : Sampler → Option Evicted → Arrived
+left_of s None = record { done = Start; sampler = s }
+left_of s (Some e) = record { done = Gone e.index e.weight; sampler = e.sampler }
 
 -- an accepted arrival needs room for its point, or an entry that goes
 pub record Roomy (s : Sampler) (initial : Bool) : Type 0 where
@@ -61,23 +62,17 @@ pub record Roomy (s : Sampler) (initial : Bool) : Type 0 where
 -- what it does, and the entries that it leaves
 unfoldable pub admitted_of : Sampler → Bool → List Float → List ℕ → Arrived
 admitted_of s initial weights points =
-    cond initial (record { kind = 1; index = 0; weight = nought; sampler = sized s (s.current_size + 1) })
-    (record { kind = 2; index = get_or points 0 0; weight = get_or weights 0 nan; sampler = s })
+    cond initial (record { done = Start; sampler = sized s (s.current_size + 1) })
+    (record { done = Gone (get_or points 0 0) (get_or weights 0 nan); sampler = s })
 
 unfoldable pub sample_admitted : Bool → List Entry → Float → ℕ → List Entry
 sample_admitted initial ks w i = pushed above beyond (cond initial ks (popped above beyond ks)) (record { weight = w; index = i })
 
--- ANY ARRIVAL, by what the sampled tree's sample does with it: 0 nothing, 1 it starts, 2 it evicts
-abbrev pub kind_of : Offer → ℕ
-kind_of passes = 0
-kind_of begins = 1
-kind_of (evicts i left) = 2
-
--- the entry that goes, zeros where none does
-abbrev pub gone_of : List Entry → Offer → Entry
-gone_of ks passes = record { weight = nought; index = 0 }
-gone_of ks begins = record { weight = nought; index = 0 }
-gone_of ks (evicts i left) = record { weight = (get_or ks 0 beyond).weight; index = i }
+-- ANY ARRIVAL, by what the sampled tree's sample does with it: nothing, it starts, or the first entry goes
+abbrev pub done_of : List Entry → Offer → Done
+done_of ks passes = Nothing
+done_of ks begins = Start
+done_of ks (evicts i left) = Gone i (get_or ks 0 beyond).weight
 
 -- the entries after it: k is the arrival's own
 abbrev pub sample_after : List Entry → Entry → Offer → List Entry
@@ -100,19 +95,23 @@ left_by ks (evicts i left) = left
 
 -- what an arrival or an eviction answers and leaves, where it does o of a sample of entries ks, and the entries ls are left
 pub record Does (c : ℕ) (ks : List Entry) (o : Offer) (ls : List Entry) (r : Arrived) (weights : List Float) (points : List ℕ) : Type 0 where
-  pub kind_is : r.kind ≡ kind_of o
-  pub index_is : r.index ≡ (gone_of ks o).index
-  pub weight_is : r.weight ≡ (gone_of ks o).weight
+  pub done_is : r.done ≡ done_of ks o
   pub capacity_is : r.sampler.capacity ≡ c
   pub fits : r.sampler.current_size ≤ c
   pub kept : Kept r.sampler.current_size ls weights points
 
--- WHAT IS TOLD of it: what it does, the index that goes, the size after it, the bits of the weight that goes, and those of the chance before it
-abbrev pub told : ℕ → ℕ → Float → ℕ → Float → List ℕ
-told kind index weight size chance = pair_bytes (kind ∷ index ∷ []) ++ bytes32 size ++ bytes32 (to_bits binary32 weight) ++ bytes64 (to_bits binary64 chance)
+-- WHAT IS TOLD of it: what it does and the index that goes, the size after it, the bits of the weight that goes, and those of the chance before it
+abbrev pub told : List ℕ → ℕ → Float → Float → List ℕ
+told pair size weight chance = pair_bytes pair ++ bytes32 size ++ bytes32 (to_bits binary32 weight) ++ bytes64 (to_bits binary64 chance)
+
+-- 0 for nothing, 1 for a start, 2 for an entry that goes, and zeros where none does
+abbrev pub told_of : Done → ℕ → Float → List ℕ
+told_of Nothing size chance = told (0 ∷ 0 ∷ []) size nought chance
+told_of Start size chance = told (1 ∷ 0 ∷ []) size nought chance
+told_of (Gone i w) size chance = told (2 ∷ i ∷ []) size w chance
 
 abbrev pub told_arrived : Arrived → Float → List ℕ
-told_arrived r chance = told r.kind r.index r.weight r.sampler.current_size chance
+told_arrived r chance = told_of r.done r.sampler.current_size chance
 
 -- the first n slots
 unfoldable pub slots_to : List Float → List ℕ → ℕ → List ℕ
@@ -125,7 +124,7 @@ entries_to ks zero = []
 entries_to ks (suc n) = entries_to ks n ++ (bytes32 (to_bits binary32 (get_or ks n beyond).weight) ++ bytes32 (get_or ks n beyond).index)
 
 abbrev pub told_done : List Entry → Offer → List Entry → Float → List ℕ
-told_done ks o ls chance = told (kind_of o) (gone_of ks o).index (gone_of ks o).weight (length ls) chance
+told_done ks o ls chance = told_of (done_of ks o) (length ls) chance
 
 -- one item more, a look, an eviction or an arrival: what is written, and the sample after it
 module _ (c : ℕ) (share : Float) (ks : List Entry) (word : ℕ) (w : Float) (i : ℕ) where

@@ -7,10 +7,10 @@ ghost use Rattle.limits.specs.Limits.{capacity_limit};
 ghost use Rattle.lines.specs.Lines.{Wrote};
 ghost use Rattle.sampler.specs.Sample.{Entry};
 ghost use Rattle.sampledtree.specs.Sampled.{offer};
-ghost use Rattle.recorded_samples.specs.Samples.{Roomy, Kept, chance_at, is_initial, left_of, admitted_of, sample_admitted, dropped, left_by, arrived_at, Does, slots_to, Told, Turned, sample_answer};
+ghost use Rattle.recorded_samples.specs.Samples.{Roomy, Kept, chance_at, is_initial, left_of, admitted_of, sample_admitted, dropped, left_by, arrived_at, Does, slots_to, told, Told, Turned, sample_answer};
 
-use limits::{CAPACITY, Held, Weights};
-use sampler::{Accepted, Sampler};
+use limits::CAPACITY;
+use sampler::{Evicted, Sample, Sampler};
 
 // The bytes of the share and the capacity, of an arrival, of an eviction and of a look.
 const ITEM: usize = 16;
@@ -20,12 +20,20 @@ const LOOK: u16 = 65535;
 
 const EVICT: u16 = 65534;
 
-// What an arrival or an eviction does: 0 nothing, 1 it starts, 2 it evicts the entry of this index and weight. And the sampler after it.
+// What an arrival or an eviction does.
+#[derive(Clone, Copy)]
+pub enum Done {
+    Nothing,
+    // The arrival starts.
+    Start,
+    // The entry of this index and this weight goes.
+    Gone(u16, f32),
+}
+
+// What an arrival or an eviction does, and the sampler after it.
 #[derive(Clone, Copy)]
 pub struct Arrived {
-    pub kind: u16,
-    pub index: u16,
-    pub weight: f32,
+    pub done: Done,
     pub sampler: Sampler,
 }
 
@@ -56,50 +64,34 @@ fn is_initial(sampler: Sampler, share: f64, word: u64) -> bool
 }
 
 // What an accepted arrival evicts, and the sampler that its point is added to.
-fn left_of(sampler: Sampler, accepted: Accepted) -> Arrived
+fn left_of(sampler: Sampler, accepted: Option<Evicted>) -> Arrived
     ensures { result ≡ left_of sampler accepted }
 {
     match accepted {
-        Accepted::Started => Arrived {
-            kind: 1,
-            index: 0,
-            weight: 0.0,
+        None => Arrived {
+            done: Done::Start,
             sampler,
         },
-        Accepted::Evicting(evicted) => {
-            let left = evicted.sampler;
-            Arrived {
-                kind: 2,
-                index: evicted.index,
-                weight: evicted.weight,
-                sampler: left,
-            }
-        }
+        Some(evicted) => Arrived {
+            done: Done::Gone(evicted.index, evicted.weight),
+            sampler: evicted.sampler,
+        },
     }
 }
 
 // An accepted arrival: what it evicts goes, and its point is added.
-fn admit(
-    sampler: Sampler,
-    initial: bool,
-    weight: f32,
-    index: u16,
-    weights: &mut Weights,
-    points: &mut Held,
-) -> Arrived
+fn admit(sampler: Sampler, initial: bool, weight: f32, index: u16, sample: &mut Sample) -> Arrived
     requires { Roomy sampler initial }
-    ensures answer { result ≡ admitted_of sampler initial weights.old points.old }
-    ensures slots { (ks : List Entry) → Kept sampler.current_size ks weights.old points.old
-        → Kept result.sampler.current_size (sample_admitted initial ks weight index) weights.new points.new }
+    ensures answer { result ≡ admitted_of sampler initial sample.old.weights sample.old.held }
+    ensures slots { (ks : List Entry) → Kept sampler.current_size ks sample.old.weights sample.old.held
+        → Kept result.sampler.current_size (sample_admitted initial ks weight index) sample.new.weights sample.new.held }
 {
-    let accepted = sampler.accept_point(initial, weights, points);
+    let accepted = sampler.accept_point(initial, sample);
     let left = left_of(sampler, accepted);
     let room = left.sampler;
-    let after = room.add_point(weight, index, weights, points);
+    let after = room.add_point(weight, index, sample);
     Arrived {
-        kind: left.kind,
-        index: left.index,
-        weight: left.weight,
+        done: left.done,
         sampler: after,
     }
 }
@@ -111,49 +103,53 @@ fn arrive(
     word: u64,
     weight: f32,
     index: u16,
-    weights: &mut Weights,
-    points: &mut Held,
+    sample: &mut Sample,
 ) -> Arrived
     requires { (sampler.current_size ≤ sampler.capacity) × (sampler.capacity ≤ capacity_limit) }
-    ensures { (ks : List Entry) → Kept sampler.current_size ks weights.old points.old
-        → Does sampler.capacity ks (offer sampler.capacity share ks weight word) (arrived_at sampler.capacity share ks word weight index) result weights.new points.new }
+    ensures { (ks : List Entry) → Kept sampler.current_size ks sample.old.weights sample.old.held
+        → Does sampler.capacity ks (offer sampler.capacity share ks weight word) (arrived_at sampler.capacity share ks word weight index) result sample.new.weights sample.new.held }
 {
     let initial = is_initial(sampler, share, word);
     let holds = sampler.current_size > 0;
-    let accepts = sampler.accepts(initial, weight, weights);
+    let accepts = sampler.accepts(initial, weight, &sample.weights);
     if (initial | holds) & accepts {
-        return admit(sampler, initial, weight, index, weights, points);
+        return admit(sampler, initial, weight, index, sample);
     }
     Arrived {
-        kind: 0,
-        index: 0,
-        weight: 0.0,
+        done: Done::Nothing,
         sampler,
     }
 }
 
 // An eviction by itself. At an empty sample it does nothing.
-fn evict(sampler: Sampler, weights: &mut Weights, points: &mut Held) -> Arrived
+fn evict(sampler: Sampler, sample: &mut Sample) -> Arrived
     requires { (sampler.current_size ≤ sampler.capacity) × (sampler.capacity ≤ capacity_limit) }
-    ensures { (ks : List Entry) → Kept sampler.current_size ks weights.old points.old
-        → Does sampler.capacity ks (dropped ks) (left_by ks (dropped ks)) result weights.new points.new }
+    ensures { (ks : List Entry) → Kept sampler.current_size ks sample.old.weights sample.old.held
+        → Does sampler.capacity ks (dropped ks) (left_by ks (dropped ks)) result sample.new.weights sample.new.held }
 {
     if sampler.current_size == 0 {
         return Arrived {
-            kind: 0,
-            index: 0,
-            weight: 0.0,
+            done: Done::Nothing,
             sampler,
         };
     }
-    let evicted = sampler.evict_max(weights, points);
-    let left = evicted.sampler;
+    let evicted = sampler.evict_max(sample);
     Arrived {
-        kind: 2,
-        index: evicted.index,
-        weight: evicted.weight,
-        sampler: left,
+        done: Done::Gone(evicted.index, evicted.weight),
+        sampler: evicted.sampler,
     }
+}
+
+// Writes a kind and the index that goes, the size after it, the weight that goes, and the chance before it.
+fn put_done(out: &mut [u8], at: usize, pair: [u16; 2], size: u16, weight: f32, chance: f64) -> usize
+    requires { at < 10000000000 }
+    ensures wrote { Wrote out.old at (told pair size weight chance) result out.new }
+    ensures next { result ≡ at + 20 }
+{
+    let p = recorded::put_pair(out, at, pair);
+    let q = recorded::put_word(out, p, casts::wide16(size));
+    let s = recorded::put_word(out, q, casts::wide32(little::pattern_of(weight)));
+    recorded::put_double(out, s, casts::wide64(little::pattern_of_double(chance)))
 }
 
 // Writes what an arrival or an eviction did, the size after it, and the chance before it.
@@ -162,27 +158,33 @@ fn put_arrived(out: &mut [u8], at: usize, arrived: Arrived, chance: f64) -> Reac
     ensures { Told arrived chance at out.old result out.new }
 {
     let sampler = arrived.sampler;
-    let p = recorded::put_pair(out, at, [arrived.kind, arrived.index]);
-    let q = recorded::put_word(out, p, casts::wide16(sampler.current_size));
-    let s = recorded::put_word(out, q, casts::wide32(little::pattern_of(arrived.weight)));
-    Reached {
-        sampler,
-        place: recorded::put_double(out, s, casts::wide64(little::pattern_of_double(chance))),
+    let size = sampler.current_size;
+    match arrived.done {
+        Done::Nothing => Reached {
+            sampler,
+            place: put_done(out, at, [0, 0], size, 0.0, chance),
+        },
+        Done::Start => Reached {
+            sampler,
+            place: put_done(out, at, [1, 0], size, 0.0, chance),
+        },
+        Done::Gone(index, weight) => Reached {
+            sampler,
+            place: put_done(out, at, [2, index], size, weight, chance),
+        },
     }
 }
 
 // Writes the weights' bits and the indices in the first slots.
-fn put_heap(out: &mut [u8], at: usize, size: usize, weights: &Weights, points: &Held) -> usize
+fn put_heap(out: &mut [u8], at: usize, size: usize, sample: &Sample) -> usize
     requires { (at < 10000000000) × (size ≤ capacity_limit) }
-    ensures wrote { Wrote out.old at (slots_to weights.now points.now size) result out.new }
+    ensures wrote { Wrote out.old at (slots_to sample.now.weights sample.now.held size) result out.new }
     ensures next { result ≡ at + 8 * size }
 {
     let mut p = at;
-    let mut k: usize = 0;
-    while k < size {
-        p = recorded::put_word(out, p, casts::wide32(little::pattern_of(weights[k])));
-        p = recorded::put_word(out, p, casts::wide16(points[k]));
-        k += 1;
+    for k in 0..size {
+        p = recorded::put_word(out, p, casts::wide32(little::pattern_of(sample.weights[k])));
+        p = recorded::put_word(out, p, casts::wide16(sample.held[k]));
     }
     p
 }
@@ -195,12 +197,11 @@ fn turn(
     word: u64,
     weight: f32,
     index: u16,
-    weights: &mut Weights,
-    points: &mut Held,
+    sample: &mut Sample,
 ) -> Reached
     requires { (state.place < 10000000000) × (state.sampler.current_size ≤ state.sampler.capacity) × (state.sampler.capacity ≤ capacity_limit) }
-    ensures { (ks : List Entry) → Kept state.sampler.current_size ks weights.old points.old
-        → Turned state.sampler.capacity share ks word weight index state.place out.old result weights.new points.new out.new }
+    ensures { (ks : List Entry) → Kept state.sampler.current_size ks sample.old.weights sample.old.held
+        → Turned state.sampler.capacity share ks word weight index state.place out.old result sample.new.weights sample.new.held out.new }
 {
     let sampler = state.sampler;
     if index == LOOK {
@@ -210,16 +211,15 @@ fn turn(
                 out,
                 state.place,
                 casts::wide16(sampler.current_size),
-                weights,
-                points,
+                sample,
             ),
         };
     }
     let chance = chance_of(sampler, share);
     if index == EVICT {
-        return put_arrived(out, state.place, evict(sampler, weights, points), chance);
+        return put_arrived(out, state.place, evict(sampler, sample), chance);
     }
-    let arrived = arrive(sampler, share, word, weight, index, weights, points);
+    let arrived = arrive(sampler, share, word, weight, index, sample);
     put_arrived(out, state.place, arrived, chance)
 }
 
@@ -238,26 +238,14 @@ pub fn answer_sample(given: &[u8], out: &mut [u8]) -> usize
     if casts::wide16(capacity) > CAPACITY {
         return 0;
     }
-    let mut weights = [0.0f32; CAPACITY];
-    let mut points = [0u16; CAPACITY];
-    let sampler = Sampler::new(capacity, &mut weights, &mut points);
+    let mut sample = Sample::new();
+    let sampler = Sampler::new(capacity, &mut sample);
     let mut state = Reached { sampler, place: 0 };
-    let mut i: usize = 1;
-    while i < n {
+    for i in 1..n {
         let word = little::u64_at(given, ITEM * i);
         let weight = little::float_of(little::u32_at(given, ITEM * i + 8));
         let index = little::u16_at(given, ITEM * i + 12);
-        state = turn(
-            out,
-            state,
-            share,
-            word,
-            weight,
-            index,
-            &mut weights,
-            &mut points,
-        );
-        i += 1;
+        state = turn(out, state, share, word, weight, index, &mut sample);
     }
     state.place
 }

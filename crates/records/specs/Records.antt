@@ -1,6 +1,8 @@
 -- The kinds of records and their room, what is known of one that is read, whether the port agrees with it, and how it is counted. Definitions.
-use Rattle.std.specs.Prelude.{◌≡◌, ℕ, ◌+◌, ◌%◌, ◌^◌, ◌<◌, ◌≤◌, Bool, false, cond, ◌&&◌, List, [], ◌∷◌, length, drop, ◌==◌, slice_index}
+use Rattle.std.specs.Prelude.{◌≡◌, ℕ, ◌+◌, ◌%◌, ◌^◌, ◌<◌, ◌≤◌, Bool, cond, ◌&&◌, List, [], ◌∷◌, length, drop, ◌==◌, slice_index}
 use Rattle.records.specs.declared.Record.{Record}
+use Rattle.records.specs.declared.NoRecord.{NoRecord}
+use Rattle.records.specs.declared.NoRecord.TheVariants.{Ended, Short, Empty, Malformed}
 use Rattle.records.specs.declared.Judgement.{Judgement}
 use Rattle.records.specs.Agreeing.{agreeing}
 
@@ -20,9 +22,12 @@ pub record Read (r : Record) (given given' expected expected' : List ℕ) : Type
   pub given_beyond : drop r.size given' ≡ drop r.size given
   pub expected_beyond : drop r.count expected' ≡ drop r.count expected
 
--- where there is none, for one of four reasons
-abbrev pub no_record : ℕ → Record
-no_record why = record { kind = 0; size = 0; returned = 0; count = 0; whole = false; why = why }
+-- why there is none where `number` records were before: the input is at its end, or it has none at all; it may end within one, or none begins so
+abbrev pub Reason : (number : ℕ) → NoRecord → Type 0
+Reason number Ended = 0 < number
+Reason number Empty = number ≡ 0
+Reason number Short = Unit {0}
+Reason number Malformed = Unit {0}
 
 -- the same number is returned, and every byte lent is the same
 abbrev pub agreed : (returned got : ℕ) → (expected answers : List ℕ) → Bool

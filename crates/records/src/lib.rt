@@ -1,9 +1,9 @@
 // Records of what the Rust answers (crates/replay/RECORDED.md): read from an input, held to what the port answers and counted. Nothing is written.
 #![tactic(auto)]
 
-ghost use Rattle.std.specs.Prelude.{◌≡◌, ◌+◌, ◌<◌, ◌≤◌, true, false, ◌&&◌, [], length, drop, ◌==◌, nat_le, nat_lt, slice_index_or, slice_set};
+ghost use Rattle.std.specs.Prelude.{◌≡◌, ◌+◌, ◌<◌, ◌≤◌, ◌&&◌, [], length, drop, ◌==◌, nat_le, nat_lt, slice_index_or, slice_set, MatchResult};
 ghost use Rattle.records.specs.Agreeing.{agreeing};
-ghost use Rattle.records.specs.Records.{kinds, room, counted, Read, judgement, agreed, no_record};
+ghost use Rattle.records.specs.Records.{kinds, room, counted, Read, Reason, judgement, agreed};
 
 use std::io;
 
@@ -23,23 +23,21 @@ const HEAD: usize = 16;
 pub type Counts = [[usize; 2]; KINDS];
 
 // Why no record is read: the input is at its end, it ends within one, it has none, or none begins so.
-pub const ENDED: usize = 0;
+#[derive(Clone, Copy, Debug, PartialEq, Eq)]
+pub enum NoRecord {
+    Ended,
+    Short,
+    Empty,
+    Malformed,
+}
 
-pub const SHORT: usize = 1;
-
-pub const EMPTY: usize = 2;
-
-pub const MALFORMED: usize = 3;
-
-// A record: its kind, the length of what is given, the number returned and the length of what is written; and whether all of it was read, or why not.
+// A record: its kind, the length of what is given, the number returned and the length of what is written.
 #[derive(Clone, Copy)]
 pub struct Record {
     pub kind: usize,
     pub size: usize,
     pub returned: usize,
     pub count: usize,
-    pub whole: bool,
-    pub why: usize,
 }
 
 // Whether the port agrees with a record, and how many bytes of the buffer are as recorded, from its start on.
@@ -59,29 +57,17 @@ fn read_bytes(input: &mut impl io::Read, bytes: &mut [u8], n: usize) -> usize
     inputs::read_full(input, &mut bytes[..n])
 }
 
-// No record, and why.
-fn none(why: usize) -> Record
-    ensures { result ≡ no_record why }
-{
-    Record {
-        kind: 0,
-        size: 0,
-        returned: 0,
-        count: 0,
-        whole: false,
-        why,
-    }
-}
-
 // The end of the input within a record's beginning, or before it.
-fn stopped(number: usize, came: usize) -> usize {
+fn stopped(number: usize, came: usize) -> NoRecord
+    ensures { Reason number result }
+{
     if came > 0 {
-        return SHORT;
+        NoRecord::Short
+    } else if number == 0 {
+        NoRecord::Empty
+    } else {
+        NoRecord::Ended
     }
-    if number == 0 {
-        return EMPTY;
-    }
-    ENDED
 }
 
 // The number at a place of four bytes.
@@ -94,15 +80,12 @@ fn number_at(bytes: &[u8], at: usize) -> usize
 // What a record begins with, from its bytes.
 fn head_of(bytes: &[u8]) -> Record
     requires { length bytes.now ≡ 16 }
-    ensures { result.whole ≡ true }
 {
     Record {
         kind: number_at(bytes, 0),
         size: number_at(bytes, 4),
         returned: number_at(bytes, 8),
         count: number_at(bytes, 12),
-        whole: true,
-        why: ENDED,
     }
 }
 
@@ -121,25 +104,24 @@ pub fn read(
     number: usize,
     given: &mut [u8; ROOM],
     expected: &mut [u8; ROOM],
-) -> Record
-    ensures whole { result.whole ≡ true → Read result given.old given.new expected.old expected.new }
-    ensures none { result.whole ≡ false → result ≡ no_record result.why }
+) -> Result<Record, NoRecord>
+    ensures { MatchResult result (λ head. Read head given.old given.new expected.old expected.new) (λ why. Reason number why) }
 {
     let mut bytes = [0u8; HEAD];
     let came = read_bytes(input, &mut bytes, HEAD);
     if came < HEAD {
-        return none(stopped(number, came));
+        return Err(stopped(number, came));
     }
     let head = head_of(&bytes);
     if !is_head(head) {
-        return none(MALFORMED);
+        return Err(NoRecord::Malformed);
     }
     let first = read_bytes(input, given, head.size);
     let second = read_bytes(input, expected, head.count);
     if first + second < head.size + head.count {
-        return none(SHORT);
+        return Err(NoRecord::Short);
     }
-    head
+    Ok(head)
 }
 
 // How many bytes at the start of both are the same.
@@ -147,17 +129,7 @@ pub fn read(
 fn agreeing_bytes(x: &[u8], y: &[u8]) -> usize
     ensures { result ≡ agreeing x.now y.now }
 {
-    let mut i: usize = 0;
-    while i < x.len() {
-        if i >= y.len() {
-            return i;
-        }
-        if x[i] != y[i] {
-            return i;
-        }
-        i += 1;
-    }
-    i
+    x.iter().zip(y).take_while(|(a, b)| a == b).count()
 }
 
 // Whether the port returned the same number, and every byte lent is the same, those beyond the answer too.
@@ -173,9 +145,9 @@ fn agrees(returned: usize, got: usize, same: usize) -> bool
 fn count(counts: [usize; 2], same: bool) -> [usize; 2]
     ensures { result ≡ counted counts same }
 {
-    let compared = std::num::wrapping_add_usize(counts[0], 1);
+    let compared = counts[0].wrapping_add(1);
     if same {
-        return [compared, std::num::wrapping_add_usize(counts[1], 1)];
+        return [compared, counts[1].wrapping_add(1)];
     }
     [compared, counts[1]]
 }

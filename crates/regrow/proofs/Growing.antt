@@ -8,7 +8,7 @@ use lib.Ieee.{Float}
 use lib.ListN.{length, length-append}
 use Rattle.wholetree.specs.Whole.{whole}
 use Rattle.sampledtree.specs.Sampled.{Sampled}
-use Rattle.treestore.specs.Arrays.{Lent, lent}
+use Rattle.treestore.specs.Arrays.{NodeStore}
 use Rattle.samplerplustree.specs.declared.SamplerPlusTree.{SamplerPlusTree}
 use Rattle.samplerplustree.specs.State.{SampledState, SomeSampled}
 use Rattle.archiveend.specs.Prints.{SomeEnd}
@@ -16,27 +16,24 @@ use Rattle.regrow_line.specs.Archive.{rows_of, rows_leave}
 use Rattle.regrow_lines.specs.declared.Batch.{Batch}
 use Rattle.regrow_lines.specs.Batch.{all_in_form, LinesDone}
 use Rattle.regrow_lines.proofs.Joins.{in_parts, form_both}
-use Rattle.regrow_text.specs.declared.Next.{Next}
-use Rattle.regrow_text.specs.declared.Next.TheVariants.{Part}
-use Rattle.regrow_text.specs.Reading.{Left, Follows}
 
 -- lines, all in form, are carried out of X, and the next is row `number`
-pub record Grown (d : ℕ) (s : Float) (X : Sampled (whole d)) (number : ℕ) (tree : SamplerPlusTree) (a : Lent) (points : List (List Float)) (marks : List ℕ) (weights : List Float) (held : List ℕ) : Type 0 where
+pub record Grown (d : ℕ) (s : Float) (X : Sampled (whole d)) (number : ℕ) (tree : SamplerPlusTree) (a : NodeStore) (points : List (List Float)) (marks : List ℕ) (weights : List Float) (held : List ℕ) : Type 0 where
   pub lines : List (List ℕ)
   pub good : all_in_form lines ≡ true
   pub counted : number ≡ 1 + length lines
   pub state : SampledState d s (rows_leave d X (rows_of lines)) tree a points marks weights held
 
 module _ {d : ℕ} {s : Float} {X : Sampled (whole d)} where
-  pub made : {tree : SamplerPlusTree} {a : Lent} {points : List (List Float)} {marks : List ℕ} {weights : List Float} {held : List ℕ} → SampledState d s X tree a points marks weights held → Grown d s X 1 tree a points marks weights held
+  pub made : {tree : SamplerPlusTree} {a : NodeStore} {points : List (List Float)} {marks : List ℕ} {weights : List Float} {held : List ℕ} → SampledState d s X tree a points marks weights held → Grown d s X 1 tree a points marks weights held
   unfolding rows_of
   made S = record { lines = []; good = refl; counted = refl; state = S }
 
-  module _ {number : ℕ} {tree : SamplerPlusTree} {a : Lent} {points : List (List Float)} {marks : List ℕ} {weights : List Float} {held : List ℕ} (G : Grown d s X number tree a points marks weights held) where
+  module _ {number : ℕ} {tree : SamplerPlusTree} {a : NodeStore} {points : List (List Float)} {marks : List ℕ} {weights : List Float} {held : List ℕ} (G : Grown d s X number tree a points marks weights held) where
     pub some_sampled : SomeSampled tree a points marks weights held
     some_sampled = record { channels = d; share = s; world = rows_leave d X (rows_of G.lines); state = G.state }
 
-    pub grown_on : {ls rows : List (List ℕ)} {out : List ℕ} {b : Batch} {a' : Lent} {points' : List (List Float)} {marks' : List ℕ} {weights' : List Float} {held' : List ℕ} {rows' : List (List ℕ)} {out' : List ℕ}
+    pub grown_on : {ls rows : List (List ℕ)} {out : List ℕ} {b : Batch} {a' : NodeStore} {points' : List (List Float)} {marks' : List ℕ} {weights' : List Float} {held' : List ℕ} {rows' : List (List ℕ)} {out' : List ℕ}
         → LinesDone d s (rows_leave d X (rows_of G.lines)) ls number rows out b a' points' marks' weights' held' rows' out' → b.goes_on ≡ true → Grown d s X b.number b.tree a' points' marks' weights' held'
     grown_on {ls} L z = record {
       lines = G.lines ++ ls;
@@ -45,9 +42,6 @@ module _ {d : ℕ} {s : Float} {X : Sampled (whole d)} where
       state = rw (in_parts d s X number G.lines ls G.good).1 L.state;
     }
 
-pub some_end : {tree : SamplerPlusTree} {nodes : List (List ℕ)} {cuts : List Float} {copies : List ℕ} {free : List (List ℕ)} {boxes : List (List (List Float))} {points : List (List Float)} {marks : List ℕ} {weights : List Float} {held : List ℕ}
-    → SomeSampled tree (lent nodes cuts copies free boxes) points marks weights held → SomeEnd tree nodes cuts copies weights held
+pub some_end : {tree : SamplerPlusTree} {a : NodeStore} {points : List (List Float)} {marks : List ℕ} {weights : List Float} {held : List ℕ}
+    → SomeSampled tree a points marks weights held → SomeEnd tree a.nodes a.cuts a.copies weights held
 some_end w = record { lent = _; points = _; marks = _; read = record { nodes_are = refl; cuts_are = refl; copies_are = refl }; state = w }
-
-pub part : {k : ℕ} {before : List ℕ} {r : Next} {after : List ℕ} {from to : ℕ} → Follows k before r after → r ≡ Part from to → Left k before from to after
-part w e = rw e at w

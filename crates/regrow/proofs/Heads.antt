@@ -1,5 +1,8 @@
 -- The first three lines and the making: where they stand in the text, and the tree that is made. Laws.
-use mathlib.Core.Path.{◌≡◌}
+use mathlib.Core.Bool.{true≢false}
+use Rattle.std.specs.Prelude.{Result, Ok, is_ok}
+use Rattle.refusals.specs.declared.Refusal.{Refusal}
+use mathlib.Core.Path.{◌≡◌, sym, ap, ◌∙◌}
 use mathlib.Core.Option.{Option, none, some}
 use mathlib.Core.List.{List}
 use Prim.Native.Nat.{ℕ, ◌≤◌, ◌<◌}
@@ -11,17 +14,10 @@ use Rattle.limits.specs.Limits.{point_limit}
 use Rattle.layout.specs.Layout.{no_ends}
 use Rattle.pointstore.proofs.Empty.{unwritten}
 use Rattle.samplerplustree.specs.declared.SamplerPlusTree.{SamplerPlusTree}
-use Rattle.samplerplustree.specs.declared.MadeSampled.{MadeSampled}
-use Rattle.samplerplustree.specs.declared.MadeSampled.TheVariants.{Tree}
 use Rattle.samplerplustree.specs.State.{SomeSampled}
 use Rattle.archivehead.specs.Head.{ArchiveMaking}
 use Rattle.archivemaking.specs.Makes.{Room, MadeBy}
-use Rattle.regrow_text.specs.declared.Head.{Head}
-use Rattle.regrow_text.specs.declared.Head.TheVariants.{At}
-use Rattle.regrow_text.specs.Reading.{HeadEnds, Heads}
-
-pub headed : {text : List ℕ} {h : Head} {a b c : ℕ} → Heads text h → h ≡ At a b c → HeadEnds text a b c
-headed w e = rw e at w
+use Rattle.regrow_text.specs.Reading.{HeadEnds}
 
 -- in the part of the text that has come
 pub record Within (a b c come : ℕ) : Type 0 where
@@ -35,7 +31,7 @@ within text {a} {b} {c} {come} h w =
     record { first = omega (arith, w.second.from); second = omega (arith, w.third.from); third = omega (arith, w.within) }
 
 -- the tree of a making that is not refused, with an unwritten table
-pub some_made : (m : Option ArchiveMaking) (before after : Room) {r : MadeSampled} (h : SamplerPlusTree) → MadeBy m before after r → r ≡ Tree h
+pub some_made : (m : Option ArchiveMaking) (before after : Room) {r : Result SamplerPlusTree Refusal} (h : SamplerPlusTree) → MadeBy m before after r → r ≡ Ok h
     → (points : List (List Float)) (marks : List ℕ) → points ≡ replicate point_limit no_ends → marks ≡ replicate point_limit 0 → SomeSampled h after.arrays points marks after.weights after.held
-some_made none before after h M e points marks p q = let z : ◌≡◌ {A = ℕ} 0 1 = cc in absurd (omega arith)
+some_made none before after h M e points marks p q = absurd (true≢false (ap is_ok (sym e ∙ M.0)))
 some_made (some m) before after h M e points marks p q = record { channels = _; share = _; world = _; state = M.state h e points marks (unwritten points marks p q) }

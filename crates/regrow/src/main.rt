@@ -3,34 +3,30 @@
 #![tactic(auto)]
 
 ghost use Rattle.std.specs.Prelude.{◌≡◌, true, ◌≤◌, ◌<◌, length};
-ghost use Rattle.treestore.specs.Arrays.{lent};
 ghost use Rattle.samplerplustree.specs.State.{SomeSampled};
 ghost use Rattle.archiveend.specs.Prints.{SomeEnd};
 
-use archivecalls::Rows;
 use archiveend::END;
-use limits::{
-    BRANCHES, Boxes, CAPACITY, CHANNELS, Copies, Cuts, Free, Held, Marks, Nodes, POINTS, Points,
-    Weights,
-};
-use regrow_text::{Head, Next};
-use samplerplustree::{MadeSampled, SamplerPlusTree};
+use limits::CAPACITY;
+use nodeview::Rows;
+use pointstore::PointStore;
+use refusals::Refusal;
+use regrow_text::Failed;
+use samplerplustree::{Sample, SamplerPlusTree};
 use std::io;
 use std::io::Read;
+use treestore::NodeStore;
 
-// A proved loop has to end, and nothing says that an archive does: turns are counted down from a number that no archive uses up.
+// A proved loop has to end, and nothing says that an archive does: there are more turns than any archive uses up.
 const TURNS: usize = 1 << 40;
 
 // So many bytes of an archive's text are there at a time, and of the answers to its rows.
 const TEXT: usize = 65536;
 
-// The refusal of a text out of form.
-const OUT_OF_FORM: usize = 17;
-
 // Writes `refused N R`.
-fn refuse(rt: &impl Print, number: usize, row: usize) -> io::Result<()> {
+fn refuse(rt: &impl Print, refusal: Refusal, row: usize) -> io::Result<()> {
     let mut line = [0u8; 64];
-    let n = lines::put_refused(&mut line, 0, number, row);
+    let n = lines::put_refused(&mut line, 0, refusal.number(), row);
     rt.write_all(&line[..n])
 }
 
@@ -48,16 +44,13 @@ fn tell(rt: &impl Print, answers: &[u8], goes_on: bool) -> bool
 fn finish(
     rt: &impl Print,
     tree: SamplerPlusTree,
-    nodes: &Nodes,
-    cuts: &Cuts,
-    copies: &Copies,
-    weights: &Weights,
-    held: &Held,
+    store: &NodeStore,
+    sample: &Sample,
 ) -> io::Result<()>
-    requires { SomeEnd tree nodes.now cuts.now copies.now weights.now held.now }
+    requires { SomeEnd tree store.now.nodes store.now.cuts store.now.copies sample.now.weights sample.now.held }
 {
     let mut out = [0u8; END];
-    let n = archiveend::print_end(tree, nodes, cuts, copies, weights, held, &mut out, 0);
+    let n = archiveend::print_end(tree, store, sample, &mut out, 0);
     rt.write_all(&out[..n])
 }
 
@@ -66,15 +59,9 @@ fn grow(
     rt: &impl Print,
     input: &mut impl Read,
     tree: SamplerPlusTree,
-    nodes: &mut Nodes,
-    cuts: &mut Cuts,
-    copies: &mut Copies,
-    free: &mut Free,
-    boxes: &mut Boxes,
-    points: &mut Points,
-    written: &mut Marks,
-    weights: &mut Weights,
-    held: &mut Held,
+    store: &mut NodeStore,
+    table: &mut PointStore,
+    sample: &mut Sample,
     rows: &mut Rows,
     text: &mut [u8],
     start: usize,
@@ -82,25 +69,18 @@ fn grow(
     out: &mut [u8],
 ) -> io::Result<()>
     requires near { (start ≤ come) × (come ≤ length text.old) × (8192 ≤ length text.old) × (length text.old ≤ 65536) × (length out.old < 10000000000) }
-    requires stands { SomeSampled tree (lent nodes.old cuts.old copies.old free.old boxes.old) points.old written.old weights.old held.old }
+    requires stands { SomeSampled tree store.old table.old.points table.old.written sample.old.weights sample.old.held }
 {
     let mut current = tree;
     let mut number: usize = 1;
     let mut from = start;
     let mut to = come;
-    let mut turns = TURNS;
-    while turns > 0 {
+    for turn in 0..TURNS {
         let batch = regrow_lines::carry_lines(
             current,
-            nodes,
-            cuts,
-            copies,
-            free,
-            boxes,
-            points,
-            written,
-            weights,
-            held,
+            store,
+            table,
+            sample,
             rows,
             &text[from..to],
             number,
@@ -114,20 +94,19 @@ fn grow(
             return Ok(());
         }
         match regrow_text::follow(input, text, from, to, batch.read) {
-            Next::Part(start, end) => {
-                from = start;
-                to = end;
+            Ok(Some(part)) => {
+                from = part.from;
+                to = part.to;
             }
-            Next::Ended => {
-                return finish(rt, current, nodes, cuts, copies, weights, held);
+            Ok(None) => {
+                return finish(rt, current, store, sample);
             }
-            Next::Failed => {
-                return refuse(rt, OUT_OF_FORM, number);
+            Err(Failed) => {
+                return refuse(rt, Refusal::OutOfForm, number);
             }
         }
-        turns -= 1;
     }
-    refuse(rt, OUT_OF_FORM, number)
+    refuse(rt, Refusal::OutOfForm, number)
 }
 
 // A head in form: the making of its second line, then the rows from a place of the text on.
@@ -142,43 +121,21 @@ fn make_and_grow(
 ) -> io::Result<()>
     requires { (a ≤ b) × (b ≤ length text.old) × (start ≤ come) × (come ≤ length text.old) × (8192 ≤ length text.old) × (length text.old ≤ 65536) }
 {
-    let mut nodes = [[0u16; 4]; BRANCHES];
-    let mut cuts = [0.0f32; BRANCHES];
-    let mut copies = [0u16; POINTS];
-    let mut free = [[0u16; 2]; BRANCHES];
-    let mut boxes = [[[0.0f32; CHANNELS]; 2]; BRANCHES];
-    let mut points = pointstore::no_points();
-    let mut written = pointstore::no_marks();
-    let mut weights = [0.0f32; CAPACITY];
-    let mut held = [0u16; CAPACITY];
-    let made = archivemaking::make(
-        &text[a..b],
-        &mut nodes,
-        &mut cuts,
-        &mut copies,
-        &mut free,
-        &mut boxes,
-        &mut weights,
-        &mut held,
-    );
-    match made {
-        MadeSampled::NotMade(refusal) => refuse(rt, casts::wide8(refusal), 0),
-        MadeSampled::Tree(tree) => {
+    let mut store = treestore::no_nodes();
+    let mut table = PointStore::new();
+    let mut sample = Sample::new();
+    match archivemaking::make(&text[a..b], &mut store, &mut sample) {
+        Err(refusal) => refuse(rt, refusal, 0),
+        Ok(tree) => {
             let mut rows = [[0u64; 4]; CAPACITY];
             let mut out = [0u8; TEXT];
             grow(
                 rt,
                 input,
                 tree,
-                &mut nodes,
-                &mut cuts,
-                &mut copies,
-                &mut free,
-                &mut boxes,
-                &mut points,
-                &mut written,
-                &mut weights,
-                &mut held,
+                &mut store,
+                &mut table,
+                &mut sample,
                 &mut rows,
                 text,
                 start,
@@ -195,13 +152,14 @@ fn begin(rt: &impl Print, input: &mut impl Read, text: &mut [u8], come: usize) -
 {
     let head = &text[..come];
     match regrow_text::find_head(head) {
-        Head::NotThere => refuse(rt, OUT_OF_FORM, 0),
-        Head::At(a, b, c) => {
+        None => refuse(rt, Refusal::OutOfForm, 0),
+        Some(ends) => {
+            let (a, b, c) = (ends.first, ends.second, ends.third);
             if !archivehead::is_making_names(&head[..a]) {
-                return refuse(rt, OUT_OF_FORM, 0);
+                return refuse(rt, Refusal::OutOfForm, 0);
             }
             if !archivehead::is_row_names(&head[b + 1..c]) {
-                return refuse(rt, OUT_OF_FORM, 0);
+                return refuse(rt, Refusal::OutOfForm, 0);
             }
             make_and_grow(rt, input, text, a + 1, b, c + 1, come)
         }

@@ -1,38 +1,43 @@
 -- What a line of an archive prints and leaves, in the words of the sampled tree. Definitions.
-use Rattle.std.specs.Prelude.{◌≡◌, Bool, true, false, List, [], ◌∷◌, map, ℕ, get_or, Float}
+use Rattle.std.specs.Prelude.{◌≡◌, Bool, true, false, List, [], ◌∷◌, map, ℕ, get_or, Float, Option, None, Some, Result, Ok, Err}
 use Rattle.cuttree.specs.Run as Bare
 use Rattle.wholetree.specs.Whole.{whole}
 use Rattle.sampledtree.specs.Sampled.{Sampled, arrive, call}
-use Rattle.treestore.specs.Arrays.{Lent}
-use Rattle.pointstore.specs.declared.PutAnswer.{PutAnswer}
-use Rattle.pointstore.specs.declared.PutAnswer.TheVariants.{Written, Refused as PutRefused}
+use Rattle.treestore.specs.Arrays.{NodeStore}
+use Rattle.refusals.specs.declared.Refusal.{Refusal}
+use Rattle.refusals.specs.Refusals.{number}
 use Rattle.pointstore.specs.Puts.{put_says}
 use Rattle.samplerplustree.specs.declared.SamplerPlusTree.{SamplerPlusTree}
-use Rattle.samplerplustree.specs.declared.UpdateAnswer.{UpdateAnswer}
-use Rattle.samplerplustree.specs.declared.UpdateAnswer.TheVariants.{Refused, NotAccepted, Accepted, Replaced}
+use Rattle.samplerplustree.specs.declared.Accepted.{Accepted}
 use Rattle.samplerplustree.specs.State.{SampledState, head_of}
 use Rattle.samplerplustree.specs.Updates.{update_says}
 use Rattle.nodeview.specs.Report.{Report, refused, rows as report_rows, report_number}
 use Rattle.nodeview.specs.Told.{numbers_of}
 use Rattle.lines.specs.Lines.{refused_line, Wrote}
+use Rattle.refusals.specs.declared.Refusal.TheVariants.{OutOfForm}
 use Rattle.archiverow.specs.declared.Line.{Line}
-use Rattle.archiverow.specs.declared.Line.TheVariants.{Puts, Arrives, Reports, Beyond, OutOfForm}
+use Rattle.archiverow.specs.declared.Line.TheVariants.{Puts, Arrives, Reports}
 use Rattle.archiverow.specs.Rows.{ArchiveRow, puts, arrives, reports, beyond, out_of_form}
 use Rattle.archivecalls.specs.Carried.{out_number, beyond_number, report_to, rows_left, row_leaves}
+use Rattle.archivelines.specs.declared.Asks.{Asks}
+use Rattle.archivelines.specs.declared.Asks.TheVariants as Asked
 use Rattle.archivelines.specs.Answers.{passed_line, kept_line, evicted_line, report_lines}
 use Rattle.regrow_line.specs.declared.Done.{Done}
 
 -- ---- what is printed
 -- of the put, the arrival and the report of row r: 'A refused row prints `refused N R`'; a put that is done prints nothing, and a report its rows
-abbrev pub put_lines : PutAnswer → ℕ → List ℕ
-put_lines Written r = []
-put_lines (PutRefused n) r = refused_line n r
+abbrev pub put_lines : Result Unit Refusal → ℕ → List ℕ
+put_lines (Ok u) r = []
+put_lines (Err x) r = refused_line (number x) r
 
-abbrev pub arrival_lines : UpdateAnswer → ℕ → List ℕ
-arrival_lines (Refused n) r = refused_line n r
-arrival_lines NotAccepted r = passed_line r
-arrival_lines (Accepted h j) r = kept_line j r
-arrival_lines (Replaced h j e) r = evicted_line j e r
+abbrev pub accepted_lines : (leaf : ℕ) (evicted : Option ℕ) → ℕ → List ℕ
+accepted_lines j None r = kept_line j r
+accepted_lines j (Some e) r = evicted_line j e r
+
+abbrev pub arrival_lines : Result (Option Accepted) Refusal → ℕ → List ℕ
+arrival_lines (Ok (Some a)) r = accepted_lines a.leaf a.evicted r
+arrival_lines (Ok None) r = passed_line r
+arrival_lines (Err x) r = refused_line (number x) r
 
 abbrev pub lines_of_report : Report → ℕ → List ℕ
 lines_of_report (refused x) r = refused_line (report_number x) r
@@ -56,31 +61,27 @@ in_form out_of_form = false
 
 -- ---- a line carried out
 -- what it prints and leaves of X: its answer from the place `at` on, and header, arrays, table, sample and lent rows after it
-pub record LineDone (d : ℕ) (s : Float) (X : Sampled (whole d)) (row : ArchiveRow) (r at : ℕ) (rows : List (List ℕ)) (out : List ℕ) (done : Done) (a : Lent) (points : List (List Float)) (marks : List ℕ) (weights : List Float) (held : List ℕ) (rows' : List (List ℕ)) (out' : List ℕ) : Type 0 where
+pub record LineDone (d : ℕ) (s : Float) (X : Sampled (whole d)) (row : ArchiveRow) (r at : ℕ) (rows : List (List ℕ)) (out : List ℕ) (done : Done) (a : NodeStore) (points : List (List Float)) (marks : List ℕ) (weights : List Float) (held : List ℕ) (rows' : List (List ℕ)) (out' : List ℕ) : Type 0 where
   pub wrote : Wrote out at (answered d s X row r) done.end out'
   pub on : done.goes_on ≡ in_form row
   pub rows_are : rows' ≡ rows_left d X row rows
   pub state : SampledState d s (row_leaves d X row) done.tree a points marks weights held
 
 -- A line, whichever sampled tree's the lent state is: header, arrays, table, sample, lent rows and buffer before it, then after it.
-abbrev pub LineCarries : ArchiveRow → ℕ → ℕ → SamplerPlusTree → Lent → List (List Float) → List ℕ → List Float → List ℕ → List (List ℕ) → List ℕ → Done → Lent → List (List Float) → List ℕ → List Float → List ℕ → List (List ℕ) → List ℕ → Type 0
+abbrev pub LineCarries : ArchiveRow → ℕ → ℕ → SamplerPlusTree → NodeStore → List (List Float) → List ℕ → List Float → List ℕ → List (List ℕ) → List ℕ → Done → NodeStore → List (List Float) → List ℕ → List Float → List ℕ → List (List ℕ) → List ℕ → Type 0
 LineCarries row r at h a points marks weights held rows out done a' points' marks' weights' held' rows' out' =
     (d : ℕ) (s : Float) (X : Sampled (whole d)) → SampledState d s X h a points marks weights held → LineDone d s X row r at rows out done a' points' marks' weights' held' rows' out'
 
 -- ---- by what was read of it
-abbrev pub op_read : Line → ℕ
-op_read (Puts i k) = 0
-op_read (Arrives i k) = 3
-op_read (Reports k) = 4
-op_read Beyond = 0
-op_read OutOfForm = 0
+abbrev pub asks_read : Result Line Refusal → Asks
+asks_read (Ok (Puts i k)) = Asked.Nothing
+asks_read (Ok (Arrives i k)) = Asked.Arrival
+asks_read (Ok (Reports k)) = Asked.Report
+asks_read (Err r) = Asked.Nothing
 
-abbrev pub is_read : Line → Bool
-is_read (Puts i k) = true
-is_read (Arrives i k) = true
-is_read (Reports k) = true
-is_read Beyond = true
-is_read OutOfForm = false
+abbrev pub is_read : Result Line Refusal → Bool
+is_read (Err OutOfForm) = false
+is_read _ = true
 
 -- the first four numbers of a reply: no answer of a row has more
 abbrev pub four_of : List ℕ → List ℕ

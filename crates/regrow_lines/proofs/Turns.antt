@@ -11,7 +11,7 @@ use Rattle.text.specs.Pieces.{pieces_from, PieceEnds}
 use Rattle.text.proofs.Pieces.{from_zero, from_first, from_past, from_some}
 use Rattle.wholetree.specs.Whole.{whole}
 use Rattle.sampledtree.specs.Sampled.{Sampled}
-use Rattle.treestore.specs.Arrays.{Lent}
+use Rattle.treestore.specs.Arrays.{NodeStore}
 use Rattle.samplerplustree.specs.declared.SamplerPlusTree.{SamplerPlusTree}
 use Rattle.samplerplustree.specs.State.{SampledState, SomeSampled}
 use Rattle.lines.proofs.Writes.{then}
@@ -60,9 +60,9 @@ module _ (d : ℕ) (s : Float) (size : ℕ) (X : Sampled (whole d)) (r e : ℕ) 
   next_line l (m ∷ ps) n h = rw (le-ltb _ _ h)
 
 -- ---- lines carried out, and one more
-module _ {d : ℕ} {s : Float} {X : Sampled (whole d)} {ls : List (List ℕ)} {r : ℕ} {rows₀ : List (List ℕ)} {out₀ : List ℕ} {b : Batch} {a : Lent} {points : List (List Float)} {marks : List ℕ} {weights : List Float} {held : List ℕ} {rows : List (List ℕ)} {out : List ℕ}
+module _ {d : ℕ} {s : Float} {X : Sampled (whole d)} {ls : List (List ℕ)} {r : ℕ} {rows₀ : List (List ℕ)} {out₀ : List ℕ} {b : Batch} {a : NodeStore} {points : List (List Float)} {marks : List ℕ} {weights : List Float} {held : List ℕ} {rows : List (List ℕ)} {out : List ℕ}
     (D : LinesDone d s X ls r rows₀ out₀ b a points marks weights held rows out) (h : all_in_form ls ≡ true) where
-  pub one_more : (l : List ℕ) {n e : ℕ} → n ≡ b.number → e ≡ b.end → {x : Done} {a' : Lent} {points' : List (List Float)} {marks' : List ℕ} {weights' : List Float} {held' : List ℕ} {rows' : List (List ℕ)} {out' : List ℕ}
+  pub one_more : (l : List ℕ) {n e : ℕ} → n ≡ b.number → e ≡ b.end → {x : Done} {a' : NodeStore} {points' : List (List Float)} {marks' : List ℕ} {weights' : List Float} {held' : List ℕ} {rows' : List (List ℕ)} {out' : List ℕ}
       → LineDone d s (rows_leave d X (rows_of ls)) (row_of l) n e rows out x a' points' marks' weights' held' rows' out'
       → {p : ℕ} → p ≡ b.read + length l + 1
       → LinesDone d s X (ls ++ (l ∷ [])) r rows₀ out₀ (record { tree = x.tree; read = p; number = n + 1; end = x.end; goes_on = x.goes_on }) a' points' marks' weights' held' rows' out'
@@ -79,12 +79,12 @@ module _ {d : ℕ} {s : Float} {X : Sampled (whole d)} {ls : List (List ℕ)} {r
       }
 
 -- ---- on the way: the lines that are carried out, and with those that are left they are the text's
-pub record Carrying (d : ℕ) (s : Float) (X : Sampled (whole d)) (text : List ℕ) (number : ℕ) (rows₀ : List (List ℕ)) (out₀ : List ℕ) (tree : SamplerPlusTree) (a : Lent) (points : List (List Float)) (marks : List ℕ) (weights : List Float) (held : List ℕ) (rows : List (List ℕ)) (out : List ℕ) (at next end : ℕ) : Type 0 where
+pub record Carrying (d : ℕ) (s : Float) (X : Sampled (whole d)) (text : List ℕ) (number : ℕ) (rows₀ : List (List ℕ)) (out₀ : List ℕ) (tree : SamplerPlusTree) (a : NodeStore) (points : List (List Float)) (marks : List ℕ) (weights : List Float) (held : List ℕ) (rows : List (List ℕ)) (out : List ℕ) (at next end : ℕ) : Type 0 where
   pub done : List (List ℕ)
   pub so_far : LinesDone d s X done number rows₀ out₀ (record { tree = tree; read = at; number = next; end = end; goes_on = true }) a points marks weights held rows out
   pub left : lines_in d s (length out₀) X number text ≡ done ++ lines_from d s (length out₀) (rows_leave d X (rows_of done)) next end (pieces_from 10 text at)
 
-pub begin : {d : ℕ} {s : Float} {X : Sampled (whole d)} {tree : SamplerPlusTree} {a : Lent} {points : List (List Float)} {marks : List ℕ} {weights : List Float} {held : List ℕ}
+pub begin : {d : ℕ} {s : Float} {X : Sampled (whole d)} {tree : SamplerPlusTree} {a : NodeStore} {points : List (List Float)} {marks : List ℕ} {weights : List Float} {held : List ℕ}
     → SampledState d s X tree a points marks weights held → (text : List ℕ) (number : ℕ) (rows : List (List ℕ)) (out : List ℕ)
     → Carrying d s X text number rows out tree a points marks weights held rows out 0 number 0
 unfolding rows_of
@@ -94,7 +94,7 @@ begin S text number rows out = record {
   left = rw (from_zero 10 text);
 }
 
-module _ {d : ℕ} {s : Float} {X : Sampled (whole d)} {text : List ℕ} {number : ℕ} {rows₀ : List (List ℕ)} {out₀ : List ℕ} {tree : SamplerPlusTree} {a : Lent} {points : List (List Float)} {marks : List ℕ} {weights : List Float} {held : List ℕ} {rows : List (List ℕ)} {out : List ℕ} {at next end : ℕ}
+module _ {d : ℕ} {s : Float} {X : Sampled (whole d)} {text : List ℕ} {number : ℕ} {rows₀ : List (List ℕ)} {out₀ : List ℕ} {tree : SamplerPlusTree} {a : NodeStore} {points : List (List Float)} {marks : List ℕ} {weights : List Float} {held : List ℕ} {rows : List (List ℕ)} {out : List ℕ} {at next end : ℕ}
     (R : Carrying d s X text number rows₀ out₀ tree a points marks weights held rows out at next end) where
   pub some_state : SomeSampled tree a points marks weights held
   some_state = record { channels = d; share = s; world = rows_leave d X (rows_of R.done); state = R.so_far.state }
@@ -115,7 +115,7 @@ module _ {d : ℕ} {s : Float} {X : Sampled (whole d)} {text : List ℕ} {number
     unended z = none_left (rw (from_first 10 text at stop h x) (no_feed d s (length out₀) (rows_leave d X (rows_of R.done)) next end (take (stop - at) (drop at text)) (pieces_from 10 text (stop + 1)) (from_past 10 text (stop + 1) (omega arith))))
 
     -- a line, after which the next stands or all ends
-    module _ (m : stop ≡ length text → ⊥) (room : end + answer_limit ≤ length out₀) (y : Done) (a' : Lent) (points' : List (List Float)) (marks' : List ℕ) (weights' : List Float) (held' : List ℕ) (rows' : List (List ℕ)) (out' : List ℕ)
+    module _ (m : stop ≡ length text → ⊥) (room : end + answer_limit ≤ length out₀) (y : Done) (a' : NodeStore) (points' : List (List Float)) (marks' : List ℕ) (weights' : List Float) (held' : List ℕ) (rows' : List (List ℕ)) (out' : List ℕ)
         (L : LineDone d s (rows_leave d X (rows_of R.done)) (row_of (take (stop - at) (drop at text))) next end rows out y a' points' marks' weights' held' rows' out') where
       abbrev line : List ℕ
       line = take (stop - at) (drop at text)

@@ -5,7 +5,7 @@ use Rattle.text.specs.Quoted.{bytes}
 use Rattle.text.specs.Pieces.{pieces}
 use Rattle.wholetree.specs.Whole.{whole}
 use Rattle.sampledtree.specs.Sampled.{Sampled}
-use Rattle.treestore.specs.Arrays.{Lent}
+use Rattle.treestore.specs.Arrays.{NodeStore}
 use Rattle.samplerplustree.specs.declared.SamplerPlusTree.{SamplerPlusTree}
 use Rattle.samplerplustree.specs.State.{SampledState}
 use Rattle.lines.specs.Lines.{Wrote}
@@ -51,7 +51,7 @@ reports_left d X (row ∷ rows) lent = reports_left d (row_leaves d X row) rows 
 
 -- ---- what is answered and left
 -- of X by the lines ls, the first of them row r: their answers from the buffer's front, and header, arrays, table, sample and lent rows after them
-pub record LinesDone (d : ℕ) (s : Float) (X : Sampled (whole d)) (ls : List (List ℕ)) (r : ℕ) (rows : List (List ℕ)) (out : List ℕ) (batch : Batch) (a : Lent) (points : List (List Float)) (marks : List ℕ) (weights : List Float) (held : List ℕ) (rows' : List (List ℕ)) (out' : List ℕ) : Type 0 where
+pub record LinesDone (d : ℕ) (s : Float) (X : Sampled (whole d)) (ls : List (List ℕ)) (r : ℕ) (rows : List (List ℕ)) (out : List ℕ) (batch : Batch) (a : NodeStore) (points : List (List Float)) (marks : List ℕ) (weights : List Float) (held : List ℕ) (rows' : List (List ℕ)) (out' : List ℕ) : Type 0 where
   pub wrote : Wrote out 0 (printed d s X r (rows_of ls)) batch.end out'
   pub on : batch.goes_on ≡ all_in_form ls
   pub number_is : batch.number ≡ r + length ls
@@ -60,7 +60,7 @@ pub record LinesDone (d : ℕ) (s : Float) (X : Sampled (whole d)) (ls : List (L
   pub state : SampledState d s (rows_leave d X (rows_of ls)) batch.tree a points marks weights held
 
 -- A text, whichever sampled tree's the lent state is: header, arrays, table, sample, lent rows and buffer before it, then after it.
-abbrev pub TextCarries : List ℕ → ℕ → SamplerPlusTree → Lent → List (List Float) → List ℕ → List Float → List ℕ → List (List ℕ) → List ℕ → Batch → Lent → List (List Float) → List ℕ → List Float → List ℕ → List (List ℕ) → List ℕ → Type 0
+abbrev pub TextCarries : List ℕ → ℕ → SamplerPlusTree → NodeStore → List (List Float) → List ℕ → List Float → List ℕ → List (List ℕ) → List ℕ → Batch → NodeStore → List (List Float) → List ℕ → List Float → List ℕ → List (List ℕ) → List ℕ → Type 0
 TextCarries text r h a points marks weights held rows out batch a' points' marks' weights' held' rows' out' =
     (d : ℕ) (s : Float) (X : Sampled (whole d)) → SampledState d s X h a points marks weights held
     → LinesDone d s X (lines_in d s (length out) X r text) r rows out batch a' points' marks' weights' held' rows' out'

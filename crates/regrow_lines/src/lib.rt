@@ -2,14 +2,14 @@
 #![tactic(auto)]
 
 ghost use Rattle.std.specs.Prelude.{◌≡◌, ◌+◌, ◌<◌, ◌≤◌, length};
-ghost use Rattle.treestore.specs.Arrays.{lent};
 ghost use Rattle.samplerplustree.specs.State.{SomeSampled};
 ghost use Rattle.regrow_lines.specs.Batch.{TextCarries};
 
-use archivecalls::Rows;
 use archivelines::ANSWER;
-use limits::{Boxes, Copies, Cuts, Free, Held, Marks, Nodes, Points, Weights};
-use samplerplustree::SamplerPlusTree;
+use nodeview::Rows;
+use pointstore::PointStore;
+use samplerplustree::{Sample, SamplerPlusTree};
+use treestore::NodeStore;
 
 // Lines that are carried out: the header after them, how many bytes of the text they are with their line feeds, the number of the row after them, how many bytes
 // their answers have, and whether the lines go on. A row out of form ends all.
@@ -39,31 +39,26 @@ fn so_far(tree: SamplerPlusTree, read: usize, number: usize, end: usize, goes_on
 // Rules out the last bytes of a text taken for a line before their line feed has come, and a line left out or carried out twice where a text ends.
 pub fn carry_lines(
     tree: SamplerPlusTree,
-    nodes: &mut Nodes,
-    cuts: &mut Cuts,
-    copies: &mut Copies,
-    free: &mut Free,
-    boxes: &mut Boxes,
-    points: &mut Points,
-    written: &mut Marks,
-    weights: &mut Weights,
-    held: &mut Held,
+    store: &mut NodeStore,
+    table: &mut PointStore,
+    sample: &mut Sample,
     rows: &mut Rows,
     text: &[u8],
     number: usize,
     out: &mut [u8],
 ) -> Batch
     requires near { (number + length text.now < 10000000000000000000) × (length out.old < 10000000000) }
-    requires stands { SomeSampled tree (lent nodes.old cuts.old copies.old free.old boxes.old) points.old written.old weights.old held.old }
+    requires stands { SomeSampled tree store.old table.old.points table.old.written sample.old.weights sample.old.held }
     ensures carries { TextCarries text.now number
-        tree (lent nodes.old cuts.old copies.old free.old boxes.old) points.old written.old weights.old held.old rows.old out.old
-        result (lent nodes.new cuts.new copies.new free.new boxes.new) points.new written.new weights.new held.new rows.new out.new }
+        tree store.old table.old.points table.old.written sample.old.weights sample.old.held rows.old out.old
+        result store.new table.new.points table.new.written sample.new.weights sample.new.held rows.new out.new }
     ensures fits { (result.read ≤ length text.now) × (result.number ≤ number + result.read) × (result.end ≤ length out.old) }
 {
     let mut current = tree;
     let mut at: usize = 0;
     let mut next = number;
     let mut end: usize = 0;
+    // A turn goes on by a line's length and by its answer's, so this is no `for`.
     loop {
         if out.len() < end + ANSWER {
             return so_far(current, at, next, end, true);
@@ -74,15 +69,9 @@ pub fn carry_lines(
         }
         let done = regrow_line::carry_line(
             current,
-            nodes,
-            cuts,
-            copies,
-            free,
-            boxes,
-            points,
-            written,
-            weights,
-            held,
+            store,
+            table,
+            sample,
             rows,
             &text[at..stop],
             next,

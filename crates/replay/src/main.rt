@@ -6,7 +6,7 @@ ghost use Rattle.std.specs.Prelude.{◌≡◌, ◌≤◌, length};
 ghost use Rattle.records.specs.Records.{room};
 ghost use Rattle.replay.specs.Answers.{answered};
 
-use records::{Counts, KINDS, LENT, ROOM};
+use records::{Counts, KINDS, LENT, NoRecord, ROOM};
 use std::io;
 use std::io::Read;
 
@@ -16,35 +16,21 @@ const SAID: usize = 20;
 // Room for a space and a number.
 const FIELD: usize = 21;
 
-// How many records that differ are said, and whether the replay goes on.
-#[derive(Clone, Copy)]
-struct State {
-    said: usize,
-    going: bool,
-}
-
 // What the port answers to what is given by a record of a kind.
 // Rules out one kind's answer for another's, and an answer of none.
 fn answer(kind: usize, given: &[u8], out: &mut [u8]) -> usize
     requires { length given.now ≤ room }
     ensures { (result, out.new) ≡ answered kind given.now out.old }
 {
-    if kind == 0 {
-        return recorded::answer_cut(given, out);
+    // No enum of kinds: a file has their numbers, and eight of the thirteen go on to `answer_floats` as they are.
+    match kind {
+        0 => recorded::answer_cut(given, out),
+        1 => recorded::answer_sequence(given, out),
+        2 => run::sicklephlox_run(given, out),
+        3 => treelist_text::treelist_output(given, out),
+        12 => recorded_samples::answer_sample(given, out),
+        _ => recorded::answer_floats(kind, given, out),
     }
-    if kind == 1 {
-        return recorded::answer_sequence(given, out);
-    }
-    if kind == 2 {
-        return run::sicklephlox_run(given, out);
-    }
-    if kind == 3 {
-        return treelist_text::treelist_output(given, out);
-    }
-    if kind == 12 {
-        return recorded_samples::answer_sample(given, out);
-    }
-    recorded::answer_floats(kind, given, out)
 }
 
 // Prints a number, after a space.
@@ -57,85 +43,77 @@ fn say_number(rt: &impl Print, n: usize) -> io::Result<()> {
 // Prints a line: a word, and numbers.
 fn say(rt: &impl Print, word: &[u8], numbers: &[usize]) -> io::Result<()> {
     rt.write_all(word)?;
-    let mut i: usize = 0;
-    while i < numbers.len() {
-        say_number(rt, numbers[i])?;
-        i += 1;
+    for n in numbers {
+        say_number(rt, *n)?;
     }
     rt.write_all(b"\n")
 }
 
 // Says that a record differs, if not too many did: what was returned and what was to be, and how many bytes of the buffer are as recorded, from its
-// start on.
+// start on. Gives how many are said now.
 fn told(
     rt: &impl Print,
     number: usize,
-    before: State,
+    said: usize,
     returned: usize,
     got: usize,
     same: usize,
-) -> io::Result<State> {
-    if before.said >= SAID {
-        return Ok(before);
+) -> io::Result<usize> {
+    if said >= SAID {
+        return Ok(said);
     }
     say(rt, b"differs", &[number, returned, got, same])?;
-    Ok(State {
-        said: before.said + 1,
-        going: true,
-    })
+    Ok(said + 1)
 }
 
-// The end of the replay, with a word on it where a record is not whole or there is none at all.
-fn ended(rt: &impl Print, why: usize, number: usize) -> io::Result<State> {
-    if why == records::SHORT {
-        say(rt, b"short", &[number])?;
+// A word on the end of the replay, where a record is not whole or there is none at all.
+fn ended(rt: &impl Print, why: NoRecord, number: usize) -> io::Result<()> {
+    match why {
+        NoRecord::Ended => Ok(()),
+        NoRecord::Short => say(rt, b"short", &[number]),
+        NoRecord::Empty => say(rt, b"empty", &[number]),
+        NoRecord::Malformed => say(rt, b"malformed", &[number]),
     }
-    if why == records::EMPTY {
-        say(rt, b"empty", &[number])?;
-    }
-    if why == records::MALFORMED {
-        say(rt, b"malformed", &[number])?;
-    }
-    Ok(State {
-        said: 0,
-        going: false,
-    })
 }
 
-// The replay after one more record, or at its end.
+// How many records that differ are said after one more record, or none at the end.
 fn replay_one(
     rt: &impl Print,
     input: &mut impl Read,
     number: usize,
-    before: State,
+    said: usize,
     counts: &mut Counts,
-) -> io::Result<State> {
+) -> io::Result<Option<usize>> {
     let mut given = [0u8; ROOM];
     let mut expected = [LENT; ROOM];
-    let head = records::read(input, number, &mut given, &mut expected);
-    if !head.whole {
-        return ended(rt, head.why, number);
-    }
+    let head = match records::read(input, number, &mut given, &mut expected) {
+        Ok(head) => head,
+        Err(why) => {
+            ended(rt, why, number)?;
+            return Ok(None);
+        }
+    };
     let size = head.size;
     let mut answers = [LENT; ROOM];
     let got = answer(head.kind, &given[..size], &mut answers);
     let judged = records::judge(head, got, &expected, &answers, counts);
     if judged.agrees {
-        return Ok(before);
+        return Ok(Some(said));
     }
-    told(rt, number, before, head.returned, got, judged.same)
+    let now = told(rt, number, said, head.returned, got, judged.same)?;
+    Ok(Some(now))
 }
 
 // A proved loop has to end, and nothing says that the input does; so records are counted up to a number that no input has.
 fn replay_all(rt: &impl Print, input: &mut impl Read, counts: &mut Counts) -> io::Result<()> {
-    let mut state = State {
-        said: 0,
-        going: true,
-    };
-    let mut number: usize = 0;
-    while number < usize::MAX && state.going {
-        state = replay_one(rt, input, number, state, counts)?;
-        number += 1;
+    let mut said: usize = 0;
+    for number in 0..usize::MAX {
+        match replay_one(rt, input, number, said, counts)? {
+            Some(now) => {
+                said = now;
+            }
+            None => return Ok(()),
+        }
     }
     Ok(())
 }
@@ -148,10 +126,8 @@ fn say_kind(rt: &impl Print, kind: usize, counts: [usize; 2]) -> io::Result<()> 
 fn main(rt: HostRuntime) -> io::Result<()> {
     let mut counts = [[0usize; 2]; KINDS];
     replay_all(&rt, &mut rt.reader(), &mut counts)?;
-    let mut kind: usize = 0;
-    while kind < KINDS {
-        say_kind(&rt, kind, counts[kind])?;
-        kind += 1;
+    for (kind, of_kind) in counts.iter().enumerate() {
+        say_kind(&rt, kind, *of_kind)?;
     }
     Ok(())
 }

@@ -1,14 +1,15 @@
--- Whether a line holds, by the tests that lead there; and the lines that hold, counted one after another. Assumes nothing.
-use mathlib.Core.Path.{◌≡◌, ◌∙◌}
+-- Whether a line holds, by the tests that lead there; and the lines that hold, counted. Laws.
+use mathlib.Core.Path.{◌≡◌, refl, ◌∙◌}
 use mathlib.Core.Bool.{Bool, true, false, cond}
-use mathlib.Core.List.{List}
-use Prim.Native.Nat.{ℕ, ◌+◌, ◌-◌, ◌≤◌, ◌<◌}
+use mathlib.Core.List.{List, [], ◌∷◌}
+use Prim.Native.Nat.{ℕ, ◌+◌}
 use native.Mathlib.Omega.{arith}
 use borrow.Author.Tests.{eq-eqb, ne_eqb}
-use lib.ListN.{length, take, drop}
-use Rattle.text.specs.Pieces.{pieces, pieces_from, PieceEnds}
-use Rattle.text.proofs.Pieces.{from_zero, from_first, from_past}
-use Rattle.form.specs.Form.{same_bytes}
+use lib.Dec.{eqb}
+use lib.ListN.{length}
+use Rattle.std.specs.List.{filter, slice_split, onto_first}
+use Rattle.text.specs.Pieces.{onto, pieces}
+use Rattle.std.specs.Prelude.{bytes_eq}
 use Rattle.hexbytes.specs.Hex.{is_hex, hex_bytes}
 use Rattle.chacha20.specs.Block.{chacha20_block}
 use Rattle.rfc8439.specs.Vectors.{counter_of, key, counter, nonce, block, holds, holding}
@@ -35,44 +36,27 @@ module _ (line : List ℕ) where
         no_block z = rw (eq-eqb _ _ l, ← p, y, ← q, x, ← r, z)
 
         pub compared : c ≡ true → (k n b : List ℕ) (m : ℕ) → k ≡ hex_bytes (key line) → m ≡ counter_of (counter line) → n ≡ hex_bytes (nonce line) → b ≡ hex_bytes (block line)
-            → (t : Bool) → t ≡ same_bytes (chacha20_block k m n) b → t ≡ holds line
+            → (t : Bool) → t ≡ bytes_eq (chacha20_block k m n) b → t ≡ holds line
         unfolding holds
         compared z k n b m e f g h t w = w ∙ rw (eq-eqb _ _ l, ← p, y, ← q, x, ← r, z, e, f, g, h)
 
--- ---- the pieces of a text up to the place `at`
-pub record Counting (s : List ℕ) (at n held : ℕ) : Type 0 where
-  pub within : at ≤ length s + 1
-  pub few : n ≤ at
-  pub fewer : held ≤ n
-  pub all : n + length (pieces_from 10 s at) ≡ length (pieces 10 s)
-  pub good : held + holding (pieces_from 10 s at) ≡ holding (pieces 10 s)
+-- ---- the pieces of a text are what it splits into at its line feeds, and those that hold are counted
+split_is : (s : List ℕ) → slice_split (λ x. eqb x 10) s ≡ pieces 10 s
+unfolding pieces
+split_is [] = refl
+split_is (x ∷ s) = rw (split_is s, onto_is x (pieces 10 s))
+  where
+    onto_is : (x : ℕ) (ps : List (List ℕ)) → onto_first x ps ≡ onto x ps
+    onto_is x [] = refl
+    onto_is x (p ∷ ps) = refl
 
-pub count_start : {s : List ℕ} → Counting s 0 0 0
-count_start {s} = record {
-  within = omega arith;
-  few = omega arith;
-  fewer = omega arith;
-  all = rw (from_zero 10 s) (omega arith);
-  good = rw (from_zero 10 s) (omega arith);
-}
+held_is : (ls : List (List ℕ)) → length (filter holds ls) ≡ holding ls
+held_is [] = refl
+held_is (l ∷ ls) = go (holds l) (held_is ls)
+  where
+    go : (t : Bool) → length (filter holds ls) ≡ holding ls → length (cond t (l ∷ filter holds ls) (filter holds ls)) ≡ cond t 1 0 + holding ls
+    go true e = omega arith
+    go false e = omega arith
 
-module _ {s : List ℕ} {at n held : ℕ} (w : Counting s at n held) where
-  pub count_step : at ≤ length s → {e : ℕ} → PieceEnds 10 s at e → {t : Bool} → t ≡ holds (take (e - at) (drop at s)) → {more : ℕ} → more ≡ held + cond t 1 0
-      → Counting s (e + 1) (n + 1) more
-  count_step h {e} x {t} q {more} f =
-      let first = from_first 10 s at e h x in
-      let one : cond t 1 0 ≤ 1 = small t in
-      let all = rw first at w.all in
-      let good = rw (first, ← q) at w.good in
-      record { within = omega (arith, x.most); few = omega (arith, x.from, w.few); fewer = omega (arith, w.fewer); all = omega arith; good = omega arith }
-    where
-      small : (t : Bool) → cond t 1 0 ≤ 1
-      small true = omega arith
-      small false = omega arith
-
-  pub count_end : length s < at → (n ≡ length (pieces 10 s)) × (held ≡ holding (pieces 10 s))
-  count_end h =
-      let past = from_past 10 s at h in
-      let all = rw past at w.all in
-      let good = rw past at w.good in
-      (omega arith, omega arith)
+pub counts : (s : List ℕ) {n held : ℕ} → n ≡ length (slice_split (λ x. eqb x 10) s) → held ≡ length (filter holds (slice_split (λ x. eqb x 10) s)) → (n ≡ length (pieces 10 s)) × (held ≡ holding (pieces 10 s))
+counts s e f = (rw (split_is s) at e, (rw (split_is s) at f) ∙ held_is (pieces 10 s))

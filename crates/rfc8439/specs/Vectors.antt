@@ -1,14 +1,12 @@
 -- A vector of RFC 8439 in its line (VECTORS.md), and how many of a text's lines hold. Definitions.
-use Rattle.std.specs.Prelude.{Bool, ◌&&◌, cond, List, [], ◌∷◌, ℕ, ◌+◌, ◌%◌, ◌^◌, eqb, length, take, drop}
+use Rattle.std.specs.Prelude.{Bool, ◌&&◌, cond, List, [], ◌∷◌, ℕ, ◌+◌, ◌%◌, ◌^◌, eqb, length, take, drop, unwrap_or, bytes_eq}
 use Rattle.text.specs.Numbers.{bits_of}
-use Rattle.text.specs.Fields.{number_or_zero}
-use Rattle.form.specs.Form.{same_bytes}
 use Rattle.hexbytes.specs.Hex.{is_hex, hex_bytes}
 use Rattle.chacha20.specs.Block.{chacha20_block}
 
 -- eight digits are a number of 32 bits
 abbrev pub counter_of : List ℕ → ℕ
-counter_of field = number_or_zero (bits_of field) % 2 ^ 32
+counter_of field = unwrap_or (bits_of field) 0 % 2 ^ 32
 
 -- the digits of a line's fields, by their places
 module _ (line : List ℕ) where
@@ -28,7 +26,7 @@ module _ (line : List ℕ) where
   unfoldable pub holds : Bool
   holds =
       eqb (length line) 227 && (is_hex 32 key && (is_hex 12 nonce && (is_hex 64 block
-      && same_bytes (chacha20_block (hex_bytes key) (counter_of counter) (hex_bytes nonce)) (hex_bytes block))))
+      && bytes_eq (chacha20_block (hex_bytes key) (counter_of counter) (hex_bytes nonce)) (hex_bytes block))))
 
 -- how many of lines hold
 abbrev pub holding : List (List ℕ) → ℕ

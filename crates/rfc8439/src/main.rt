@@ -1,10 +1,8 @@
 // Runs the vectors of RFC 8439 (VECTORS.md): standard input has one to a line, and standard output says how many lines there are and how many hold.
 #![tactic(auto)]
 
-ghost use Rattle.std.specs.Prelude.{◌≡◌, ◌-◌, ◌≤◌, length, take, drop};
+ghost use Rattle.std.specs.Prelude.{◌≡◌, length, bytes_eq};
 ghost use Rattle.text.specs.Pieces.{pieces};
-ghost use Rattle.form.specs.Form.{same_bytes};
-ghost use Rattle.hexbytes.specs.Hex.{read_hex};
 ghost use Rattle.chacha20.specs.Block.{chacha20_block};
 ghost use Rattle.rfc8439.specs.Vectors.{counter_of, holds, holding};
 
@@ -23,35 +21,19 @@ struct Counts {
     held: usize,
 }
 
-fn hex_at(line: &[u8], start: usize, end: usize, bytes: &mut [u8]) -> bool
-    requires { (start ≤ end) × (end ≤ length line.now) }
-    ensures { (result, bytes.new) ≡ read_hex (take (end - start) (drop start line.now)) bytes.old }
-{
-    let field = &line[start..end];
-    hexbytes::read_hex(field, bytes)
-}
-
-fn same_block(block: &[u8; 64], expected: &[u8; 64]) -> bool
-    ensures { result ≡ same_bytes block.now expected.now }
-{
-    form::same_bytes(block, expected)
-}
-
 // Whether the block of a key, a counter and a nonce is the expected one.
 fn agrees(key: &[u8; 32], counter: u32, nonce: &[u8; 12], expected: &[u8; 64]) -> bool
-    ensures { result ≡ same_bytes (chacha20_block key.now counter nonce.now) expected.now }
+    ensures { result ≡ bytes_eq (chacha20_block key.now counter nonce.now) expected.now }
 {
     let mut block = [0u8; 64];
     chacha20::chacha20_block(key, counter, nonce, &mut block);
-    same_block(&block, expected)
+    block == *expected
 }
 
-fn counter_at(line: &[u8], start: usize, end: usize) -> u32
-    requires { (start ≤ end) × (end ≤ length line.now) }
-    ensures { result ≡ counter_of (take (end - start) (drop start line.now)) }
+fn counter_of(field: &[u8]) -> u32
+    ensures { result ≡ counter_of field.now }
 {
-    let field = &line[start..end];
-    (text::number_or_zero(text::read_bits(field)) % 4294967296) as u32
+    (text::read_bits(field).unwrap_or(0) % 4294967296) as u32
 }
 
 // Whether a line is a vector that holds.
@@ -65,24 +47,16 @@ fn line_holds(line: &[u8]) -> bool
     if line.len() != LINE {
         return false;
     }
-    if !hex_at(line, 0, 64, &mut key) {
+    if !hexbytes::read_hex(&line[0..64], &mut key) {
         return false;
     }
-    if !hex_at(line, 74, 98, &mut nonce) {
+    if !hexbytes::read_hex(&line[74..98], &mut nonce) {
         return false;
     }
-    if !hex_at(line, 99, 227, &mut expected) {
+    if !hexbytes::read_hex(&line[99..227], &mut expected) {
         return false;
     }
-    agrees(&key, counter_at(line, 65, 73), &nonce, &expected)
-}
-
-fn piece_holds(text: &[u8], start: usize, end: usize) -> bool
-    requires { (start ≤ end) × (end ≤ length text.now) }
-    ensures { result ≡ holds (take (end - start) (drop start text.now)) }
-{
-    let line = &text[start..end];
-    line_holds(line)
+    agrees(&key, counter_of(&line[65..73]), &nonce, &expected)
 }
 
 // Counts the pieces between a text's line feeds, and those that hold. What stands after the last line feed is a piece too.
@@ -90,18 +64,12 @@ fn piece_holds(text: &[u8], start: usize, end: usize) -> bool
 fn count(text: &[u8]) -> Counts
     ensures { (result.pieces ≡ length (pieces 10 text.now)) × (result.held ≡ holding (pieces 10 text.now)) }
 {
-    let mut at: usize = 0;
-    let mut n: usize = 0;
-    let mut held: usize = 0;
-    while at <= text.len() {
-        let end = text::piece_end(text, at, 10);
-        if piece_holds(text, at, end) {
-            held += 1;
-        }
-        n += 1;
-        at = end + 1;
-    }
-    Counts { pieces: n, held }
+    let pieces = text.split(|byte| *byte == b'\n').count();
+    let held = text
+        .split(|byte| *byte == b'\n')
+        .filter(|line| line_holds(line))
+        .count();
+    Counts { pieces, held }
 }
 
 // Prints a number and a word after it.

@@ -1,14 +1,13 @@
 -- What the check of a run's calls tells, and what the run gives by it. Laws.
 use mathlib.Core.Path.{◌≡◌, refl, sym, ap, ◌∙◌}
-use mathlib.Core.Bool.{Bool, true, false, cond}
+use mathlib.Core.Bool.{Bool, true, false}
 use mathlib.Core.Option.{Option, none, some}
 use mathlib.Core.List.{List}
 use Prim.Native.Nat.{ℕ, ◌+◌, ◌/◌}
 use lib.Dec.{leb}
 use lib.ListN.{length}
 use Rattle.cuttree.proofs.Tests.{cond_true, cond_false, nonsense}
-use Rattle.runlayout.specs.declared.Checked.{Checked}
-use Rattle.runlayout.specs.declared.Checked.TheVariants.{OutOfLayout, TooFew, Enough}
+use Rattle.std.specs.Prelude.{Option as Maybe, None, Some}
 use Rattle.runlayout.specs.Layout.{RunCall, making_width, begins_with_making, channels, capacity, rest_from, calls}
 use Rattle.runlayout.specs.Check.{widths, verdict}
 use Rattle.run.specs.Outcome.{given, made, answered, outcome_of, outcome}
@@ -25,34 +24,18 @@ module _ (run lent : List ℕ) where
     pub gives : (b : Bool) (q : Checks run b lent) (x : ℕ × List ℕ) → x ≡ given (answered run (made run) q.calls) lent → x ≡ outcome run lent
     gives b q x e = e ∙ sym (ap (λ (o : Option (List (RunCall (channels run)))). outcome_of run o lent) (calls_are (some q.calls) q.rest))
 
-    -- the three verdicts, of calls or none
-    by_verdict : {P : Type 0} (o : Option (List (RunCall (channels run)))) (v : Checked) → v ≡ verdict (channels run) (capacity run) (length lent / 4) 1 o
-        → (o ≡ none → v ≡ OutOfLayout → P)
-        → ((cs : List (RunCall (channels run))) (b : Bool) → o ≡ some cs → b ≡ leb (1 + widths (channels run) (capacity run) cs) (length lent / 4) → v ≡ cond b Enough TooFew → P) → P
+    -- the two verdicts, of calls or none
+    by_verdict : {P : Type 0} (o : Option (List (RunCall (channels run)))) (v : Maybe Bool) → v ≡ verdict (channels run) (capacity run) (length lent / 4) 1 o
+        → (o ≡ none → v ≡ None → P)
+        → ((cs : List (RunCall (channels run))) → o ≡ some cs → v ≡ Some (leb (1 + widths (channels run) (capacity run) cs) (length lent / 4)) → P) → P
     by_verdict none v e f g = f refl e
-    by_verdict (some cs) v e f g = g cs _ refl refl e
+    by_verdict (some cs) v e f g = g cs refl e
 
-    pub out_of_layout : OutOfLayout ≡ verdict (channels run) (capacity run) (length lent / 4) 1 (rest_from run (channels run) (making_width run)) → (17, lent) ≡ outcome run lent
-    out_of_layout e = by_verdict (rest_from run (channels run) (making_width run)) OutOfLayout e
+    pub out_of_layout : None ≡ verdict (channels run) (capacity run) (length lent / 4) 1 (rest_from run (channels run) (making_width run)) → (17, lent) ≡ outcome run lent
+    out_of_layout e = by_verdict (rest_from run (channels run) (making_width run)) None e
         (λ n _. sym (ap (λ (o : Option (List (RunCall (channels run)))). outcome_of run o lent) (calls_are none n)))
-        (λ cs b _ _ h. absurd (neither b h))
-      where
-        neither : (b : Bool) → OutOfLayout ≡ cond b Enough TooFew → ⊥
-        neither true h = nonsense (cc)
-        neither false h = nonsense (cc)
+        (λ cs _ h. nonsense (cc))
 
-    pub too_few : TooFew ≡ verdict (channels run) (capacity run) (length lent / 4) 1 (rest_from run (channels run) (making_width run)) → Checks run false lent
-    too_few e = by_verdict (rest_from run (channels run) (making_width run)) TooFew e (λ _ h. nonsense (cc))
-        (λ cs b n l h. record { calls = cs; rest = n; enough_is = is_false b h ∙ l })
-      where
-        is_false : (b : Bool) → TooFew ≡ cond b Enough TooFew → false ≡ b
-        is_false true h = nonsense (cc)
-        is_false false h = refl
-
-    pub enough : Enough ≡ verdict (channels run) (capacity run) (length lent / 4) 1 (rest_from run (channels run) (making_width run)) → Checks run true lent
-    enough e = by_verdict (rest_from run (channels run) (making_width run)) Enough e (λ _ h. nonsense (cc))
-        (λ cs b n l h. record { calls = cs; rest = n; enough_is = is_true b h ∙ l })
-      where
-        is_true : (b : Bool) → Enough ≡ cond b Enough TooFew → true ≡ b
-        is_true true h = refl
-        is_true false h = nonsense (cc)
+    pub checked : (b : Bool) → Some b ≡ verdict (channels run) (capacity run) (length lent / 4) 1 (rest_from run (channels run) (making_width run)) → Checks run b lent
+    checked b e = by_verdict (rest_from run (channels run) (making_width run)) (Some b) e (λ _ h. nonsense (cc))
+        (λ cs n h. record { calls = cs; rest = n; enough_is = cc })

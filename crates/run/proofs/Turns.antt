@@ -2,7 +2,7 @@
 use mathlib.Core.Path.{◌≡◌, refl, sym, ap, ◌∙◌}
 use mathlib.Core.Bool.{true}
 use mathlib.Core.Option.{Option, some}
-use mathlib.Core.List.{List, [], ◌∷◌}
+use mathlib.Core.List.{List, []}
 use Prim.Native.Nat.{ℕ, ◌+◌, ◌*◌, ◌≤◌, ◌<◌}
 use native.Mathlib.Omega.{arith}
 use lib.ListN.{length}
@@ -17,7 +17,7 @@ use Rattle.runlayout.specs.Check.{width_of, widths, width_of_kind}
 use Rattle.runlayout.proofs.ByKind.{width_kind}
 use Rattle.runlayout.proofs.Rest.{rest_end, Begun, rest_call, is_call_lem}
 use Rattle.runsteps.specs.Told.{told, left, told_from}
-use Rattle.runsteps.specs.Standing.{Kept, Standing, SomeStanding}
+use Rattle.runsteps.specs.Standing.{Kept, SomeStanding}
 use Rattle.runsteps.specs.Steps.{Room, Stepped, Steps}
 use Rattle.runsteps.proofs.Widths.{length_told}
 use Rattle.run.specs.Running.{Running}

@@ -4,9 +4,10 @@
 
 pub mod words;
 
-ghost use Rattle.std.specs.Prelude.{◌≡◌, true, List, [], ◌∷◌, ℕ, ◌+◌, ◌*◌, ◌/◌, ◌<◌, ◌≤◌, length, replicate};
+ghost use Rattle.std.specs.Prelude.{◌≡◌, true, List, [], ◌∷◌, ℕ, ◌+◌, ◌*◌, ◌/◌, ◌<◌, replicate};
 ghost use Rattle.limits.specs.Limits.{point_limit};
-ghost use Rattle.treestore.specs.Arrays.{lent};
+ghost use Rattle.layout.specs.Layout.{no_ends};
+ghost use Rattle.refusals.specs.Refusals.{number};
 ghost use Rattle.runlayout.specs.Layout.{RunCall, making_width, begins_with_making, channels, share};
 ghost use Rattle.runsteps.specs.Told.{told_from};
 ghost use Rattle.runsteps.specs.Standing.{kept};
@@ -15,34 +16,28 @@ ghost use Rattle.run.specs.Running.{Running, SomeRunning, Started, SomeStarted, 
 ghost use Rattle.run.specs.Makes.{Makes};
 
 use answers::REPLY;
-use limits::{
-    BRANCHES, Boxes, CAPACITY, CHANNELS, Copies, Cuts, Free, Held, Marks, Nodes, POINTS, Points,
-    Weights,
-};
-use randomcuttree::{Made, RCFTree};
-use runlayout::Checked;
+use limits::CAPACITY;
+use pointstore::PointStore;
+use randomcuttree::RCFTree;
+use refusals::Refusal;
 use sampler::Sampler;
-use samplerplustree::{MadeSampled, SamplerPlusTree};
+use samplerplustree::{Sample, SamplerPlusTree};
+use treestore::NodeStore;
 
 // The calls after the making, each answered in turn, after the making's own number. Gives how many numbers are answered.
 // The kind of the next call is read before a call is carried out: of a long run it lies far away in memory, and comes meanwhile.
+// The working memory is no struct: a step takes two or three of the five, and a clause would name each by `work.old.` and `work.new.` before its own name.
 fn run_calls(
     tree: SamplerPlusTree,
-    nodes: &mut Nodes,
-    cuts: &mut Cuts,
-    copies: &mut Copies,
-    free: &mut Free,
-    boxes: &mut Boxes,
-    points: &mut Points,
-    written: &mut Marks,
-    weights: &mut Weights,
-    held: &mut Held,
+    store: &mut NodeStore,
+    table: &mut PointStore,
+    sample: &mut Sample,
     run: &[u8],
     answers: &mut [u8],
 ) -> usize
     requires making { begins_with_making run.now ≡ true }
-    requires ready { SomeRunning run.now (making_width run.now) 1 tree (kept (lent nodes.old cuts.old copies.old free.old boxes.old) points.old written.old weights.old held.old) answers.old }
-    ensures { (final : List ℕ) (count : ℕ) → Running run.now (making_width run.now) 1 tree (kept (lent nodes.old cuts.old copies.old free.old boxes.old) points.old written.old weights.old held.old) answers.old final count → (result ≡ count) × (answers.new ≡ final) }
+    requires ready { SomeRunning run.now (making_width run.now) 1 tree (kept store.old table.old.points table.old.written sample.old.weights sample.old.held) answers.old }
+    ensures { (final : List ℕ) (count : ℕ) → Running run.now (making_width run.now) 1 tree (kept store.old table.old.points table.old.written sample.old.weights sample.old.held) answers.old final count → (result ≡ count) × (answers.new ≡ final) }
 {
     let n = runlayout::size_of(run);
     let mut words = [0u64; CAPACITY];
@@ -54,21 +49,16 @@ fn run_calls(
     let mut p = runlayout::making_width(run);
     let mut kind = runlayout::number_or_none(run, p);
     let mut out: usize = 1;
+    // A turn goes on by a call's width, so this is no `for`.
     while p < n {
         let width = runlayout::answer_width(run, p);
         let next = p + runlayout::width_at(run, p);
         let ahead = runlayout::number_or_none(run, next);
         current = runsteps::step(
             current,
-            nodes,
-            cuts,
-            copies,
-            free,
-            boxes,
-            points,
-            written,
-            weights,
-            held,
+            store,
+            table,
+            sample,
             run,
             p,
             &mut words,
@@ -81,7 +71,7 @@ fn run_calls(
             width,
             kind,
         );
-        out = out + width;
+        out += width;
         p = next;
         kind = ahead;
     }
@@ -89,153 +79,97 @@ fn run_calls(
 }
 
 // A making that is refused: its number is the only answer.
-fn tell_refusal(answers: &mut [u8], refusal: u8) -> usize
-    ensures { (result, answers.new) ≡ given (refusal ∷ []) answers.old }
+fn tell_refusal(answers: &mut [u8], refusal: Refusal) -> usize
+    ensures { (result, answers.new) ≡ given (number refusal ∷ []) answers.old }
 {
     if answers.len() < 4 {
-        return 15;
+        return Refusal::FewRows.number();
     }
-    little::put_u32(answers, 0, casts::wide8(refusal));
+    little::put_u32(answers, 0, refusal.number());
     4
 }
 
 // A tree that is made: 0 for the making, then its calls.
 fn run_tree(
     tree: SamplerPlusTree,
-    nodes: &mut Nodes,
-    cuts: &mut Cuts,
-    copies: &mut Copies,
-    free: &mut Free,
-    boxes: &mut Boxes,
-    points: &mut Points,
-    written: &mut Marks,
-    weights: &mut Weights,
-    held: &mut Held,
+    store: &mut NodeStore,
+    table: &mut PointStore,
+    sample: &mut Sample,
     run: &[u8],
     answers: &mut [u8],
 ) -> usize
     requires making { begins_with_making run.now ≡ true }
-    requires ready { SomeStarted run.now tree (kept (lent nodes.old cuts.old copies.old free.old boxes.old) points.old written.old weights.old held.old) answers.old }
-    ensures { (cs : List (RunCall (channels run.now))) → Started run.now cs tree (kept (lent nodes.old cuts.old copies.old free.old boxes.old) points.old written.old weights.old held.old) answers.old
+    requires ready { SomeStarted run.now tree (kept store.old table.old.points table.old.written sample.old.weights sample.old.held) answers.old }
+    ensures { (cs : List (RunCall (channels run.now))) → Started run.now cs tree (kept store.old table.old.points table.old.written sample.old.weights sample.old.held) answers.old
         → (result, answers.new) ≡ given (0 ∷ told_from (channels run.now) (share run.now) (begun run.now) cs) answers.old }
 {
     little::put_u32(answers, 0, 0);
-    4 * run_calls(
-        tree, nodes, cuts, copies, free, boxes, points, written, weights, held, run, answers,
-    )
+    4 * run_calls(tree, store, table, sample, run, answers)
 }
 
-// A bare tree's making as a sampled one's.
-fn as_sampled(made: Made) -> MadeSampled
-    ensures { result ≡ as_sampled made }
+// A bare tree as a sampled one: with an empty sample, and no initial share.
+fn as_sampled(tree: RCFTree) -> SamplerPlusTree
+    ensures { result ≡ as_sampled tree }
 {
-    match made {
-        Made::NotMade(refusal) => MadeSampled::NotMade(refusal),
-        Made::Tree(tree) => {
-            let sampler = Sampler {
-                capacity: tree.capacity,
-                current_size: 0,
-            };
-            MadeSampled::Tree(SamplerPlusTree {
-                tree,
-                sampler,
-                initial_accept_fraction: 0.0,
-            })
-        }
+    SamplerPlusTree {
+        tree,
+        sampler: Sampler {
+            capacity: tree.capacity,
+            current_size: 0,
+        },
+        initial_accept_fraction: 0.0,
     }
 }
 
 // The making of either kind.
-fn make(
-    run: &[u8],
-    nodes: &mut Nodes,
-    cuts: &mut Cuts,
-    copies: &mut Copies,
-    free: &mut Free,
-    boxes: &mut Boxes,
-    weights: &mut Weights,
-    held: &mut Held,
-) -> MadeSampled
+fn make(run: &[u8], store: &mut NodeStore, sample: &mut Sample) -> Result<SamplerPlusTree, Refusal>
     requires { begins_with_making run.now ≡ true }
-    ensures { Makes run.now (lent nodes.new cuts.new copies.new free.new boxes.new) weights.new held.new result }
+    ensures { Makes run.now store.new sample.new.weights sample.new.held result }
 {
     let dimensions = runlayout::number_at(run, 1);
     let capacity = runlayout::number_at(run, 2);
     let share = little::double_of(runlayout::double_at(run, 3));
     if runlayout::is_sampled(run) {
         let initial = little::double_of(runlayout::double_at(run, 5));
-        return SamplerPlusTree::new(
-            dimensions, capacity, share, initial, nodes, cuts, copies, free, boxes, weights, held,
-        );
+        return SamplerPlusTree::new(dimensions, capacity, share, initial, store, sample);
     }
-    as_sampled(RCFTree::new(
-        dimensions, capacity, share, nodes, cuts, copies, free, boxes,
-    ))
+    let tree = RCFTree::new(dimensions, capacity, share, store)?;
+    Ok(as_sampled(tree))
 }
 
-// A run in its layout, with what its calls' answers need lent or not, and the marks of a table with nothing written.
-fn run_made(run: &[u8], answers: &mut [u8], enough: bool, written: &mut Marks) -> usize
+// A run in its layout, with what its calls' answers need lent or not, and a table with nothing written.
+fn run_made(run: &[u8], answers: &mut [u8], enough: bool, table: &mut PointStore) -> usize
     requires making { begins_with_making run.now ≡ true }
     requires calls { Checks run.now enough answers.old }
-    requires empty { written.old ≡ replicate point_limit 0 }
+    requires empty { (table.old.points ≡ replicate point_limit no_ends) × (table.old.written ≡ replicate point_limit 0) }
     ensures { (q : Checks run.now enough answers.old) → (result, answers.new) ≡ given (answered run.now (made run.now) q.calls) answers.old }
 {
-    let mut nodes = [[0u16; 4]; BRANCHES];
-    let mut cuts = [0.0f32; BRANCHES];
-    let mut copies = [0u16; POINTS];
-    let mut free = [[0u16; 2]; BRANCHES];
-    let mut boxes = [[[0.0f32; CHANNELS]; 2]; BRANCHES];
-    let mut points = pointstore::no_points();
-    let mut weights = [0.0f32; CAPACITY];
-    let mut held = [0u16; CAPACITY];
-    let made = make(
-        run,
-        &mut nodes,
-        &mut cuts,
-        &mut copies,
-        &mut free,
-        &mut boxes,
-        &mut weights,
-        &mut held,
-    );
-    match made {
-        MadeSampled::NotMade(refusal) => tell_refusal(answers, refusal),
-        MadeSampled::Tree(tree) => {
+    let mut store = treestore::no_nodes();
+    let mut sample = Sample::new();
+    match make(run, &mut store, &mut sample) {
+        Err(refusal) => tell_refusal(answers, refusal),
+        Ok(tree) => {
             if !enough {
-                return 15;
+                return Refusal::FewRows.number();
             }
-            run_tree(
-                tree,
-                &mut nodes,
-                &mut cuts,
-                &mut copies,
-                &mut free,
-                &mut boxes,
-                &mut points,
-                written,
-                &mut weights,
-                &mut held,
-                run,
-                answers,
-            )
+            run_tree(tree, &mut store, table, &mut sample, run, answers)
         }
     }
 }
 
-// Carries out a whole run, and writes its answers to the lent bytes; or refuses it, and writes nothing.
-// The table's marks are made before anything is tested, so that the compiled function has its frame from the start (docs/DECISIONS.md, 69).
+// Carries out a whole run, and writes its answers to the lent bytes; or refuses it, and writes nothing: by the number of a text out of form where it is
+// out of the layout, and by that of too few rows where too few bytes are lent.
+// The table is made before anything is tested, so that the compiled function has its frame from the start (docs/DECISIONS.md, 69).
 // Rules out a run taken that ends inside a call, and a byte written beyond the answers.
 pub fn sicklephlox_run(run: &[u8], answers: &mut [u8]) -> usize
     ensures { (result, answers.new) ≡ outcome run.now answers.old }
 {
-    let mut written = pointstore::no_marks();
+    let mut table = PointStore::new();
     if !runlayout::begins_with_making(run) {
-        return 17;
+        return Refusal::OutOfForm.number();
     }
-    let checked = runlayout::check_calls(run, answers.len() / 4);
-    match checked {
-        Checked::OutOfLayout => 17,
-        Checked::TooFew => run_made(run, answers, false, &mut written),
-        Checked::Enough => run_made(run, answers, true, &mut written),
+    match runlayout::check_calls(run, answers.len() / 4) {
+        None => Refusal::OutOfForm.number(),
+        Some(enough) => run_made(run, answers, enough, &mut table),
     }
 }

@@ -14,7 +14,7 @@ use Rattle.cuttree.specs.Run.{Call, put, add, delete, query, copies_of, branch_o
 use Rattle.cuttree.proofs.Tests.{by-test, cond_true, cond_false}
 use Rattle.wholetree.specs.Whole.{whole}
 use Rattle.randomcuttree.specs.declared.RCFTree.{RCFTree}
-use Rattle.treestore.specs.Arrays.{Lent}
+use Rattle.treestore.specs.Arrays.{NodeStore}
 use Rattle.randomcuttree.specs.State.{SomeState}
 use Rattle.randomcuttree.specs.Queries.{SomeBoxRead}
 use Rattle.calls.specs.Done.{Does, Done, query_of}
@@ -56,18 +56,18 @@ module _ (bytes : List ℕ) (p : ℕ) where
     words_kept f = sym (cond_false _ _ _ (ne_eqb (number bytes p) 4 (λ x. f (e ∙ x))))
 
   -- from what the call of the kind did to what the call at the place did
-  module _ (tree : RCFTree) (a : Lent) (points : List (List Float)) (marks : List ℕ) (tree' : RCFTree) (b : Lent) (points' : List (List Float)) (marks' reply : List ℕ) (k : ℕ) (e : k ≡ number bytes p) where
+  module _ (tree : RCFTree) (a : NodeStore) (points : List (List Float)) (marks : List ℕ) (tree' : RCFTree) (b : NodeStore) (points' : List (List Float)) (marks' reply : List ℕ) (k : ℕ) (e : k ≡ number bytes p) where
     same : (x y : (d : ℕ) → Call (whole d)) → ((d : ℕ) → x d ≡ y d) → Does y tree a points marks tree' b points' marks' reply → Does x tree a points marks tree' b points' marks' reply
     same x y f D d c s W S = subst (λ (z : Call (whole d)). Done d c s W z tree' b points' marks' reply) (sym (f d)) (D d c s W S)
 
     pub put_there : k ≡ 3 → Does (λ d. put (number bytes (p + 1)) (coordinates_at bytes p)) tree a points marks tree' b points' marks' reply → Does (λ d. plain_at bytes d p) tree a points marks tree' b points' marks' reply
-    put_there f = same (λ d. plain_at bytes d p) _ (λ d. cond_true _ _ _ (eq-eqb (number bytes p) 3 (sym e ∙ f)))
+    put_there f = same (λ d. plain_at bytes d p) _ (λ d. rw (← e, f) refl)
 
-    pub add_there : (k ≡ 3 → ⊥) → k ≡ 4 → Does (λ d. add (number bytes (p + 1)) (words_at bytes p)) tree a points marks tree' b points' marks' reply → Does (λ d. plain_at bytes d p) tree a points marks tree' b points' marks' reply
-    add_there f g = same (λ d. plain_at bytes d p) _ (λ d. cond_false _ _ _ (ne_eqb (number bytes p) 3 (λ x. f (e ∙ x))) ∙ cond_true _ _ _ (eq-eqb (number bytes p) 4 (sym e ∙ g)))
+    pub add_there : k ≡ 4 → Does (λ d. add (number bytes (p + 1)) (words_at bytes p)) tree a points marks tree' b points' marks' reply → Does (λ d. plain_at bytes d p) tree a points marks tree' b points' marks' reply
+    add_there f = same (λ d. plain_at bytes d p) _ (λ d. rw (← e, f) refl)
 
-    pub delete_there : (k ≡ 3 → ⊥) → (k ≡ 4 → ⊥) → k ≡ 5 → Does (λ d. delete (number bytes (p + 1))) tree a points marks tree' b points' marks' reply → Does (λ d. plain_at bytes d p) tree a points marks tree' b points' marks' reply
-    delete_there f g h = same (λ d. plain_at bytes d p) _ (λ d. cond_false _ _ _ (ne_eqb (number bytes p) 3 (λ x. f (e ∙ x))) ∙ cond_false _ _ _ (ne_eqb (number bytes p) 4 (λ x. g (e ∙ x))) ∙ cond_true _ _ _ (eq-eqb (number bytes p) 5 (sym e ∙ h)))
+    pub delete_there : k ≡ 5 → Does (λ d. delete (number bytes (p + 1))) tree a points marks tree' b points' marks' reply → Does (λ d. plain_at bytes d p) tree a points marks tree' b points' marks' reply
+    delete_there f = same (λ d. plain_at bytes d p) _ (λ d. rw (← e, f) refl)
 
     queried : (d x : ℕ) → cond {A = Call (whole d)} (eqb (number bytes p) 8) (query (copies_of x)) (cond (eqb (number bytes p) 9) (query (branch_of x)) (query (box_of x))) ≡ query (query_of (number bytes p) x)
     queried d x = by-test (eqb (number bytes p) 8) (λ f. rw f refl) (λ f. by-test (eqb (number bytes p) 9) (λ g. rw (f, g) refl) (λ g. rw (f, g) refl))
@@ -77,5 +77,5 @@ module _ (bytes : List ℕ) (p : ℕ) where
         ∙ queried d (number bytes (p + 1)) ∙ (rw (← e, ← y) refl))
 
 -- what a query asks of its caller, of a lent state
-pub readable : (tree : RCFTree) (a : Lent) (points : List (List Float)) (marks : List ℕ) → SomeState tree a points marks → SomeBoxRead tree a.nodes points a.boxes
+pub readable : (tree : RCFTree) (a : NodeStore) (points : List (List Float)) (marks : List ℕ) → SomeState tree a points marks → SomeBoxRead tree a.nodes points a.boxes
 readable tree a points marks S = record { lent = a; marks = marks; read = record { nodes_are = refl; boxes_are = refl }; state = S }

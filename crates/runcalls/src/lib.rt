@@ -5,81 +5,70 @@ ghost use Rattle.std.specs.Prelude.{◌≡◌, true, ◌+◌, ◌*◌, ◌≤◌
 ghost use Rattle.std.proofs.lemmas.List.Edits.{sets};
 ghost use Rattle.limits.specs.Limits.{capacity_limit};
 ghost use Rattle.cuttree.specs.Run.{put, add, delete};
-ghost use Rattle.treestore.specs.Arrays.{Lent, lent};
+ghost use Rattle.treestore.specs.Arrays.{NodeStore};
 ghost use Rattle.randomcuttree.specs.State.{SomeState};
 ghost use Rattle.calls.specs.Done.{Does};
 ghost use Rattle.runlayout.specs.Layout.{size, number, coordinates_at, words_at, IsPlain, plain_at, stands_at};
 ghost use Rattle.runcalls.specs.Words.{words_after};
 
 use answers::Reply;
-use limits::{Boxes, CAPACITY, COORDINATES, Copies, Cuts, Free, Marks, Nodes, Points, Words};
+use limits::{CAPACITY, COORDINATES, Copies, Words};
+use pointstore::PointStore;
 use randomcuttree::RCFTree;
+use treestore::NodeStore;
 
 fn put_call(
     tree: RCFTree,
     copies: &Copies,
-    points: &mut Points,
-    written: &mut Marks,
+    table: &mut PointStore,
     run: &[u8],
     p: usize,
     reply: &mut Reply,
 )
     requires { p + 3 + number run.now (p + 2) ≤ size run.now }
-    ensures { (a : Lent) → a.copies ≡ copies.now → Does (λ d. put (number run.now (p + 1)) (coordinates_at run.now p)) tree a points.old written.old tree a points.new written.new reply.new }
+    ensures { (a : NodeStore) → a.copies ≡ copies.now → Does (λ d. put (number run.now (p + 1)) (coordinates_at run.now p)) tree a table.old.points table.old.written tree a table.new.points table.new.written reply.new }
 {
     let index = runlayout::number_at(run, p + 1);
     let n = casts::at_most(runlayout::number_at(run, p + 2), COORDINATES);
-    let mut coordinates = [0.0f32; COORDINATES];
-    rungiven::read_coordinates(run, p + 3, n, &mut coordinates);
-    calls::put(tree, copies, points, written, index, &coordinates, n, reply);
+    let mut room = [0.0f32; COORDINATES];
+    let coordinates = &mut room[..n];
+    rungiven::read_coordinates(run, p + 3, coordinates);
+    calls::put(tree, copies, table, index, coordinates, reply);
 }
 
 fn add_call(
     tree: RCFTree,
-    nodes: &mut Nodes,
-    cuts: &mut Cuts,
-    copies: &mut Copies,
-    free: &mut Free,
-    boxes: &mut Boxes,
-    points: &Points,
-    written: &Marks,
+    store: &mut NodeStore,
+    table: &PointStore,
     run: &[u8],
     p: usize,
     words: &mut Words,
     reply: &mut Reply,
 ) -> RCFTree
-    requires { (p + 3 + 2 * number run.now (p + 2) ≤ size run.now) × SomeState tree (lent nodes.old cuts.old copies.old free.old boxes.old) points.now written.now }
-    ensures done { Does (λ d. add (number run.now (p + 1)) (words_at run.now p)) tree (lent nodes.old cuts.old copies.old free.old boxes.old) points.now written.now result (lent nodes.new cuts.new copies.new free.new boxes.new) points.now written.now reply.new }
+    requires { (p + 3 + 2 * number run.now (p + 2) ≤ size run.now) × SomeState tree store.old table.now.points table.now.written }
+    ensures done { Does (λ d. add (number run.now (p + 1)) (words_at run.now p)) tree store.old table.now.points table.now.written result store.new table.now.points table.now.written reply.new }
     ensures words { words.new ≡ sets words.old 0 (take capacity_limit (words_at run.now p)) }
 {
     let index = runlayout::number_at(run, p + 1);
     let n = casts::at_most(runlayout::number_at(run, p + 2), CAPACITY);
-    rungiven::read_words(run, p + 3, n, words);
-    calls::add(
-        tree, nodes, cuts, copies, free, boxes, points, written, index, words, n, reply,
-    )
+    let first = &mut words[..n];
+    rungiven::read_words(run, p + 3, first);
+    calls::add(tree, store, table, index, first, reply)
 }
 
 fn delete_call(
     tree: RCFTree,
-    nodes: &mut Nodes,
-    cuts: &mut Cuts,
-    copies: &mut Copies,
-    free: &mut Free,
-    boxes: &mut Boxes,
-    points: &Points,
-    written: &Marks,
+    store: &mut NodeStore,
+    table: &PointStore,
     run: &[u8],
     p: usize,
     reply: &mut Reply,
 ) -> RCFTree
-    requires { (p + 2 ≤ size run.now) × SomeState tree (lent nodes.old cuts.old copies.old free.old boxes.old) points.now written.now }
-    ensures { Does (λ d. delete (number run.now (p + 1))) tree (lent nodes.old cuts.old copies.old free.old boxes.old) points.now written.now result (lent nodes.new cuts.new copies.new free.new boxes.new) points.now written.now reply.new }
+    requires { (p + 2 ≤ size run.now) × SomeState tree store.old table.now.points table.now.written }
+    ensures { Does (λ d. delete (number run.now (p + 1))) tree store.old table.now.points table.now.written result store.new table.now.points table.now.written reply.new }
 {
     let index = runlayout::number_at(run, p + 1);
-    calls::delete(
-        tree, nodes, cuts, copies, free, boxes, points, written, index, reply,
-    )
+    calls::delete(tree, store, table, index, reply)
 }
 
 // The put, add, delete or query at a place of the run: its answer's numbers in the reply, with 0 after them, and the header after it. An add reads its
@@ -87,39 +76,30 @@ fn delete_call(
 // Rules out a call read from another place, and lent words written by a put.
 pub fn call_at(
     tree: RCFTree,
-    nodes: &mut Nodes,
-    cuts: &mut Cuts,
-    copies: &mut Copies,
-    free: &mut Free,
-    boxes: &mut Boxes,
-    points: &mut Points,
-    written: &mut Marks,
+    store: &mut NodeStore,
+    table: &mut PointStore,
     run: &[u8],
     p: usize,
     words: &mut Words,
     reply: &mut Reply,
 ) -> RCFTree
     requires plain { IsPlain (number run.now p) × (stands_at run.now p ≡ true) }
-    requires state { SomeState tree (lent nodes.old cuts.old copies.old free.old boxes.old) points.old written.old }
-    ensures done { Does (λ d. plain_at run.now d p) tree (lent nodes.old cuts.old copies.old free.old boxes.old) points.old written.old result (lent nodes.new cuts.new copies.new free.new boxes.new) points.new written.new reply.new }
+    requires state { SomeState tree store.old table.old.points table.old.written }
+    ensures done { Does (λ d. plain_at run.now d p) tree store.old table.old.points table.old.written result store.new table.new.points table.new.written reply.new }
     ensures words { words.new ≡ words_after run.now p words.old }
 {
     let kind = runlayout::number_at(run, p);
-    if kind == 3 {
-        put_call(tree, copies, points, written, run, p, reply);
-        return tree;
+    match kind {
+        3 => {
+            put_call(tree, &store.copies, table, run, p, reply);
+            tree
+        }
+        4 => add_call(tree, store, table, run, p, words, reply),
+        5 => delete_call(tree, store, table, run, p, reply),
+        _ => {
+            let id = runlayout::number_at(run, p + 1);
+            calls::query(tree, store, &table.points, kind, id, reply);
+            tree
+        }
     }
-    if kind == 4 {
-        return add_call(
-            tree, nodes, cuts, copies, free, boxes, points, written, run, p, words, reply,
-        );
-    }
-    if kind == 5 {
-        return delete_call(
-            tree, nodes, cuts, copies, free, boxes, points, written, run, p, reply,
-        );
-    }
-    let id = runlayout::number_at(run, p + 1);
-    calls::query(tree, nodes, cuts, copies, points, boxes, kind, id, reply);
-    tree
 }

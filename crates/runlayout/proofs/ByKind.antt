@@ -1,5 +1,5 @@
 -- The kinds of a run's calls: the numbers of a call and of its answer by its kind, and which kinds stand in a run. Laws.
-use mathlib.Core.Path.{◌≡◌, refl, sym, ap, ◌∙◌, subst}
+use mathlib.Core.Path.{◌≡◌, refl}
 use mathlib.Core.Bool.{Bool, true, false, cond, ◌&&◌, ◌||◌}
 use mathlib.Core.List.{List}
 use Prim.Native.Nat.{ℕ, zero, suc, ◌+◌, ◌*◌, ◌≤◌}
@@ -7,9 +7,8 @@ use native.Mathlib.Omega.{arith}
 use borrow.Author.Tests.{eqb-true, eqb-false, leb-true, ne_eqb}
 use lib.Dec.{eqb, leb}
 use lib.Ieee.{binary32, of_bits}
-use Rattle.cuttree.specs.Run.{Call, put, add, delete, query, copies_of, branch_of, box_of}
+use Rattle.cuttree.specs.Run.{put, add, delete, query, copies_of, branch_of, box_of}
 use Rattle.cuttree.proofs.Tests.{by_cond, by-test, clash}
-use Rattle.wholetree.specs.Whole.{whole}
 use Rattle.runlayout.specs.Layout.{RunCall, plain, arrives, reports, sample, is_call, call_width, number, double, coordinates_at, words_at, arrival_words_at, call_at}
 use Rattle.runlayout.specs.Check.{width_of, width_of_kind}
 

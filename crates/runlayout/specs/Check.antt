@@ -1,11 +1,10 @@
 -- How many numbers a run's answers take, and whether those lent are enough. Definitions.
-use Rattle.std.specs.Prelude.{cond, List, [], ◌∷◌, ℕ, ◌+◌, ◌*◌, eqb, leb}
-use Rattle.std.proofs.Math.Option.{Option, none, some}
+use Rattle.std.specs.Prelude.{Bool, cond, List, [], ◌∷◌, ℕ, ◌+◌, ◌*◌, eqb, leb, Option, None, Some}
+use Rattle.std.proofs.Math.Option as Math
+use Rattle.std.proofs.Math.Option.{none, some}
 use Rattle.cuttree.specs.Run.{Call, put, add, delete, query, copies_of, branch_of, box_of}
 use Rattle.wholetree.specs.Whole.{whole}
-use Rattle.runlayout.specs.Layout.{RunCall, plain, arrives, reports, sample, number, call_at}
-use Rattle.runlayout.specs.declared.Checked.{Checked}
-use Rattle.runlayout.specs.declared.Checked.TheVariants.{OutOfLayout, TooFew, Enough}
+use Rattle.runlayout.specs.Layout.{RunCall, plain, arrives, reports, sample}
 
 -- the numbers of a call's answer: of a put, an add, a delete or a query
 abbrev pub plain_width : (d : ℕ) → Call (whole d) → ℕ
@@ -40,7 +39,7 @@ module _ (d c : ℕ) where
       (cond (eqb k 10) (1 + 2 * d)
       (cond (eqb k 11) (2 + 2 * c) 2))))))
 
-  -- of calls whose answers come after `used` numbers, with so many lent
-  abbrev pub verdict : (lent used : ℕ) → Option (List (RunCall d)) → Checked
-  verdict lent used none = OutOfLayout
-  verdict lent used (some cs) = cond (leb (used + widths cs) lent) Enough TooFew
+  -- whether those lent are enough for calls whose answers come after `used` numbers; None where the calls are out of the layout
+  abbrev pub verdict : (lent used : ℕ) → Math.Option (List (RunCall d)) → Option Bool
+  verdict lent used none = None
+  verdict lent used (some cs) = Some (leb (used + widths cs) lent)

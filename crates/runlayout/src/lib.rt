@@ -1,17 +1,9 @@
 // The layout of a byte run (docs/LAYOUT.md): the numbers in it, whether all of it is in the layout, and how much its answers take.
 #![tactic(auto)]
 
-ghost use Rattle.std.specs.Prelude.{◌≡◌, true, cond, ◌+◌, ◌*◌, ◌/◌, ◌<◌, ◌≤◌, leb, length};
+ghost use Rattle.std.specs.Prelude.{◌≡◌, true, ◌+◌, ◌*◌, ◌/◌, ◌<◌, ◌≤◌, length};
 ghost use Rattle.runlayout.specs.Layout.{size, number, double, is_call, call_width, is_sampled, making_width, begins_with_making, width_at, stands_at, channels, capacity, rest_from};
 ghost use Rattle.runlayout.specs.Check.{width_of_kind, verdict};
-
-// Whether a run is in the layout, and whether as many answer numbers are lent as it needs.
-#[derive(Clone, Copy)]
-pub enum Checked {
-    OutOfLayout,
-    TooFew,
-    Enough,
-}
 
 // How many whole numbers a run has.
 // Rules out the number of bytes, and a number begun and not ended counted.
@@ -71,25 +63,22 @@ pub fn making_width(run: &[u8]) -> usize
 pub fn begins_with_making(run: &[u8]) -> bool
     ensures { result ≡ begins_with_making run.now }
 {
-    if run.len() % 4 != 0 {
-        return false;
-    }
-    if size_of(run) == 0 {
-        return false;
-    }
-    let kind = number_at(run, 0);
-    ((kind == 1) | (kind == 2)) & (making_width(run) <= size_of(run))
+    run.len() % 4 == 0
+        && size_of(run) != 0
+        && matches!(number_at(run, 0), 1 | 2)
+        && making_width(run) <= size_of(run)
 }
 
-// Whether a call of a kind may stand in the run of a bare or a sampled tree.
+// Whether a call of a kind may stand in the run of a bare or a sampled tree. Kinds stay numbers: those of docs/LAYOUT.md, which C writes.
 fn is_call(sampled: bool, kind: usize) -> bool
     ensures { result ≡ is_call sampled kind }
 {
-    let both = (kind == 3) | ((7 <= kind) & (kind <= 10));
-    if sampled {
-        return both | ((kind == 6) | (kind == 11));
+    match kind {
+        3 | 7..=10 => true,
+        4 | 5 => !sampled,
+        6 | 11 => sampled,
+        _ => false,
     }
-    both | ((kind == 4) | (kind == 5))
 }
 
 // The number at a place, 0 beyond the run's end.
@@ -105,20 +94,18 @@ pub fn number_or_none(run: &[u8], p: usize) -> usize
 }
 
 // How many numbers a call has, by its kind, its third number and its sixth.
+#[tactic(auto, unfolding(crate::specs::Layout::call_width))]
 fn call_width(kind: usize, third: usize, sixth: usize) -> usize
     requires { (third < 4294967296) × (sixth < 4294967296) }
     ensures { (result ≡ call_width kind third sixth) × (1 ≤ result) × (result < 8589934600) }
 {
-    if (kind == 3) | (kind == 7) {
-        return 3 + third;
+    match kind {
+        3 | 7 => 3 + third,
+        4 => 3 + 2 * third,
+        6 => 6 + 2 * sixth,
+        11 => 1,
+        _ => 2,
     }
-    if kind == 4 {
-        return 3 + 2 * third;
-    }
-    if kind == 6 {
-        return 6 + 2 * sixth;
-    }
-    if kind == 11 { 1 } else { 2 }
 }
 
 // How many numbers the call at a place has.
@@ -137,39 +124,25 @@ fn stands_at(run: &[u8], p: usize, sampled: bool) -> bool
     requires { (p < size run.now) × (length run.now ≡ 4 * size run.now) × (sampled ≡ is_sampled run.now) }
     ensures { result ≡ stands_at run.now p }
 {
-    if !is_call(sampled, number_at(run, p)) {
-        return false;
-    }
-    p + width_at(run, p) <= size_of(run)
+    is_call(sampled, number_at(run, p)) && p + width_at(run, p) <= size_of(run)
 }
 
 // How many numbers the answer to a call has, by its kind and its second number, in a tree of d channels and capacity c.
+#[tactic(auto, unfolding(crate::specs::Check::width_of_kind))]
 fn width_of_kind(kind: usize, second: usize, d: usize, c: usize) -> usize
     requires { (d < 4294967296) × (c < 4294967296) × (second < 4294967296) }
     ensures { (result ≡ width_of_kind d c kind second) × (result < 34359738368) }
 {
-    if kind == 3 {
-        return 1;
+    match kind {
+        3 => 1,
+        4 => 3,
+        6 => 4,
+        7 => 2 + 5 * second,
+        9 => 6,
+        10 => 1 + 2 * d,
+        11 => 2 + 2 * c,
+        _ => 2,
     }
-    if kind == 4 {
-        return 3;
-    }
-    if kind == 6 {
-        return 4;
-    }
-    if kind == 7 {
-        return 2 + 5 * second;
-    }
-    if kind == 9 {
-        return 6;
-    }
-    if kind == 10 {
-        return 1 + 2 * d;
-    }
-    if kind == 11 {
-        return 2 + 2 * c;
-    }
-    2
 }
 
 // How many numbers the answer to the call at a place has.
@@ -187,20 +160,9 @@ pub fn answer_width(run: &[u8], p: usize) -> usize
     )
 }
 
-// The numbers used with a width more. Once they are more than those lent it no longer matters by how many.
-fn with_width(used: usize, width: usize, lent: usize) -> usize
-    requires { (lent < 4611686018427387904) × (width < 34359738368) }
-    ensures { result ≡ cond (leb used lent) (used + width) used }
-{
-    if used <= lent {
-        return used + width;
-    }
-    used
-}
-
-// Whether the calls after the making are in the layout, and as many answer numbers are lent as they need beside the making's one.
+// Whether as many answer numbers are lent as the calls after the making need, beside the making's one; None where these are out of the layout.
 // Rules out a call cut short at the run's end, and answers too few told for a run that is out of the layout.
-pub fn check_calls(run: &[u8], lent: usize) -> Checked
+pub fn check_calls(run: &[u8], lent: usize) -> Option<bool>
     requires { (begins_with_making run.now ≡ true) × (lent < 4611686018427387904) }
     ensures { result ≡ verdict (channels run.now) (capacity run.now) lent 1 (rest_from run.now (channels run.now) (making_width run.now)) }
 {
@@ -208,15 +170,13 @@ pub fn check_calls(run: &[u8], lent: usize) -> Checked
     let sampled = is_sampled(run);
     let mut p = making_width(run);
     let mut used: usize = 1;
+    // A turn goes on by a call's width, so this is no `for`.
     while p < n {
         if !stands_at(run, p, sampled) {
-            return Checked::OutOfLayout;
+            return None;
         }
-        used = with_width(used, answer_width(run, p), lent);
-        p = p + width_at(run, p);
+        used = used.saturating_add(answer_width(run, p));
+        p += width_at(run, p);
     }
-    if used <= lent {
-        return Checked::Enough;
-    }
-    Checked::TooFew
+    Some(used <= lent)
 }

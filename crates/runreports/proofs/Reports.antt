@@ -19,19 +19,21 @@ use Rattle.cuttree.proofs.Leaves.{walk_leaves}
 use Rattle.wholetree.specs.Reading.{Reading, reading}
 use Rattle.wholetree.specs.Whole.{whole, tab}
 use Rattle.wholetree.proofs.Readings.{tab_length}
-use Rattle.treestore.specs.Arrays.{Lent}
+use Rattle.treestore.specs.Arrays.{NodeStore}
 use Rattle.randomcuttree.specs.declared.RCFTree.{RCFTree}
 use Rattle.randomcuttree.specs.State.{State}
 use Rattle.randomcuttree.proofs.Given.{walks_of}
 use Rattle.answers.specs.Said.{filled}
 use Rattle.answers.proofs.Told.{filled_length}
-use Rattle.nodeview.specs.declared.ReportAnswer.{ReportAnswer}
-use Rattle.nodeview.specs.Report.{ReportRow, coordinate_count, bad_coordinate, few_rows, Report, refused, rows, refuse, row_at, rows_of, report_in, report_of}
-use Rattle.nodeview.specs.Told.{numbers_of, report_says, rows_after, Reported, ReportTold, SomeReportRead}
+use Rattle.std.specs.Prelude.{Result}
+use Rattle.refusals.specs.declared.Refusal.{Refusal}
+use Rattle.refusals.specs.Refusals.{number as refusal_number}
+use Rattle.nodeview.specs.Report.{ReportRow, ReportRefusal, report_number, coordinate_count, bad_coordinate, tree_empty, few_rows, Report, refused, rows, refuse, row_at, rows_of, report_in, report_of}
+use Rattle.nodeview.specs.Told.{numbers_of, refusal_told, report_says, rows_after, ReportTold, SomeReportRead}
 use Rattle.nodeview.specs.Walking.{tree_walked, Left, MemoryLeft}
 use Rattle.runlayout.specs.Layout.{number, coordinates_at}
 use Rattle.runreports.specs.Numbers.{row_numbers, report_numbers, ReportWidth}
-use Rattle.runreports.specs.Written.{five_of, lent_numbers, rows_in, answer_numbers, ReportFirst, ReportAt}
+use Rattle.runreports.specs.Written.{five_of, lent_numbers, rows_in, answer_numbers, ReportAt}
 
 -- ---- the numbers of an answer
 pub report_width : ReportWidth
@@ -42,8 +44,14 @@ rows_lent : (rs : List ReportRow) → lent_numbers (map numbers_of rs) ≡ row_n
 rows_lent [] = refl
 rows_lent (r ∷ rs) = ap {B = List ℕ} (λ l. five_of (numbers_of r) ++ l) (rows_lent rs)
 
+told_number : (r : ReportRefusal) → refusal_number (refusal_told r) ≡ report_number r
+told_number coordinate_count = refl
+told_number bad_coordinate = refl
+told_number tree_empty = refl
+told_number few_rows = refl
+
 answer_is : (n : ℕ) (x : Report) (work : List (List ℕ)) → answer_numbers n (report_says x) (rows_after x work) ≡ report_numbers n x
-answer_is n (refused r) work = refl
+answer_is n (refused r) work = ap {B = List ℕ} (λ k. k ∷ 0 ∷ filled (5 * n) []) (told_number r)
 answer_is n (rows rs) work =
     ap {B = List ℕ} (λ l. 0 ∷ length rs ∷ filled (5 * n) (lent_numbers l)) (take_at (map numbers_of rs) (drop (length rs) work) (length rs) (length-map rs numbers_of))
     ∙ ap {B = List ℕ} (λ l. 0 ∷ length rs ∷ filled (5 * n) l) (rows_lent rs)
@@ -65,21 +73,14 @@ module _ (d c : ℕ) (W : World (whole d)) where
       (λ _. by_cond (λ x. count x ≤ n) (not ((whole d).good xs)) _ _ (λ _. zero-le) (λ _. in_lent W.tree n ((whole d).point xs)))
 
 -- the first n of the working rows are lent, and those beyond them stay
-pub first_told : (tree : RCFTree) (nodes : List (List ℕ)) (cuts : List Float) (copies : List ℕ) (points : List (List Float)) (boxes : List (List (List Float))) (xs : List Float) (n : ℕ) (work lent lent' : List (List ℕ)) (r : ReportAnswer)
-    → n ≤ length work → lent ≡ take n work → ReportTold tree nodes cuts copies points boxes xs lent r lent' → ReportFirst tree nodes cuts copies points boxes xs n work r (lent' ++ drop n work)
-first_told tree nodes cuts copies points boxes xs n work lent lent' r h e told d c s W a marks S R =
-    let m : length lent ≡ n = ap length e ∙ length-take-le n work h in
-    let D : Reported (report_of d c W n xs) lent r lent' = rw m at (told d c s W a marks S R) in
-    record { answer = D.answer; after = ap (λ (l : List (List ℕ)). l ++ drop n work) (D.after ∙ ap (rows_after (report_of d c W n xs)) e) ∙ joined (report_of d c W n xs) (within_lent d c W n xs) }
-  where
-    joined : (x : Report) → count x ≤ n → rows_after x (take n work) ++ drop n work ≡ rows_after x work
-    joined (refused z) k = take-append-drop n work
-    joined (rows rs) k =
-        append_assoc (map numbers_of rs) (drop (length rs) (take n work)) (drop n work)
-        ∙ ap (λ (l : List (List ℕ)). map numbers_of rs ++ l) (sym (drop-append-le (length rs) (take n work) (drop n work) (omega (arith, length-take n work))) ∙ ap (drop (length rs)) (take-append-drop n work))
+joined : (x : Report) (n : ℕ) (work : List (List ℕ)) → n ≤ length work → count x ≤ n → rows_after x (take n work) ++ drop n work ≡ rows_after x work
+joined (refused z) n work h k = take-append-drop n work
+joined (rows rs) n work h k =
+    append_assoc (map numbers_of rs) (drop (length rs) (take n work)) (drop n work)
+    ∙ ap (λ (l : List (List ℕ)). map numbers_of rs ++ l) (sym (drop-append-le (length rs) (take n work) (drop n work) (omega (arith, length-take n work))) ∙ ap (drop (length rs)) (take-append-drop n work))
 
 -- ---- a state's world
-module _ {d c : ℕ} {s : Float} {W : World (whole d)} {tree : RCFTree} {a : Lent} {points : List (List Float)} {marks : List ℕ} (S : State d c s W tree a points marks) where
+module _ {d c : ℕ} {s : Float} {W : World (whole d)} {tree : RCFTree} {a : NodeStore} {points : List (List Float)} {marks : List ℕ} (S : State d c s W tree a points marks) where
   -- no walk has more nodes than a tree has leaves
   walk_few : (t : Tree (whole d)) → W.tree ≡ some t → (p : Reading) → walk (whole d) t p ≤ capacity_limit
   walk_few t T p = omega (arith, walk_leaves (whole d) t p, (walks_of S T p p.row refl).few, S.limits.3)
@@ -114,28 +115,29 @@ module _ {d c : ℕ} {s : Float} {W : World (whole d)} {tree : RCFTree} {a : Len
       (λ x. rw x at left)
       (λ x y. rw (cond_false _ _ _ y) (rw (cond_false _ _ _ x) at left))
 
--- ---- the report at a place
-module _ (tree : RCFTree) (nodes : List (List ℕ)) (cuts : List Float) (copies : List ℕ) (points : List (List Float)) (boxes : List (List (List Float))) (xs : List Float) (n m : ℕ) (few : m ≡ min n capacity_limit) (work work' : List (List ℕ)) (r : ReportAnswer)
-    (first : ReportFirst tree nodes cuts copies points boxes xs m work r work') where
-  -- as many rows are written as there are working ones, at most
-  pub rows_limit : SomeReportRead tree nodes cuts copies points boxes → rows_in r ≤ capacity_limit
+-- ---- the report at a place, with the first m of the working rows lent, which are all or as many as were asked for
+module _ (tree : RCFTree) (nodes : List (List ℕ)) (cuts : List Float) (copies : List ℕ) (points : List (List Float)) (boxes : List (List (List Float))) (xs : List Float) (n m : ℕ) (few : m ≡ min n capacity_limit) (work lent lent' : List (List ℕ)) (fits : m ≤ length work) (e : lent ≡ take m work)
+    (r : Result ℕ Refusal) (told : ReportTold tree nodes cuts copies points boxes xs lent r lent') where
+  pub rows_limit : SomeReportRead tree nodes cuts copies points boxes → rows_in r ≤ length lent
   rows_limit P =
       let S = P.state in
-      let D = first S.channels S.capacity S.share S.world P.lent P.marks S.state P.read in
-      omega (arith, few, ap rows_in D.answer, within_lent S.channels S.capacity S.world m xs)
+      let D = told S.channels S.capacity S.share S.world P.lent P.marks S.state P.read in
+      omega (arith, ap rows_in D.answer, within_lent S.channels S.capacity S.world (length lent) xs)
 
   -- the numbers read at the place, and what is written
   pub report_there : (run : List ℕ) (p out j k : ℕ) (answers answers' : List ℕ) → n ≡ number run (p + 1) → j ≡ number run (p + 2) → k ≡ min j (width + 1)
-      → xs ≡ tab k (λ (i : ℕ). of_bits binary32 (number run (p + 3 + i))) → answers' ≡ sets answers (4 * out) (bytes_of (answer_numbers n r work'))
-      → ReportAt tree nodes cuts copies points boxes run p out answers work answers' work'
-  report_there run p out j k answers answers' e f g h w d c s W a marks S R =
-      let D = first d c s W a marks S R in
+      → xs ≡ tab k (λ (i : ℕ). of_bits binary32 (number run (p + 3 + i))) → answers' ≡ sets answers (4 * out) (bytes_of (answer_numbers n r lent'))
+      → ReportAt tree nodes cuts copies points boxes run p out answers work answers' (lent' ++ drop m work)
+  report_there run p out j k answers answers' asked f g h w d c s W a marks S R =
+      let D = told d c s W a marks S R in
       let x = report_of d c W (number run (p + 1)) (coordinates_at run p) in
-      let same : report_of d c W m xs ≡ x = few_rows_lem S n m xs few ∙ ap (report_of d c W n) h ∙ few_coordinates S n _ j k g ∙ ap (λ (i : ℕ). report_of d c W n (tab i (λ (q : ℕ). of_bits binary32 (number run (p + 3 + q))))) f ∙ ap (λ (i : ℕ). report_of d c W i (coordinates_at run p)) e in
+      let long : length lent ≡ m = ap length e ∙ length-take-le m work fits in
+      let same : report_of d c W (length lent) xs ≡ x = ap (λ (i : ℕ). report_of d c W i xs) long ∙ few_rows_lem S n m xs few ∙ ap (report_of d c W n) h ∙ few_coordinates S n _ j k g ∙ ap (λ (i : ℕ). report_of d c W n (tab i (λ (q : ℕ). of_bits binary32 (number run (p + 3 + q))))) f ∙ ap (λ (i : ℕ). report_of d c W i (coordinates_at run p)) asked in
+      let within : count x ≤ m = omega (arith, ap count same, within_lent d c W (length lent) xs, long) in
       let answer : r ≡ report_says x = D.answer ∙ ap report_says same in
-      let after : work' ≡ rows_after x work = D.after ∙ ap (λ (y : Report). rows_after y work) same in
-      let said : answer_numbers n r work' ≡ report_numbers (number run (p + 1)) x = rw (answer, after, e) (answer_is (number run (p + 1)) x work) in
-      record { numbers = w ∙ ap (λ (l : List ℕ). sets answers (4 * out) (bytes_of l)) said; rows = after }
+      let after : lent' ≡ rows_after x lent = D.after ∙ ap (λ (y : Report). rows_after y lent) same in
+      let said : answer_numbers n r lent' ≡ report_numbers (number run (p + 1)) x = rw (answer, after, asked) (answer_is (number run (p + 1)) x lent) in
+      record { numbers = w ∙ ap (λ (l : List ℕ). sets answers (4 * out) (bytes_of l)) said; rows = ap (λ (l : List (List ℕ)). l ++ drop m work) (after ∙ ap (rows_after x) e) ∙ joined x m work fits within }
 
 pub memory_there : (tree : RCFTree) (nodes : List (List ℕ)) (cuts : List Float) (copies : List ℕ) (points : List (List Float)) (boxes : List (List (List Float))) (xs : List Float) (path : List (List ℕ)) (chances : List Float) (path' : List (List ℕ)) (chances' : List Float)
     (run : List ℕ) (p j k : ℕ) → j ≡ number run (p + 2) → k ≡ min j (width + 1) → xs ≡ tab k (λ (i : ℕ). of_bits binary32 (number run (p + 3 + i)))

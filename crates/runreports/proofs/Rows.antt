@@ -3,12 +3,13 @@ use mathlib.Core.Path.{◌≡◌, refl, sym, ap, ◌∙◌}
 use mathlib.Core.List.{List, [], ◌∷◌, ◌++◌}
 use Prim.Native.Nat.{ℕ, zero, suc, ◌+◌, ◌*◌, ◌≤◌, ◌<◌}
 use native.Mathlib.Omega.{arith}
-use lib.ListN.{length, get_or, take, length-take, get_or-eq_default}
-use lib.Seq.{sets, length-sets, get_or-take}
+use lib.ListN.{length, get_or, take}
+use lib.Seq.{sets, length-sets}
 use Rattle.little.specs.Little.{bytes32, bytes_of}
 use Rattle.answers.specs.Said.{filled}
 use Rattle.answers.proofs.Written.{then_more}
-use Rattle.nodeview.specs.declared.ReportAnswer.{ReportAnswer}
+use Rattle.std.specs.Prelude.{Result}
+use Rattle.refusals.specs.declared.Refusal.{Refusal}
 use Rattle.runreports.specs.Numbers.{low_half, high_half}
 use Rattle.runreports.specs.Written.{five_of, lent_numbers, no_row, refusal_in, rows_in, answer_numbers}
 
@@ -24,19 +25,11 @@ five_put out row e e₁ e₂ e₃ e₄ e₅ v w x y z p q r s t f₁ f₂ f₃ f
     let same : ◌≡◌ {A = List ℕ} (v ∷ w ∷ x ∷ y ∷ z ∷ []) (five_of row) = cc in
     g₅ ∙ ap (λ (l : List ℕ). sets e (4 * out) (bytes_of l)) same
 
--- a row of those written, and one beyond them
-module _ (rows : List (List ℕ)) (count i : ℕ) where
-  pub row_written : (z : List ℕ) → i < count → i < length rows → get_or rows i z ≡ get_or (take count rows) i no_row
-  row_written z h m = other rows i m ∙ sym (get_or-take count rows i no_row h)
-    where
-      -- within the rows it does not matter what is read beyond them
-      other : (l : List (List ℕ)) (j : ℕ) → j < length l → get_or l j z ≡ get_or l j no_row
-      other [] j h = absurd (omega arith)
-      other (r ∷ rs) zero h = refl
-      other (r ∷ rs) (suc j) h = other rs j (omega arith)
-
-  pub row_beyond : count ≤ i → no_row ≡ get_or (take count rows) i no_row
-  row_beyond h = sym (get_or-eq_default (take count rows) no_row (omega (arith, length-take count rows)))
+-- within the rows it does not matter what is read beyond them
+pub row_written : (l : List (List ℕ)) (i : ℕ) (z : List ℕ) → i < length l → get_or l i z ≡ get_or l i no_row
+row_written [] j z h = absurd (omega arith)
+row_written (r ∷ rs) zero z h = refl
+row_written (r ∷ rs) (suc j) z h = row_written rs j z (omega arith)
 
 -- the first n rows, with rows of 0 after the end
 abbrev pub up_to : ℕ → List (List ℕ) → List (List ℕ)
@@ -84,7 +77,7 @@ module _ (rs : List (List ℕ)) (out i : ℕ) (e₀ e : List ℕ) (f : e ≡ set
   rows_all n h g = let same : i ≡ n = omega arith in f ∙ ap (λ (l : List ℕ). sets e₀ (4 * out) (bytes_of l)) (up_filled i rs ∙ ap (λ (m : ℕ). filled (5 * m) (lent_numbers rs)) same)
 
 -- the refusal, how many rows are written, then the rows
-pub report_put : (r : ReportAnswer) (work : List (List ℕ)) (n out : ℕ) (e e₁ e₂ e₃ : List ℕ) (k x : ℕ) → k ≡ rows_in r → x ≡ refusal_in r
+pub report_put : (r : Result ℕ Refusal) (work : List (List ℕ)) (n out : ℕ) (e e₁ e₂ e₃ : List ℕ) (k x : ℕ) → k ≡ rows_in r → x ≡ refusal_in r
     → e₁ ≡ sets e (4 * out) (bytes32 x) → e₂ ≡ sets e₁ (4 * (out + 1)) (bytes32 k) → e₃ ≡ sets e₂ (4 * (out + 2)) (bytes_of (filled (5 * n) (lent_numbers (take k work))))
     → e₃ ≡ sets e (4 * out) (bytes_of (answer_numbers n r work))
 report_put r work n out e e₁ e₂ e₃ k x p q f g h =

@@ -1,17 +1,18 @@
 -- The bytes that a report's answer is written to: of whatever is answered and lent, and of the report at a place of a run. Definitions.
-use Rattle.std.specs.Prelude.{◌≡◌, List, [], ◌∷◌, ◌++◌, ℕ, ◌+◌, ◌*◌, get_or, take, Float}
+use Rattle.std.specs.Prelude.{◌≡◌, List, [], ◌∷◌, ◌++◌, ℕ, ◌+◌, ◌*◌, get_or, take, Float, Result, Ok, Err}
+use Rattle.std.specs.Result.{result_unwrap_or}
 use Rattle.std.proofs.lemmas.List.Edits.{sets}
 use Rattle.little.specs.Little.{bytes_of}
 use Rattle.cuttree.specs.Run.{World}
+use Rattle.refusals.specs.declared.Refusal.{Refusal}
+use Rattle.refusals.specs.Refusals.{number as refusal_number}
 use Rattle.wholetree.specs.Whole.{whole}
-use Rattle.treestore.specs.Arrays.{Lent}
+use Rattle.treestore.specs.Arrays.{NodeStore}
 use Rattle.randomcuttree.specs.declared.RCFTree.{RCFTree}
 use Rattle.randomcuttree.specs.State.{State}
 use Rattle.answers.specs.Said.{filled}
-use Rattle.nodeview.specs.declared.ReportAnswer.{ReportAnswer}
-use Rattle.nodeview.specs.declared.ReportAnswer.TheVariants.{Rows, NoReport}
 use Rattle.nodeview.specs.Report.{Report, report_of}
-use Rattle.nodeview.specs.Told.{ReportRead, Reported, rows_after}
+use Rattle.nodeview.specs.Told.{ReportRead, rows_after}
 use Rattle.runlayout.specs.Layout.{number, coordinates_at}
 use Rattle.runreports.specs.Numbers.{low_half, high_half, report_numbers}
 
@@ -29,25 +30,18 @@ abbrev pub no_row : List ℕ
 no_row = 0 ∷ 0 ∷ 0 ∷ 0 ∷ []
 
 -- the refusal's number, 0 where there is none; how many rows are written
-abbrev pub refusal_in : ReportAnswer → ℕ
-refusal_in (Rows n) = 0
-refusal_in (NoReport r) = r
+abbrev pub refusal_in : Result ℕ Refusal → ℕ
+refusal_in (Ok n) = 0
+refusal_in (Err r) = refusal_number r
 
-abbrev pub rows_in : ReportAnswer → ℕ
-rows_in (Rows n) = n
-rows_in (NoReport r) = 0
+abbrev pub rows_in : Result ℕ Refusal → ℕ
+rows_in r = result_unwrap_or r 0
 
 -- the answer's numbers, with n rows lent
-abbrev pub answer_numbers : ℕ → ReportAnswer → List (List ℕ) → List ℕ
+abbrev pub answer_numbers : ℕ → Result ℕ Refusal → List (List ℕ) → List ℕ
 answer_numbers n r lent = refusal_in r ∷ rows_in r ∷ filled (5 * n) (lent_numbers (take (rows_in r) lent))
 
 -- ---- of a report
--- with the first n of the working rows lent to it
-abbrev pub ReportFirst : RCFTree → List (List ℕ) → List Float → List ℕ → List (List Float) → List (List (List Float)) → List Float → ℕ → List (List ℕ) → ReportAnswer → List (List ℕ) → Type 0
-ReportFirst tree nodes cuts copies points boxes xs n work r work' =
-    (d c : ℕ) (s : Float) (W : World (whole d)) (a : Lent) (marks : List ℕ) → State d c s W tree a points marks
-    → ReportRead a nodes cuts copies boxes → Reported (report_of d c W n xs) work r work'
-
 -- What the report x, with n rows lent, leaves: its numbers from the answer number `out` on, and its rows from the front of the working rows. Every other
 -- byte and row stays.
 pub record ReportWritten (x : Report) (n out : ℕ) (answers : List ℕ) (work : List (List ℕ)) (answers' : List ℕ) (work' : List (List ℕ)) : Type 0 where
@@ -57,5 +51,5 @@ pub record ReportWritten (x : Report) (n out : ℕ) (answers : List ℕ) (work :
 -- THE REPORT AT THE PLACE p of a run: that of each world whose header and arrays these are.
 abbrev pub ReportAt : RCFTree → List (List ℕ) → List Float → List ℕ → List (List Float) → List (List (List Float)) → (run : List ℕ) (p out : ℕ) → List ℕ → List (List ℕ) → List ℕ → List (List ℕ) → Type 0
 ReportAt tree nodes cuts copies points boxes run p out answers work answers' work' =
-    (d c : ℕ) (s : Float) (W : World (whole d)) (a : Lent) (marks : List ℕ) → State d c s W tree a points marks
+    (d c : ℕ) (s : Float) (W : World (whole d)) (a : NodeStore) (marks : List ℕ) → State d c s W tree a points marks
     → ReportRead a nodes cuts copies boxes → ReportWritten (report_of d c W (number run (p + 1)) (coordinates_at run p)) (number run (p + 1)) out answers work answers' work'

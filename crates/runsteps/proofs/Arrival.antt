@@ -11,12 +11,11 @@ use Rattle.little.specs.Little.{bytes_of}
 use Rattle.cuttree.proofs.Tests.{clash}
 use Rattle.wholetree.specs.Whole.{whole}
 use Rattle.sampledtree.specs.Sampled.{Sampled, SampledAnswer, arrive, call}
-use Rattle.treestore.specs.Arrays.{Lent}
+use Rattle.treestore.specs.Arrays.{NodeStore}
 use Rattle.randomcuttree.specs.declared.RCFTree.{RCFTree}
 use Rattle.randomcuttree.specs.State.{State}
 use Rattle.samplerplustree.specs.declared.SamplerPlusTree.{SamplerPlusTree}
 use Rattle.samplerplustree.specs.State.{SampledState}
-use Rattle.answers.specs.Said.{reply_width}
 use Rattle.arrivals.specs.Arrived.{Arrived, Arrives, ReadsWords}
 use Rattle.runlayout.specs.Layout.{RunCall, arrives, is_call, number, double, is_sampled, channels, capacity, share, arrival_words_at, call_at, stands_at}
 use Rattle.runlayout.specs.Check.{width_of_kind}
@@ -29,7 +28,7 @@ use Rattle.runsteps.proofs.Capacity.{arrival_keeps}
 use Rattle.runsteps.proofs.Replies.{reply_long, first_numbers}
 
 -- of a sampled tree's state, that of its tree
-pub tree_state : (d : ℕ) (s : Float) (X : Sampled (whole d)) (h : SamplerPlusTree) (a : Lent) (points : List (List Float)) (marks : List ℕ) (weights : List Float) (held : List ℕ) → SampledState d s X h a points marks weights held
+pub tree_state : (d : ℕ) (s : Float) (X : Sampled (whole d)) (h : SamplerPlusTree) (a : NodeStore) (points : List (List Float)) (marks : List ℕ) (weights : List Float) (held : List ℕ) → SampledState d s X h a points marks weights held
     → State d X.capacity s X.world h.tree a points marks
 tree_state d s X h a points marks weights held S = subst (λ (t : RCFTree). State d X.capacity s X.world t a points marks) (sym (ap (λ (x : SamplerPlusTree). x.tree) S.head_is)) S.tree_is
 
@@ -56,7 +55,7 @@ module _ (run : List ℕ) (p : ℕ) (six : number run p ≡ 6) where
     pub sampled : is_sampled run ≡ true
     sampled = sampled_by_lem run p 6 refl six stands
 
-    module _ (out : ℕ) (h : SamplerPlusTree) (k : Kept) (r : Room) (h' : SamplerPlusTree) (a : Lent) (weights : List Float) (held words reply answers : List ℕ)
+    module _ (out : ℕ) (h : SamplerPlusTree) (k : Kept) (r : Room) (h' : SamplerPlusTree) (a : NodeStore) (weights : List Float) (held words reply answers : List ℕ)
         (does : Arrives (number run (p + 1)) (of_bits binary32 (number run (p + 2))) (double run (p + 3)) (arrival_words_at run p) h k.arrays k.points k.marks k.weights k.held h' a weights held reply)
         (reads : ReadsWords (number run (p + 1)) (of_bits binary32 (number run (p + 2))) (double run (p + 3)) (arrival_words_at run p) h k.arrays k.points k.marks k.weights k.held r.words words) (X : Sampled (whole (channels run))) (S : Standing run X h k) where
       abbrev y : SampledAnswer (whole (channels run)) × Sampled (whole (channels run))

@@ -1,17 +1,13 @@
 -- A report and what the sample keeps as steps of a run: they leave the tree as it is. Laws.
-use mathlib.Core.Path.{◌≡◌, refl, sym, ap, ◌∙◌, subst}
+use mathlib.Core.Path.{◌≡◌, refl, sym, ap, subst}
 use mathlib.Core.Bool.{true}
 use mathlib.Core.List.{List}
 use Prim.Native.Nat.{ℕ, ◌+◌, ◌*◌, ◌≤◌}
 use native.Mathlib.Omega.{arith}
 use lib.ListN.{length}
-use lib.Ieee.{Float}
-use lib.Seq.{sets}
 use Rattle.limits.specs.Limits.{capacity_limit}
-use Rattle.little.specs.Little.{bytes_of}
 use Rattle.wholetree.specs.Whole.{whole}
 use Rattle.sampledtree.specs.Sampled.{Sampled}
-use Rattle.randomcuttree.specs.State.{SomeState}
 use Rattle.samplerplustree.specs.declared.SamplerPlusTree.{SamplerPlusTree}
 use Rattle.nodeview.specs.Told.{SomeReportRead}
 use Rattle.arrivals.specs.Sample.{SampleWritten}

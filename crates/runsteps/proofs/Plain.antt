@@ -19,12 +19,12 @@ use Rattle.wholetree.proofs.Laws.{whole_laws}
 use Rattle.sampledtree.specs.Sampled.{Sampled, with_sample}
 use Rattle.sampledtree.specs.Arrivals.{Agrees}
 use Rattle.sampledtree.proofs.Keeps.{every_put}
-use Rattle.treestore.specs.Arrays.{Lent}
+use Rattle.treestore.specs.Arrays.{NodeStore}
 use Rattle.randomcuttree.specs.declared.RCFTree.{RCFTree}
-use Rattle.randomcuttree.specs.State.{State, header_of}
+use Rattle.randomcuttree.specs.State.{State}
 use Rattle.samplerplustree.specs.declared.SamplerPlusTree.{SamplerPlusTree}
-use Rattle.samplerplustree.specs.State.{SampledState, sampler_of}
-use Rattle.answers.specs.Said.{filled, said, reply_width}
+use Rattle.samplerplustree.specs.State.{SampledState}
+use Rattle.answers.specs.Said.{reply_width}
 use Rattle.calls.specs.Done.{Done, Does}
 use Rattle.runlayout.specs.Layout.{RunCall, plain, is_call, number, is_sampled, channels, capacity, share, coordinates_at, words_at, IsPlain, plain_at, call_at, stands_at}
 use Rattle.runlayout.specs.Check.{plain_width, width_of, width_of_kind}
@@ -33,13 +33,13 @@ use Rattle.runlayout.proofs.Rest.{is_call_lem}
 use Rattle.runcalls.specs.Words.{words_after}
 use Rattle.runsteps.specs.Told.{told, left}
 use Rattle.runsteps.specs.Standing.{Kept, kept, Standing}
-use Rattle.runsteps.specs.Steps.{Room, room, words_left, room_left, Stepped, Steps}
+use Rattle.runsteps.specs.Steps.{Room, room, words_left, room_left, Stepped}
 use Rattle.runsteps.proofs.Widths.{length_told, width_most}
 use Rattle.runsteps.proofs.Replies.{reply_long, first_numbers}
 
 -- a sampled tree's state where its tree alone has moved
-module _ (d : ℕ) (s : Float) (X : Sampled (whole d)) (h : SamplerPlusTree) (a : Lent) (points : List (List Float)) (marks : List ℕ) (weights : List Float) (held : List ℕ) (S : SampledState d s X h a points marks weights held) where
-  moved : (W : World (whole d)) (tree : RCFTree) (a' : Lent) (points' : List (List Float)) (marks' : List ℕ) → State d X.capacity s W tree a' points' marks' → Agrees (whole d) (with_sample (whole d) X W X.sample)
+module _ (d : ℕ) (s : Float) (X : Sampled (whole d)) (h : SamplerPlusTree) (a : NodeStore) (points : List (List Float)) (marks : List ℕ) (weights : List Float) (held : List ℕ) (S : SampledState d s X h a points marks weights held) where
+  moved : (W : World (whole d)) (tree : RCFTree) (a' : NodeStore) (points' : List (List Float)) (marks' : List ℕ) → State d X.capacity s W tree a' points' marks' → Agrees (whole d) (with_sample (whole d) X W X.sample)
       → SampledState d s (with_sample (whole d) X W X.sample) (record { tree = tree; sampler = h.sampler; initial_accept_fraction = h.initial_accept_fraction }) a' points' marks' weights held
   moved W tree a' points' marks' T A = record {
     head_is = rw (T.header_is, S.head_is) refl;
@@ -90,7 +90,7 @@ module _ (run : List ℕ) (p : ℕ) where
         by_kind (λ (k : ℕ). cond (eqb k 4) (sets words 0 (take capacity_limit (words_at run p))) words ≡ words_left (channels run) (share run) X (plain (of_kind k)) words)
         refl refl refl refl refl refl refl refl refl (is_sampled run) (number run p) (is_call_lem run p stands)
 
-    module _ (out w : ℕ) (h : SamplerPlusTree) (k : Kept) (r : Room) (tree : RCFTree) (a : Lent) (points : List (List Float)) (marks words reply answers : List ℕ)
+    module _ (out w : ℕ) (h : SamplerPlusTree) (k : Kept) (r : Room) (tree : RCFTree) (a : NodeStore) (points : List (List Float)) (marks words reply answers : List ℕ)
         (W : w ≡ width_of_kind (channels run) (capacity run) (number run p) (number run (p + 1)))
         (does : Does (λ d. plain_at run d p) h.tree k.arrays k.points k.marks tree a points marks reply)
         (words_are : words ≡ words_after run p r.words) (X : Sampled (whole (channels run))) (S : Standing run X h k) where

@@ -2,7 +2,7 @@
 use Rattle.std.specs.Prelude.{◌≡◌, true, List, ℕ, Float}
 use Rattle.wholetree.specs.Whole.{whole}
 use Rattle.sampledtree.specs.Sampled.{Sampled}
-use Rattle.treestore.specs.Arrays.{Lent}
+use Rattle.treestore.specs.Arrays.{NodeStore}
 use Rattle.randomcuttree.specs.State.{State}
 use Rattle.samplerplustree.specs.declared.SamplerPlusTree.{SamplerPlusTree}
 use Rattle.samplerplustree.specs.State.{SampledState}
@@ -10,13 +10,13 @@ use Rattle.runlayout.specs.Layout.{is_sampled, channels, capacity, share}
 
 -- what is lent beside the header: the tree's arrays, the table and the sample's arrays
 pub record Kept : Type 0 where
-  pub arrays : Lent
+  pub arrays : NodeStore
   pub points : List (List Float)
   pub marks : List ℕ
   pub weights : List Float
   pub held : List ℕ
 
-abbrev pub kept : Lent → List (List Float) → List ℕ → List Float → List ℕ → Kept
+abbrev pub kept : NodeStore → List (List Float) → List ℕ → List Float → List ℕ → Kept
 kept a points marks weights held = record { arrays = a; points = points; marks = marks; weights = weights; held = held }
 
 module _ (run : List ℕ) where
@@ -31,7 +31,7 @@ module _ (run : List ℕ) where
     pub standing : Standing world h k
 
   -- the same where the sample's arrays are not lent
-  pub record SomePlain (h : SamplerPlusTree) (a : Lent) (points : List (List Float)) (marks : List ℕ) : Type 0 where
+  pub record SomePlain (h : SamplerPlusTree) (a : NodeStore) (points : List (List Float)) (marks : List ℕ) : Type 0 where
     pub weights : List Float
     pub held : List ℕ
     pub some : SomeStanding h (kept a points marks weights held)

@@ -3,7 +3,7 @@ use Rattle.std.specs.Prelude.{◌≡◌, List, ℕ, ◌*◌, length, take, Float
 use Rattle.std.proofs.lemmas.List.Edits.{sets}
 use Rattle.limits.specs.Limits.{capacity_limit}
 use Rattle.little.specs.Little.{bytes_of}
-use Rattle.cuttree.specs.Run.{Call, put, add, delete, query}
+use Rattle.cuttree.specs.Run.{put, add, delete, query}
 use Rattle.wholetree.specs.Whole.{whole}
 use Rattle.sampledtree.specs.Sampled.{Sampled}
 use Rattle.samplerplustree.specs.declared.SamplerPlusTree.{SamplerPlusTree}

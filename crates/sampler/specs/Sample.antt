@@ -1,12 +1,10 @@
 -- The sample's entries, and the slots that keep them. Definitions.
-use Rattle.std.specs.Prelude.{◌≡◌, Bool, true, false, List, [], ◌∷◌, ◌++◌, map, ℕ, zero, suc, ◌-◌, ◌≤◌, ◌<◌, T, length, get_or, drop, Float}
+use Rattle.std.specs.Prelude.{◌≡◌, Bool, true, false, Option, Some, None, List, [], ◌∷◌, ◌++◌, map, ℕ, zero, suc, ◌-◌, ◌≤◌, ◌<◌, T, length, get_or, drop, Float}
 use Rattle.std.specs.Float.{nan}
 use Rattle.std.specs.Float.Ieee.{lt}
 use Rattle.readings.specs.Number.{nought, is_number}
 use Rattle.sampler.specs.declared.Sampler.{Sampler}
 use Rattle.sampler.specs.declared.Evicted.{Evicted}
-use Rattle.sampler.specs.declared.Accepted.{Accepted}
-use Rattle.sampler.specs.declared.Accepted.TheVariants.{Started, Evicting}
 use Rattle.sampler.specs.Heap.{popped, Orders, Heap}
 
 pub record Entry : Type 0 where
@@ -49,9 +47,9 @@ Evicts n weights points weights' points' =
     (ks : List Entry) (ws : List Float) (ps : List ℕ) → Slots n ks ws ps weights points → Slots (n - 1) (popped above beyond ks) (nought ∷ ws) (0 ∷ ps) weights' points'
 
 -- What `accept_point` does of an accepted arrival: a started one evicts nothing.
-pub record Accepts (s : Sampler) (initial : Bool) (r : Accepted) (weights : List Float) (points : List ℕ) (weights' : List Float) (points' : List ℕ) : Type 0 where
-  pub started : initial ≡ true → (r ≡ Started) × (weights' ≡ weights) × (points' ≡ points)
-  pub evicting : initial ≡ false → (r ≡ Evicting (evicted_of s weights points)) × Evicts s.current_size weights points weights' points'
+pub record Accepts (s : Sampler) (initial : Bool) (r : Option Evicted) (weights : List Float) (points : List ℕ) (weights' : List Float) (points' : List ℕ) : Type 0 where
+  pub started : initial ≡ true → (r ≡ None) × (weights' ≡ weights) × (points' ≡ points)
+  pub evicting : initial ≡ false → (r ≡ Some (evicted_of s weights points)) × Evicts s.current_size weights points weights' points'
 
 -- Document 01, refusal 14: a weight is a number. Of such entries `above` is an order, so that Heap.antt's laws hold of a sample of them;
 -- among these that its first entry is 'the largest held, which is evicted'.

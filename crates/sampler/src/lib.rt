@@ -15,7 +15,28 @@ ghost use Rattle.sampler.specs.Sample.{Entry, above, beyond, Slots, evicted_of, 
 
 use limits::{CAPACITY, Held, Weights};
 
-// The first `current_size` slots of the two arrays that go with this are a heap.
+// The sample's slots: the weights that it keeps, and the point index that goes with each.
+#[derive(Drop)]
+pub struct Sample {
+    pub weights: Weights,
+    pub held: Held,
+}
+
+impl Sample {
+    // Slots of zeros, for a making to clear.
+    // Rules out minus zeros among the weights, and an index left in a slot.
+    pub fn new() -> Self
+        ensures weights { result.weights ≡ replicate capacity_limit nought }
+        ensures held { result.held ≡ replicate capacity_limit 0 }
+    {
+        Self {
+            weights: [0.0; CAPACITY],
+            held: [0; CAPACITY],
+        }
+    }
+}
+
+// The first `current_size` slots of the sample that goes with this are a heap.
 #[derive(Clone, Copy)]
 pub struct Sampler {
     pub capacity: u16,
@@ -30,25 +51,14 @@ pub struct Evicted {
     pub weight: f32,
 }
 
-// What an accepted arrival does before its point is added.
-#[derive(Clone, Copy)]
-pub enum Accepted {
-    // It started: the sampler is as it was.
-    Started,
-    Evicting(Evicted),
-}
-
-fn swap_weights(weights: &mut Weights, points: &mut Held, a: usize, b: usize)
+// The entries at a and b change places.
+fn swap_weights(sample: &mut Sample, a: usize, b: usize)
     requires { (a < capacity_limit) × (b < capacity_limit) }
-    ensures weights_after { weights.new ≡ swapped nan weights.old a b }
-    ensures points_after { points.new ≡ swapped 0 points.old a b }
+    ensures weights_after { sample.new.weights ≡ swapped nan sample.old.weights a b }
+    ensures points_after { sample.new.held ≡ swapped 0 sample.old.held a b }
 {
-    let tmp = points[a];
-    points[a] = points[b];
-    points[b] = tmp;
-    let tmp_weight = weights[a];
-    weights[a] = weights[b];
-    weights[b] = tmp_weight;
+    sample.held.swap(a, b);
+    sample.weights.swap(a, b);
 }
 
 // 1 where the right one weighs more, else 0. A number and no branch, so that none has to be guessed.
@@ -72,16 +82,16 @@ fn max_child(weights: &Weights, current: usize, size: usize) -> usize
 }
 
 // `add_point`'s loop: the last entry goes up past each parent that weighs less.
-fn swap_up(weights: &mut Weights, points: &mut Held, start_index: usize)
+fn swap_up(sample: &mut Sample, start_index: usize)
     requires { start_index < capacity_limit }
-    ensures { (ks : List Entry) (ws : List Float) (ps : List ℕ) → Slots (start_index + 1) ks ws ps weights.old points.old
-        → Slots (start_index + 1) (raised above beyond ks start_index) ws ps weights.new points.new }
+    ensures { (ks : List Entry) (ws : List Float) (ps : List ℕ) → Slots (start_index + 1) ks ws ps sample.old.weights sample.old.held
+        → Slots (start_index + 1) (raised above beyond ks start_index) ws ps sample.new.weights sample.new.held }
 {
     let mut current = start_index;
     while current > 0 {
         let tmp = (current - 1) / 2;
-        if weights[tmp] < weights[current] {
-            swap_weights(weights, points, current, tmp);
+        if sample.weights[tmp] < sample.weights[current] {
+            swap_weights(sample, current, tmp);
             current = tmp;
         } else {
             break;
@@ -92,13 +102,12 @@ fn swap_up(weights: &mut Weights, points: &mut Held, start_index: usize)
 impl Sampler {
     // An empty sampler, with every slot cleared.
     // Rules out slots left as they were lent, and a size that counts cleared slots.
-    pub fn new(capacity: u16, weights: &mut Weights, points: &mut Held) -> Self
+    pub fn new(capacity: u16, sample: &mut Sample) -> Self
         ensures made { result ≡ record { capacity = capacity; current_size = 0 } }
-        ensures weights_after { weights.new ≡ replicate capacity_limit nought }
-        ensures points_after { points.new ≡ replicate capacity_limit 0 }
+        ensures weights_after { sample.new.weights ≡ replicate capacity_limit nought }
+        ensures points_after { sample.new.held ≡ replicate capacity_limit 0 }
     {
-        *weights = [0.0; CAPACITY];
-        *points = [0; CAPACITY];
+        *sample = Sample::new();
         Self {
             capacity,
             current_size: 0,
@@ -106,17 +115,17 @@ impl Sampler {
     }
 
     // The entry at `start_index` goes down past each child that weighs more.
-    fn swap_down(self, start_index: usize, weights: &mut Weights, points: &mut Held)
+    fn swap_down(self, start_index: usize, sample: &mut Sample)
         requires { (start_index ≤ capacity_limit) × (self.current_size ≤ capacity_limit) }
-        ensures { (ks : List Entry) (ws : List Float) (ps : List ℕ) → Slots self.current_size ks ws ps weights.old points.old
-            → Slots self.current_size (sunk above beyond ks start_index) ws ps weights.new points.new }
+        ensures { (ks : List Entry) (ws : List Float) (ps : List ℕ) → Slots self.current_size ks ws ps sample.old.weights sample.old.held
+            → Slots self.current_size (sunk above beyond ks start_index) ws ps sample.new.weights sample.new.held }
     {
         let size = self.current_size as usize;
         let mut current = start_index;
         while 2 * current + 1 < size {
-            let max_index = max_child(weights, current, size);
-            if weights[max_index] > weights[current] {
-                swap_weights(weights, points, current, max_index);
+            let max_index = max_child(&sample.weights, current, size);
+            if sample.weights[max_index] > sample.weights[current] {
+                swap_weights(sample, current, max_index);
                 current = max_index;
             } else {
                 break;
@@ -126,22 +135,16 @@ impl Sampler {
 
     // The entry is pushed: it stands in the slot after the last, and goes up. Those beyond stay.
     // Rules out going up past a parent of equal weight, and a weight that goes up without its index.
-    pub fn add_point(
-        self,
-        weight: f32,
-        index: u16,
-        weights: &mut Weights,
-        points: &mut Held,
-    ) -> Self
+    pub fn add_point(self, weight: f32, index: u16, sample: &mut Sample) -> Self
         requires { self.current_size < capacity_limit }
         ensures answer { result ≡ record { capacity = self.capacity; current_size = self.current_size + 1 } }
-        ensures slots { (ks : List Entry) (w : Float) (ws : List Float) (p : ℕ) (ps : List ℕ) → Slots self.current_size ks (w ∷ ws) (p ∷ ps) weights.old points.old
-            → Slots (self.current_size + 1) (pushed above beyond ks (record { weight = weight; index = index })) ws ps weights.new points.new }
+        ensures slots { (ks : List Entry) (w : Float) (ws : List Float) (p : ℕ) (ps : List ℕ) → Slots self.current_size ks (w ∷ ws) (p ∷ ps) sample.old.weights sample.old.held
+            → Slots (self.current_size + 1) (pushed above beyond ks (record { weight = weight; index = index })) ws ps sample.new.weights sample.new.held }
     {
         let current = self.current_size as usize;
-        weights[current] = weight;
-        points[current] = index;
-        swap_up(weights, points, current);
+        sample.weights[current] = weight;
+        sample.held[current] = index;
+        swap_up(sample, current);
         Self {
             capacity: self.capacity,
             current_size: self.current_size + 1,
@@ -156,38 +159,39 @@ impl Sampler {
         initial || weight < weights[0]
     }
 
-    // What `accept_point` does of an accepted arrival: one that did not start evicts the first entry.
+    // What `accept_point` does of an accepted arrival before its point is added: one that did not start evicts the first entry. At one that started nothing is
+    // evicted, and the sampler is as it was.
     // Rules out an eviction for a started arrival, and an answer that names the arrival as evicted.
-    pub fn accept_point(self, initial: bool, weights: &mut Weights, points: &mut Held) -> Accepted
+    pub fn accept_point(self, initial: bool, sample: &mut Sample) -> Option<Evicted>
         requires current_size_nonzero { initial ≡ false → 0 < self.current_size }
         requires current_size_bound { self.current_size ≤ capacity_limit }
-        ensures { Accepts self initial result weights.old points.old weights.new points.new }
+        ensures { Accepts self initial result sample.old.weights sample.old.held sample.new.weights sample.new.held }
     {
         if initial {
-            return Accepted::Started;
+            return None;
         }
-        Accepted::Evicting(self.evict_max(weights, points))
+        Some(self.evict_max(sample))
     }
 
     // The first entry goes; the last takes its place and goes down, and the slot that it leaves is cleared.
     // Rules out a child taken at equal weight, and the right child of two that weigh the same.
-    pub fn evict_max(self, weights: &mut Weights, points: &mut Held) -> Evicted
+    pub fn evict_max(self, sample: &mut Sample) -> Evicted
         requires { (0 < self.current_size) × (self.current_size ≤ capacity_limit) }
-        ensures answer { result ≡ evicted_of self weights.old points.old }
-        ensures slots { Evicts self.current_size weights.old points.old weights.new points.new }
+        ensures answer { result ≡ evicted_of self sample.old.weights sample.old.held }
+        ensures slots { Evicts self.current_size sample.old.weights sample.old.held sample.new.weights sample.new.held }
     {
-        let index = points[0];
-        let weight = weights[0];
+        let index = sample.held[0];
+        let weight = sample.weights[0];
         let last = (self.current_size as usize) - 1;
-        points[0] = points[last];
-        weights[0] = weights[last];
-        points[last] = 0;
-        weights[last] = 0.0;
+        sample.held[0] = sample.held[last];
+        sample.weights[0] = sample.weights[last];
+        sample.held[last] = 0;
+        sample.weights[last] = 0.0;
         let sampler = Self {
             capacity: self.capacity,
             current_size: self.current_size - 1,
         };
-        sampler.swap_down(0, weights, points);
+        sampler.swap_down(0, sample);
         Evicted {
             sampler,
             index,

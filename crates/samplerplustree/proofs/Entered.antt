@@ -1,4 +1,6 @@
 -- The second step of an arrival: what it asks, what was looked for before it, and that the two steps are the arrival. Assumes nothing.
+use Rattle.refusals.specs.declared.Refusal.{Refusal}
+use Rattle.std.specs.Prelude.{Result, Ok, Err}
 use mathlib.Core.Path.{◌≡◌, refl, sym, ap, ◌∙◌, subst}
 use mathlib.Core.Bool.{true, false, cond}
 use mathlib.Core.Option.{Option, none, some}
@@ -22,16 +24,16 @@ use Rattle.sampledtree.specs.Sampled as Paper
 use Rattle.sampledtree.specs.Sampled.{Sampled, SampledAnswer, plain, not_accepted, accepted, arrive, call, with_sample, admitted, taken}
 use Rattle.sampledtree.specs.Arrivals.{Agrees}
 use Rattle.treestore.specs.declared.Found.{Found}
-use Rattle.treestore.specs.Arrays.{Lent}
+use Rattle.treestore.specs.Arrays.{NodeStore}
 use Rattle.randomcuttree.proofs.Calls.{seeks, seen_there}
 use Rattle.samplerplustree.specs.declared.SamplerPlusTree.{SamplerPlusTree}
 use Rattle.samplerplustree.specs.declared.AddedLeaf.{AddedLeaf}
 use Rattle.samplerplustree.specs.declared.Admitted.{Admitted}
 use Rattle.samplerplustree.specs.declared.Remaining.{Remaining}
-use Rattle.samplerplustree.specs.declared.UpdateAnswer.{UpdateAnswer}
-use Rattle.samplerplustree.specs.declared.UpdateAnswer.TheVariants as Answers
+use Rattle.samplerplustree.specs.declared.Accepted.{Accepted}
+use Rattle.std.specs.Prelude as std
 use Rattle.samplerplustree.specs.declared.Offer.{Offer}
-use Rattle.samplerplustree.specs.declared.Offer.TheVariants.{Refused, Passes, Begins, Evicts}
+use Rattle.samplerplustree.specs.declared.Offer.TheVariants.{Passes, Begins, Evicts}
 use Rattle.samplerplustree.specs.State.{head_of, sampler_of}
 use Rattle.samplerplustree.specs.Updates.{update_says, Updated}
 use Rattle.samplerplustree.specs.Offers.{offered, SomeOffered}
@@ -43,18 +45,18 @@ use Rattle.samplerplustree.proofs.Slots.{Pushes, one_more}
 use Rattle.samplerplustree.proofs.Evicted.{popped_length, delete_table, room_after}
 
 -- the evicted index that is answered, if any
-abbrev pub evicted_by : Offer → List Entry → Option ℕ
+abbrev pub evicted_by : Result Offer Refusal → List Entry → Option ℕ
 evicted_by o ks = cond (evicts o) (some (first_index ks)) none
 
-only_evicts : (o : Offer) → evicts o ≡ true → o ≡ Evicts
-only_evicts (Refused r) e = clash false e refl
-only_evicts Passes e = clash false e refl
-only_evicts Begins e = clash false e refl
-only_evicts Evicts e = refl
+only_evicts : (o : Result Offer Refusal) → evicts o ≡ true → o ≡ (Ok Evicts)
+only_evicts (Err r) e = clash false e refl
+only_evicts (Ok Passes) e = clash false e refl
+only_evicts (Ok Begins) e = clash false e refl
+only_evicts (Ok Evicts) e = refl
 
 module _ (d : ℕ) (X : Sampled (whole d)) (i : ℕ) (w : Float) (ws : List ℕ) where
   -- what holds between the steps of an arrival that is taken
-  pub record Ready (o : Offer) (y : SampledAnswer (whole d) × Sampled (whole d)) : Type 0 where
+  pub record Ready (o : Result Offer Refusal) (y : SampledAnswer (whole d) × Sampled (whole d)) : Type 0 where
     pub point : Reading
     pub is_written : (world_remaining d X o).table i ≡ some point
     pub room : total_of (whole d) (world_remaining d X o).tree < X.capacity
@@ -62,10 +64,10 @@ module _ (d : ℕ) (X : Sampled (whole d)) (i : ℕ) (w : Float) (ws : List ℕ)
     pub enough : X.capacity ≤ length ws
     pub is_call_lem : y ≡ admitted (whole d) X (entries_remaining o X.sample) (evicted_by o X.sample) w (Bare.call (whole d) X.capacity (world_remaining d X o) (add i ws))
 
-  begins_ready : Agrees (whole d) X → (y : SampledAnswer (whole d) × Sampled (whole d)) → FitBegins d X i w ws y → Ready Begins y
+  begins_ready : Agrees (whole d) X → (y : SampledAnswer (whole d) × Sampled (whole d)) → FitBegins d X i w ws y → Ready (Ok Begins) y
   begins_ready A y F = record { point = F.fit.point; is_written = F.fit.is_written; room = omega (arith, F.room, A.total_is); fewer = F.room; enough = F.fit.enough; is_call_lem = F.fit.is_taken }
 
-  evicts_ready : Agrees (whole d) X → (y : SampledAnswer (whole d) × Sampled (whole d)) → FitEvicts d X i w ws y → Ready Evicts y
+  evicts_ready : Agrees (whole d) X → (y : SampledAnswer (whole d) × Sampled (whole d)) → FitEvicts d X i w ws y → Ready (Ok Evicts) y
   evicts_ready A y F =
       let some-kept : 0 < length X.sample = rw F.sample_is (omega arith) in
       record {
@@ -77,21 +79,21 @@ module _ (d : ℕ) (X : Sampled (whole d)) (i : ℕ) (w : Float) (ws : List ℕ)
         is_call_lem = F.fit.is_taken ∙ ap (λ (ks : List Entry). taken (whole d) X i w ws (Paper.evicts (first_index ks) (popped above beyond ks))) (sym F.sample_is);
       }
 
-  pub ready : Agrees (whole d) X → (x : ℕ) (o : Offer) → o ≡ offered d X i w x (length ws) → takes o ≡ true → Ready o (call (whole d) X (arrive i w x ws))
-  ready A x (Refused n) e t = clash false t refl
-  ready A x Passes e t = clash false t refl
-  ready A x Begins e t = begins_ready A _ (call_of_lem d X i w ws A.room x Begins e)
-  ready A x Evicts e t = evicts_ready A _ (call_of_lem d X i w ws A.room x Evicts e)
+  pub ready : Agrees (whole d) X → (x : ℕ) (o : Result Offer Refusal) → o ≡ offered d X i w x (length ws) → takes o ≡ true → Ready o (call (whole d) X (arrive i w x ws))
+  ready A x (Err n) e t = clash false t refl
+  ready A x (Ok Passes) e t = clash false t refl
+  ready A x (Ok Begins) e t = begins_ready A _ (call_of_lem d X i w ws A.room x (Ok Begins) e)
+  ready A x (Ok Evicts) e t = evicts_ready A _ (call_of_lem d X i w ws A.room x (Ok Evicts) e)
 
 -- an offer is told by how many words there are: that it takes the arrival tells that its reading is written
-pub written_remaining : (d : ℕ) (X : Sampled (whole d)) (i : ℕ) (w : Float) (n : ℕ) → Agrees (whole d) X → (x : ℕ) (o : Offer) → o ≡ offered d X i w x n → takes o ≡ true → (p : Reading) × ((world_remaining d X o).table i ≡ some p)
+pub written_remaining : (d : ℕ) (X : Sampled (whole d)) (i : ℕ) (w : Float) (n : ℕ) → Agrees (whole d) X → (x : ℕ) (o : Result Offer Refusal) → o ≡ offered d X i w x n → takes o ≡ true → (p : Reading) × ((world_remaining d X o).table i ≡ some p)
 written_remaining d X i w n A x o e t =
     let blanks : List ℕ = replicate n 0 in
     let R = ready d X i w blanks A x o (e ∙ ap (offered d X i w x) (sym (length-replicate n 0))) t in
     (R.point, R.is_written)
 
 -- ---- the add, and the sample that keeps its leaf's index
-pub admit_done : (h : SamplerPlusTree) (a : Lent) (points : List (List Float)) (weights : List Float) (held : List ℕ) (i : ℕ) (w : Float) (ws : List ℕ) (g : AddedLeaf) (b : Lent) (k : Sampler) (weights' : List Float) (held' : List ℕ)
+pub admit_done : (h : SamplerPlusTree) (a : NodeStore) (points : List (List Float)) (weights : List Float) (held : List ℕ) (i : ℕ) (w : Float) (ws : List ℕ) (g : AddedLeaf) (b : NodeStore) (k : Sampler) (weights' : List Float) (held' : List ℕ)
     → h.sampler.current_size < capacity_limit → AddsLeaf h.tree a points i ws g b
     → k ≡ record { capacity = h.sampler.capacity; current_size = h.sampler.current_size + 1 } → Pushes h.sampler.current_size (record { weight = w; index = g.leaf }) weights held weights' held'
     → AdmitDone h a points weights held i w ws (record { tree = record { tree = g.tree; sampler = k; initial_accept_fraction = h.initial_accept_fraction }; leaf = g.leaf }) b weights' held'
@@ -114,7 +116,7 @@ admit_done h a points weights held i w ws g b k weights' held' few A K P d s Y m
     }
 
 -- ---- THE STEP
-module _ (l : Remaining) (o : Offer) (a : Lent) (points : List (List Float)) (weights : List Float) (held : List ℕ) (i : ℕ) (w : Float) (ws : List ℕ) where
+module _ (l : Remaining) (o : Result Offer Refusal) (a : NodeStore) (points : List (List Float)) (weights : List Float) (held : List ℕ) (i : ℕ) (w : Float) (ws : List ℕ) where
   pub enter_asks : (path : List (List ℕ)) (f : Found) → takes o ≡ true → SomeEntering l o a points weights held i w path f (length ws)
       → SomeAdmits l.tree.tree a points i path f (length ws) × (l.tree.sampler.current_size < capacity_limit)
   enter_asks path f t Q =
@@ -136,13 +138,13 @@ module _ (l : Remaining) (o : Offer) (a : Lent) (points : List (List Float)) (we
         omega (arith, size_is L, R.fewer, small L),
       )
 
-  answer_is : (d : ℕ) (o : Offer) (h h' : SamplerPlusTree) (j e : ℕ) (ks : List Entry) → takes o ≡ true → h ≡ h' → e ≡ gone_by o ks → answer_by o h j e ≡ update_says d h' (accepted j (evicted_by o ks))
-  answer_is d (Refused n) h h' j e ks t f g = clash false t refl
-  answer_is d Passes h h' j e ks t f g = clash false t refl
-  answer_is d Begins h h' j e ks t f g = rw f refl
-  answer_is d Evicts h h' j e ks t f g = rw (f, g) refl
+  answer_is : (d : ℕ) (o : Result Offer Refusal) (h h' : SamplerPlusTree) (j e : ℕ) (ks : List Entry) → takes o ≡ true → h ≡ h' → e ≡ gone_by o ks → answer_by o h j e ≡ update_says d h' (accepted j (evicted_by o ks))
+  answer_is d (Err n) h h' j e ks t f g = clash false t refl
+  answer_is d (Ok Passes) h h' j e ks t f g = clash false t refl
+  answer_is d (Ok Begins) h h' j e ks t f g = rw f refl
+  answer_is d (Ok Evicts) h h' j e ks t f g = rw (f, g) refl
 
-  pub enter_done : (g : Admitted) (b : Lent) (weights' : List Float) (held' : List ℕ) (r : UpdateAnswer) → takes o ≡ true → AdmitDone l.tree a points weights held i w ws g b weights' held'
+  pub enter_done : (g : Admitted) (b : NodeStore) (weights' : List Float) (held' : List ℕ) (r : Result (std.Option Accepted) Refusal) → takes o ≡ true → AdmitDone l.tree a points weights held i w ws g b weights' held'
       → r ≡ answer_by o g.tree g.leaf l.gone → EnterDone l o a points weights held i w ws r b weights' held'
   enter_done g b weights' held' r t A f d s X marks x L u =
       let R = ready d X i w ws L.agrees x o u t in
@@ -157,35 +159,38 @@ module _ (l : Remaining) (o : Offer) (a : Lent) (points : List (List Float)) (we
       })
 
 -- one that is refused or not accepted leaves the world as it is
-module _ (l : Remaining) (a : Lent) (points : List (List Float)) (weights : List Float) (held : List ℕ) (i : ℕ) (w : Float) (ws : List ℕ) where
+module _ (l : Remaining) (a : NodeStore) (points : List (List Float)) (weights : List Float) (held : List ℕ) (i : ℕ) (w : Float) (ws : List ℕ) where
   stays : (d : ℕ) (s : Float) (X : Sampled (whole d)) (marks : List ℕ) (x : ℕ) → SampledArrays d s X l.tree a points marks weights held → Agrees (whole d) X → is_share X.initial ≡ true
-      → (y : SampledAnswer (whole d)) (r : UpdateAnswer) → call (whole d) X (arrive i w x ws) ≡ (y, X) → r ≡ update_says d (head_of d s X) y → Updated d s (call (whole d) X (arrive i w x ws)) r a points marks weights held
+      → (y : SampledAnswer (whole d)) (r : Result (std.Option Accepted) Refusal) → call (whole d) X (arrive i w x ws) ≡ (y, X) → r ≡ update_says d (head_of d s X) y → Updated d s (call (whole d) X (arrive i w x ws)) r a points marks weights held
   stays d s X marks x L A I y r E R = subst (λ z. Updated d s z r a points marks weights held) (sym E) (record {
     answer = R;
     state = record { head_is = refl; tree_is = L.tree_is; weights_are = L.weights_are; held_are = L.held_are; agrees = A; initial_is = I };
   })
 
-  pub untaken_done : (o : Offer) (h : SamplerPlusTree) (r : UpdateAnswer) → takes o ≡ false → r ≡ answer_by o h 0 0 → EnterDone l o a points weights held i w ws r a weights held
-  untaken_done (Refused n) h r t f d s X marks x L u =
-      let (m, g, E) = call_of_lem d X i w ws L.agrees.room x (Refused n) u in
-      stays d s X marks x L.arrays L.agrees L.initial_is (plain (refused m)) r E (f ∙ ap Answers.Refused g)
-  untaken_done Passes h r t f d s X marks x L u = stays d s X marks x L.arrays L.agrees L.initial_is not_accepted r (call_of_lem d X i w ws L.agrees.room x Passes u) f
-  untaken_done Begins h r t f d s X marks x L u = clash true refl t
-  untaken_done Evicts h r t f d s X marks x L u = clash true refl t
+  abbrev bad : Refusal → Result (std.Option Accepted) Refusal
+  bad n = Err n
+
+  pub untaken_done : (o : Result Offer Refusal) (h : SamplerPlusTree) (r : Result (std.Option Accepted) Refusal) → takes o ≡ false → r ≡ answer_by o h 0 0 → EnterDone l o a points weights held i w ws r a weights held
+  untaken_done (Err n) h r t f d s X marks x L u =
+      let (m, g, E) = call_of_lem d X i w ws L.agrees.room x (Err n) u in
+      stays d s X marks x L.arrays L.agrees L.initial_is (plain (refused m)) r E (f ∙ ap bad g)
+  untaken_done (Ok Passes) h r t f d s X marks x L u = stays d s X marks x L.arrays L.agrees L.initial_is not_accepted r (call_of_lem d X i w ws L.agrees.room x (Ok Passes) u) f
+  untaken_done (Ok Begins) h r t f d s X marks x L u = clash true refl t
+  untaken_done (Ok Evicts) h r t f d s X marks x L u = clash true refl t
 
 -- ---- what each step is told, from what the test told
-module _ (h : SamplerPlusTree) (o : Offer) (a : Lent) (points : List (List Float)) (weights : List Float) (held : List ℕ) (i : ℕ) (w : Float) (n : ℕ) (Q : SomeOffered h o a points weights held i w n) where
+module _ (h : SamplerPlusTree) (o : Result Offer Refusal) (a : NodeStore) (points : List (List Float)) (weights : List Float) (held : List ℕ) (i : ℕ) (w : Float) (n : ℕ) (Q : SomeOffered h o a points weights held i w n) where
   pub leaving : SomeLeaving h o a points weights held
   leaving = record {
     marks = Q.marks;
     sampled = record { channels = Q.channels; share = Q.share; world = Q.world; state = Q.state };
     kept = λ e.
         let blanks : List ℕ = replicate n 0 in
-        let F : FitEvicts Q.channels Q.world i w blanks _ = call_of_lem Q.channels Q.world i w blanks Q.state.agrees.room Q.chance Evicts (sym (only_evicts o e) ∙ Q.offer_is ∙ ap (offered Q.channels Q.world i w Q.chance) (sym (length-replicate n 0))) in
+        let F : FitEvicts Q.channels Q.world i w blanks _ = call_of_lem Q.channels Q.world i w blanks Q.state.agrees.room Q.chance (Ok Evicts) (sym (only_evicts o e) ∙ Q.offer_is ∙ ap (offered Q.channels Q.world i w Q.chance) (sym (length-replicate n 0))) in
         omega (arith, size_is (arrays_of_lem Q.state), ap length F.sample_is);
   }
 
-  module _ (l : Remaining) (b : Lent) (weights' : List Float) (held' : List ℕ) (L : LeaveDone h o a points weights held l b weights' held') where
+  module _ (l : Remaining) (b : NodeStore) (weights' : List Float) (held' : List ℕ) (L : LeaveDone h o a points weights held l b weights' held') where
     left : RemainingState Q.channels Q.share Q.world o l b points Q.marks weights' held'
     left = L Q.channels Q.share Q.world Q.marks Q.state
 

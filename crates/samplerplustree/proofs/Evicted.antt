@@ -1,4 +1,6 @@
 -- The first step of an arrival: what an eviction asks, and what it leaves. Assumes nothing.
+use Rattle.refusals.specs.declared.Refusal.{Refusal}
+use Rattle.std.specs.Prelude.{Result, Ok}
 use mathlib.Core.Path.{◌≡◌, refl, sym, ap, ◌∙◌, subst}
 use mathlib.Core.Bool.{true, false, cond}
 use mathlib.Core.List.{List, [], ◌∷◌}
@@ -23,7 +25,7 @@ use Rattle.wholetree.proofs.Laws.{whole_laws}
 use Rattle.sampledtree.specs.Sampled.{Sampled}
 use Rattle.sampledtree.specs.Arrivals.{Agrees, occurs}
 use Rattle.sampledtree.proofs.Admits.{delete_admits}
-use Rattle.treestore.specs.Arrays.{Lent}
+use Rattle.treestore.specs.Arrays.{NodeStore}
 use Rattle.randomcuttree.specs.declared.RCFTree.{RCFTree}
 use Rattle.samplerplustree.specs.declared.SamplerPlusTree.{SamplerPlusTree}
 use Rattle.samplerplustree.specs.declared.Offer.{Offer}
@@ -56,21 +58,21 @@ module _ (d : ℕ) (X : Sampled (whole d)) (A : Agrees (whole d) X) (some-kept :
   copy : 0 < sum_of (whole d) (λ j q n. cond (eqb j (first_index X.sample)) n 0) (λ b. 0) X.world.tree
   copy = omega (arith, A.kept_are (first_index X.sample), occurs_first X.sample some-kept)
 
-  pub room_after : total_of (whole d) (world_remaining d X Offered.Evicts).tree < X.capacity
+  pub room_after : total_of (whole d) (world_remaining d X (Ok Offered.Evicts)).tree < X.capacity
   room_after =
       let D = delete_admits (whole d) (whole_laws d) X.capacity X.world.table X.world.tree X.world.free (first_index X.sample) A.sound copy in
       omega (arith, D.total_less, A.total_is, A.room)
 
-module _ (h : SamplerPlusTree) (a : Lent) (points : List (List Float)) (weights : List Float) (held : List ℕ) where
+module _ (h : SamplerPlusTree) (a : NodeStore) (points : List (List Float)) (weights : List Float) (held : List ℕ) where
   -- ---- nothing leaves for an offer that evicts nothing
-  pub none_leaves : (o : Offer) → evicts o ≡ false → LeaveDone h o a points weights held (record { tree = h; gone = 0 }) a weights held
+  pub none_leaves : (o : Result Offer Refusal) → evicts o ≡ false → LeaveDone h o a points weights held (record { tree = h; gone = 0 }) a weights held
   none_leaves o e d s X marks S = record { arrays = rw e (arrays_of_lem S); gone_is = sym (cond_false (evicts o) _ 0 e); agrees = S.agrees; initial_is = S.initial_is }
 
-  pub path_stays : (o : Offer) → evicts o ≡ false → (path : List (List ℕ)) → LeavesPath h o a points weights held path path
+  pub path_stays : (o : Result Offer Refusal) → evicts o ≡ false → (path : List (List ℕ)) → LeavesPath h o a points weights held path path
   path_stays o e path d s X marks S = sym (cond_false (evicts o) _ path e)
 
   -- ---- THE EVICTION
-  module _ (o : Offer) (evicting : evicts o ≡ true) (Q : SomeLeaving h o a points weights held) where
+  module _ (o : Result Offer Refusal) (evicting : evicts o ≡ true) (Q : SomeLeaving h o a points weights held) where
     kept_size : 0 < length Q.sampled.world.sample
     kept_size = omega (arith, Q.kept evicting, size_is (arrays_of_lem Q.sampled.state))
 
@@ -81,7 +83,7 @@ module _ (h : SamplerPlusTree) (a : Lent) (points : List (List Float)) (weights 
     gone_first : (d : ℕ) (s : Float) (X : Sampled (whole d)) (marks : List ℕ) → SampledState d s X h a points marks weights held → gone ≡ first_index X.sample
     gone_first d s X marks S = g ∙ ap (λ (z : Evicted). z.index) e ∙ ap (λ (l : List ℕ). get_or l 0 0) S.held_are ∙ first_held X.sample
 
-    pub evict_copy : (o : Offer) → evicts o ≡ true → SomeLeaving h o a points weights held → SomeCopy h.tree a points gone
+    pub evict_copy : (o : Result Offer Refusal) → evicts o ≡ true → SomeLeaving h o a points weights held → SomeCopy h.tree a points gone
     evict_copy o evicting Q = let S = Q.sampled in record {
       channels = S.channels;
       capacity = S.world.capacity;
@@ -92,10 +94,10 @@ module _ (h : SamplerPlusTree) (a : Lent) (points : List (List Float)) (weights 
       copy = rw (gone_first S.channels S.share S.world Q.marks S.state) (copy S.channels S.world S.state.agrees (kept_size o evicting Q));
     }
 
-    pub evict_path : (o : Offer) → evicts o ≡ true → (path path' : List (List ℕ)) → WalksTo h.tree a points gone path path' → LeavesPath h o a points weights held path path'
+    pub evict_path : (o : Result Offer Refusal) → evicts o ≡ true → (path path' : List (List ℕ)) → WalksTo h.tree a points gone path path' → LeavesPath h o a points weights held path path'
     evict_path o evicting path path' D d s X marks S = D d X.capacity s X.world marks (tree_state S) ∙ ap (λ (j : ℕ). path_to d X.capacity X.world j path) (gone_first d s X marks S) ∙ sym (cond_true (evicts o) _ path evicting)
 
-    pub evict_done : (o : Offer) → evicts o ≡ true → SomeLeaving h o a points weights held → (weights' : List Float) (held' : List ℕ) (left : RCFTree) (b : Lent)
+    pub evict_done : (o : Result Offer Refusal) → evicts o ≡ true → SomeLeaving h o a points weights held → (weights' : List Float) (held' : List ℕ) (left : RCFTree) (b : NodeStore)
         → Evicts h.sampler.current_size weights held weights' held' → DeletesLeaf h.tree a points gone left b
         → LeaveDone h o a points weights held (record { tree = record { tree = left; sampler = v.sampler; initial_accept_fraction = h.initial_accept_fraction }; gone = gone }) b weights' held'
     evict_done o evicting Q weights' held' left b slots D d s X marks S =
@@ -108,7 +110,7 @@ module _ (h : SamplerPlusTree) (a : Lent) (points : List (List Float)) (weights 
         ∙ ap (λ (z : SamplerPlusTree). record { capacity = z.sampler.capacity; current_size = length (popped above beyond X.sample) }) S.head_is in
         record {
           arrays = rw evicting (record {
-            head_is = head_after d s X (world_remaining d X Offered.Evicts) (popped above beyond X.sample) left v.sampler h.initial_accept_fraction C.tree_is N (ap (λ (z : SamplerPlusTree). z.initial_accept_fraction) S.head_is);
+            head_is = head_after d s X (world_remaining d X (Ok Offered.Evicts)) (popped above beyond X.sample) left v.sampler h.initial_accept_fraction C.tree_is N (ap (λ (z : SamplerPlusTree). z.initial_accept_fraction) S.head_is);
             tree_is = C.state;
             weights_are = T.0;
             held_are = T.1;

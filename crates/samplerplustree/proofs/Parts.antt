@@ -10,14 +10,14 @@ use Rattle.sampler.specs.Sample.{Entry}
 use Rattle.cuttree.specs.Run as Bare
 use Rattle.wholetree.specs.Whole.{whole}
 use Rattle.sampledtree.specs.Sampled.{Sampled, with_sample}
-use Rattle.treestore.specs.Arrays.{Lent}
+use Rattle.treestore.specs.Arrays.{NodeStore}
 use Rattle.randomcuttree.specs.declared.RCFTree.{RCFTree}
 use Rattle.randomcuttree.specs.State.{State, header_of}
 use Rattle.samplerplustree.specs.declared.SamplerPlusTree.{SamplerPlusTree}
 use Rattle.samplerplustree.specs.State.{SampledState, head_of, sampler_of}
 use Rattle.samplerplustree.specs.Entering.{SampledArrays}
 
-module _ {d : ℕ} {s : Float} {X : Sampled (whole d)} {h : SamplerPlusTree} {a : Lent} {points : List (List Float)} {marks : List ℕ} {weights : List Float} {held : List ℕ} where
+module _ {d : ℕ} {s : Float} {X : Sampled (whole d)} {h : SamplerPlusTree} {a : NodeStore} {points : List (List Float)} {marks : List ℕ} {weights : List Float} {held : List ℕ} where
   module _ (S : SampledArrays d s X h a points marks weights held) where
     pub tree_of : State d X.capacity s X.world h.tree a points marks
     tree_of = subst (λ t. State d X.capacity s X.world t a points marks) (sym (ap (λ (y : SamplerPlusTree). y.tree) S.head_is)) S.tree_is

@@ -5,7 +5,7 @@ use mathlib.Core.List.{List, ◌++◌}
 use Prim.Native.Nat.{ℕ}
 use native.Mathlib.Omega.{arith}
 use lib.Dec.{eqb}
-use lib.ListN.{length, take, drop, take-append-drop}
+use lib.ListN.{length, drop, take-append-drop}
 use lib.Seq.{length-take-le}
 use lib.Ieee.{Float}
 use borrow.Author.Tests.{eqb-true, eqb-false}
@@ -16,7 +16,7 @@ use Rattle.wholetree.specs.Reading.{Reading}
 use Rattle.wholetree.specs.Whole.{whole}
 use Rattle.layout.specs.Stands.{trail}
 use Rattle.treestore.specs.declared.Found.{Found}
-use Rattle.treestore.specs.Arrays.{Lent}
+use Rattle.treestore.specs.Arrays.{NodeStore}
 use Rattle.treestore.specs.Finds.{FoundIn}
 use Rattle.randomcuttree.specs.declared.RCFTree.{RCFTree}
 use Rattle.randomcuttree.specs.State.{State}
@@ -33,7 +33,7 @@ path_found {d} {c} {t} {p} {before} {path} {f} F =
     sym (take-append-drop n path) ∙ ap (λ (l : List (List ℕ)). l ++ drop n path) w.is_trail
     ∙ ap (λ (l : List (List ℕ)). trail d c t p ++ l) (F.rest ∙ ap (λ (k : ℕ). drop k before) m)
 
-module _ {d c : ℕ} {s : Float} {W : World (whole d)} {tree : RCFTree} {a : Lent} {points : List (List Float)} {marks : List ℕ} (H : State d c s W tree a points marks) {i : ℕ} {p : Reading} (P : W.table i ≡ some p)
+module _ {d c : ℕ} {s : Float} {W : World (whole d)} {tree : RCFTree} {a : NodeStore} {points : List (List Float)} {marks : List ℕ} (H : State d c s W tree a points marks) {i : ℕ} {p : Reading} (P : W.table i ≡ some p)
     {before path : List (List ℕ)} {f : Found} (F : Sees tree a.nodes a.cuts points i before f path) where
   -- what holds of a tree that there is and of none, holds of the world's
   pub by_seen : (Q : Option (Tree (whole d)) → Option Reading → Type 0) → ((f ≡ nowhere) × (path ≡ before) → Q none (W.table i)) → ((t : Tree (whole d)) → FoundIn d c t p before f path → Q (some t) (some p)) → Q W.tree (W.table i)

@@ -1,4 +1,7 @@
 -- The arrival that an offer is told for: which call it is, and what it leaves. Assumes nothing.
+use Rattle.refusals.specs.declared.Refusal.TheVariants as Why
+use Rattle.refusals.specs.declared.Refusal.{Refusal}
+use Rattle.std.specs.Prelude.{Result, Ok, Err}
 use mathlib.Core.Path.{◌≡◌, refl, sym, ap, subst}
 use mathlib.Core.Bool.{Bool, true, false, cond, not, ◌&&◌}
 use mathlib.Core.Option.{Option, none, some}
@@ -14,7 +17,9 @@ use Rattle.readings.specs.Number.{is_number}
 use Rattle.startingchance.specs.Chance.{starts_by}
 use Rattle.sampler.specs.Heap.{pushed, popped}
 use Rattle.sampler.specs.Sample.{Entry, above, beyond}
-use Rattle.cuttree.specs.Run.{World, Answer, Refusal, refused, index_above, never_written, bad_weight, few_words, number_of, added, add}
+use Rattle.cuttree.specs.Run as Run
+use Rattle.cuttree.specs.Run.{World, Answer, refused, index_above, never_written, bad_weight, few_words, added, add}
+use Rattle.pointstore.specs.Refusals.{refusal_of}
 use Rattle.cuttree.proofs.Tests.{by-test, clash}
 use Rattle.wholetree.specs.Reading.{Reading}
 use Rattle.wholetree.specs.Whole.{whole}
@@ -24,7 +29,7 @@ use Rattle.sampledtree.specs.Sampled.{Sampled, SampledAnswer, plain, not_accepte
 use Rattle.sampledtree.specs.Arrivals.{Agrees, Arrives}
 use Rattle.sampledtree.proofs.Arrivals.{every_arrival}
 use Rattle.samplerplustree.specs.declared.Offer.{Offer}
-use Rattle.samplerplustree.specs.declared.Offer.TheVariants.{Refused, Passes, Begins, Evicts}
+use Rattle.samplerplustree.specs.declared.Offer.TheVariants.{Passes, Begins, Evicts}
 use Rattle.samplerplustree.specs.Offers.{said, if_marked, offered}
 
 by_both : {A B : Type 0} (P : A → B → Type 0) (b : Bool) (x y : A) (u v : B) → (b ≡ true → P x u) → (b ≡ false → P y v) → P (cond b x y) (cond b u v)
@@ -57,11 +62,11 @@ module _ (d : ℕ) (X : Sampled (whole d)) (i : ℕ) (w : Float) (ws : List ℕ)
     pub fit : Fit y (Paper.evicts entry.index (popped above beyond (entry ∷ others)))
 
   -- which call an offer is told for
-  abbrev pub CallOf : Offer → Done → Type 0
-  CallOf (Refused n) y = (r : Refusal) × (n ≡ number_of r) × (y ≡ (plain (refused r), X))
-  CallOf Passes y = y ≡ (not_accepted, X)
-  CallOf Begins y = FitBegins y
-  CallOf Evicts y = FitEvicts y
+  abbrev pub CallOf : Result Offer Refusal → Done → Type 0
+  CallOf (Err n) y = (r : Run.Refusal) × (n ≡ refusal_of r) × (y ≡ (plain (refused r), X))
+  CallOf (Ok Passes) y = y ≡ (not_accepted, X)
+  CallOf (Ok Begins) y = FitBegins y
+  CallOf (Ok Evicts) y = FitEvicts y
 
   module _ (room : length X.sample ≤ X.capacity) (p : Reading) (P : X.world.table i ≡ some p) (enough : X.capacity ≤ length ws) where
     fits : (o : Paper.Offer) → Fit (taken (whole d) X i w ws o) o
@@ -77,13 +82,13 @@ module _ (d : ℕ) (X : Sampled (whole d)) (i : ℕ) (w : Float) (ws : List ℕ)
         (λ e. rw e (against_call X.sample refl))
 
   written_call : length X.sample ≤ X.capacity → (x : ℕ) (o : Option Reading) → X.world.table i ≡ o
-      → CallOf (if_marked o (cond (not (is_number w)) (Refused 14) (cond (ltb (length ws) X.capacity) (Refused 11) (said (Paper.offer X.capacity X.initial X.sample w x)))))
+      → CallOf (if_marked o (cond (not (is_number w)) (Err Why.BadWeight) (cond (ltb (length ws) X.capacity) (Err Why.FewWords) (said (Paper.offer X.capacity X.initial X.sample w x)))))
       (if_written (whole d) X o (refuse (whole d) X bad_weight (not (is_number w)) (refuse (whole d) X few_words (ltb (length ws) X.capacity) (taken (whole d) X i w ws (Paper.offer X.capacity X.initial X.sample w x)))))
   written_call room x none P = (never_written, refl, refl)
   written_call room x (some p) P = by_both CallOf (not (is_number w)) _ _ _ _ (λ _. (bad_weight, refl, refl))
       (λ _. by_both CallOf (ltb (length ws) X.capacity) _ _ _ _ (λ _. (few_words, refl, refl)) (λ h. offer_call room p P (ltb-false (length ws) X.capacity h) x))
 
-  pub call_of_lem : length X.sample ≤ X.capacity → (x : ℕ) (o : Offer) → o ≡ offered d X i w x (length ws) → CallOf o (call (whole d) X (arrive i w x ws))
+  pub call_of_lem : length X.sample ≤ X.capacity → (x : ℕ) (o : Result Offer Refusal) → o ≡ offered d X i w x (length ws) → CallOf o (call (whole d) X (arrive i w x ws))
   unfolding offered
   call_of_lem room x o e = subst (λ z. CallOf z (call (whole d) X (arrive i w x ws))) (sym e)
       (by_both CallOf (leb point_limit i) _ _ _ _ (λ _. (index_above, refl, refl)) (λ _. written_call room x (X.world.table i) refl))

@@ -6,7 +6,7 @@ use Rattle.cuttree.specs.Run.{World}
 use Rattle.wholetree.specs.Reading.{Reading}
 use Rattle.wholetree.specs.Whole.{whole}
 use Rattle.layout.specs.Stands.{trail}
-use Rattle.treestore.specs.Arrays.{Lent}
+use Rattle.treestore.specs.Arrays.{NodeStore}
 use Rattle.randomcuttree.specs.declared.RCFTree.{RCFTree}
 use Rattle.randomcuttree.specs.State.{State}
 
@@ -21,5 +21,5 @@ abbrev pub path_to : (d c : ℕ) → World (whole d) → ℕ → List (List ℕ)
 path_to d c W i path = let rows = rows_in d c W.tree (W.table i) in rows ++ drop (length rows) path
 
 -- the path before and after, whichever world's the lent tree is
-abbrev pub WalksTo : RCFTree → Lent → List (List Float) → ℕ → List (List ℕ) → List (List ℕ) → Type 0
+abbrev pub WalksTo : RCFTree → NodeStore → List (List Float) → ℕ → List (List ℕ) → List (List ℕ) → Type 0
 WalksTo tree a points i path path' = (d c : ℕ) (s : Float) (W : World (whole d)) (marks : List ℕ) → State d c s W tree a points marks → path' ≡ path_to d c W i path

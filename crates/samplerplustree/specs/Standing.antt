@@ -1,5 +1,5 @@
 -- That states are met: each sampled world that a making and its calls leave stands in arrays, and a put leaves one too. Statements.
-use Rattle.std.specs.Prelude.{◌≡◌, refl, true, List, [], ◌∷◌, map, ℕ, ◌≤◌, Float}
+use Rattle.std.specs.Prelude.{◌≡◌, refl, true, List, [], ◌∷◌, map, ℕ, ◌≤◌, Float, Result}
 use Rattle.std.specs.Float.{binary32}
 use Rattle.std.specs.Float.Ieee.{of_bits, fits, round, sub, div, of_int, lt, le, eq}
 use Rattle.limits.specs.Limits.{width, capacity_limit}
@@ -16,9 +16,9 @@ use Rattle.wholetree.specs.Reading.{is_coordinate32, is_row, coordinate, same_ro
 use Rattle.wholetree.specs.Whole.{whole}
 use Rattle.sampledtree.specs.Sampled.{Sampled, SampledCall, put, arrive, call, sampled_after, fresh}
 use Rattle.layout.specs.Layout.{table_of}
-use Rattle.pointstore.specs.declared.PutAnswer.{PutAnswer}
+use Rattle.refusals.specs.declared.Refusal.{Refusal}
 use Rattle.pointstore.specs.Puts.{Tabled, PutDone}
-use Rattle.treestore.specs.Arrays.{Lent, arrays_of}
+use Rattle.treestore.specs.Arrays.{NodeStore, arrays_of}
 use Rattle.randomcuttree.specs.State.{cached_by}
 use Rattle.samplerplustree.specs.declared.SamplerPlusTree.{SamplerPlusTree}
 use Rattle.samplerplustree.specs.State.{weights_of, held_of, head_of, SampledState}
@@ -45,6 +45,6 @@ full_of_equals = (refl, refl)
 
 -- A put is told its table by a state, and leaves one: header, arrays and sample stay as they are. What an arrival leaves is said in `Updated`.
 abbrev pub PutsKeepSampled : Type 0
-PutsKeepSampled = (d : ℕ) (s : Float) (X : Sampled (whole d)) (h : SamplerPlusTree) (a : Lent) (points : List (List Float)) (marks : List ℕ) (weights : List Float) (held : List ℕ) → SampledState d s X h a points marks weights held
+PutsKeepSampled = (d : ℕ) (s : Float) (X : Sampled (whole d)) (h : SamplerPlusTree) (a : NodeStore) (points : List (List Float)) (marks : List ℕ) (weights : List Float) (held : List ℕ) → SampledState d s X h a points marks weights held
     → Tabled d X.capacity X.world points marks a.copies
-    × ((i : ℕ) (xs : List Float) (points' : List (List Float)) (marks' : List ℕ) (r : PutAnswer) → PutDone d X.capacity X.world i xs points' marks' r → SampledState d s (call (whole d) X (put i xs)).1 h a points' marks' weights held)
+    × ((i : ℕ) (xs : List Float) (points' : List (List Float)) (marks' : List ℕ) (r : Result Unit Refusal) → PutDone d X.capacity X.world i xs points' marks' r → SampledState d s (call (whole d) X (put i xs)).1 h a points' marks' weights held)

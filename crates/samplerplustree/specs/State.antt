@@ -8,7 +8,7 @@ use Rattle.sampler.specs.Sample.{Entry}
 use Rattle.wholetree.specs.Whole.{whole}
 use Rattle.sampledtree.specs.Sampled.{Sampled}
 use Rattle.sampledtree.specs.Arrivals.{Agrees}
-use Rattle.treestore.specs.Arrays.{Lent}
+use Rattle.treestore.specs.Arrays.{NodeStore}
 use Rattle.randomcuttree.specs.State.{State, header_of}
 use Rattle.samplerplustree.specs.declared.SamplerPlusTree.{SamplerPlusTree}
 
@@ -29,7 +29,7 @@ module _ (d : ℕ) (s : Float) where
   head_of X = record { tree = header_of d X.capacity s X.world; sampler = sampler_of X.capacity X.sample; initial_accept_fraction = X.initial }
 
   -- header, arrays, table and sample are the sampled world's, slot by slot, and tree and sample agree
-  pub record SampledState (X : Sampled (whole d)) (h : SamplerPlusTree) (a : Lent) (points : List (List Float)) (marks : List ℕ) (weights : List Float) (held : List ℕ) : Type 0 where
+  pub record SampledState (X : Sampled (whole d)) (h : SamplerPlusTree) (a : NodeStore) (points : List (List Float)) (marks : List ℕ) (weights : List Float) (held : List ℕ) : Type 0 where
     pub head_is : h ≡ head_of X
     pub tree_is : State d X.capacity s X.world (header_of d X.capacity s X.world) a points marks
     pub weights_are : weights ≡ weights_of X.sample
@@ -38,7 +38,7 @@ module _ (d : ℕ) (s : Float) where
     pub initial_is : is_share X.initial ≡ true
 
 -- What a state function asks of its caller: that the lent state is one that a making and its calls leave.
-pub record SomeSampled (h : SamplerPlusTree) (a : Lent) (points : List (List Float)) (marks : List ℕ) (weights : List Float) (held : List ℕ) : Type 0 where
+pub record SomeSampled (h : SamplerPlusTree) (a : NodeStore) (points : List (List Float)) (marks : List ℕ) (weights : List Float) (held : List ℕ) : Type 0 where
   pub channels : ℕ
   pub share : Float
   pub world : Sampled (whole channels)

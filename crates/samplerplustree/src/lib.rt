@@ -3,23 +3,22 @@
 
 ghost use Rattle.std.specs.Prelude.{◌≡◌, ◌<◌, length};
 ghost use Rattle.limits.specs.Limits.{capacity_limit, point_limit};
-ghost use Rattle.treestore.specs.Arrays.{lent};
 ghost use Rattle.samplerplustree.specs.State.{SomeSampled};
 ghost use Rattle.samplerplustree.specs.Making.{refusal_by, SampledMade};
 ghost use Rattle.samplerplustree.specs.Updates.{UpdateDone};
-ghost use Rattle.samplerplustree.specs.Offers.{refusal_read, starts_read, OfferTold, SomeOffered, TakeDone};
+ghost use Rattle.samplerplustree.specs.Offers.{arrival_checked, starts_read, OfferTold, SomeOffered, TakeDone};
 ghost use Rattle.samplerplustree.specs.Leaves.{SomeAdmits, AddsLeaf, SomeCopy, DeletesLeaf};
 ghost use Rattle.samplerplustree.specs.Paths.{WalksTo};
 ghost use Rattle.samplerplustree.specs.Entering.{takes, evicts, answer_by, SomeLeaving, LeaveDone, LeavesPath, SeeksBy, SeesBy, SomeEntering, EnterDone, AdmitDone};
 
 use casts::{wide16, within};
-use limits::{
-    Boxes, CAPACITY, CHANNELS, Copies, Cuts, Free, Held, Marks, Nodes, POINTS, Path, Points,
-    Weights,
-};
-use randomcuttree::{AddAnswer, DeleteAnswer, Made, RCFTree};
+use limits::{CAPACITY, CHANNELS, Marks, POINTS, Path, Points, Weights};
+use pointstore::PointStore;
+use randomcuttree::RCFTree;
+use refusals::Refusal;
+pub use sampler::Sample;
 use sampler::Sampler;
-use treestore::Found;
+use treestore::{Found, NodeStore};
 
 // The header: the tree's, the sample's, and the initial share.
 #[derive(Clone, Copy)]
@@ -29,27 +28,17 @@ pub struct SamplerPlusTree {
     pub initial_accept_fraction: f64,
 }
 
-// What a making answers: the header of an empty sampled tree, or document 01's number.
+// An arrival that is accepted: the header after it, the leaf's point index, and the evicted index if any. Any other leaves the header as it was.
 #[derive(Clone, Copy)]
-pub enum MadeSampled {
-    Tree(SamplerPlusTree),
-    NotMade(u8),
+pub struct Accepted {
+    pub tree: SamplerPlusTree,
+    pub leaf: usize,
+    pub evicted: Option<usize>,
 }
 
-// What an arrival answers: accepted, with the header after it and the leaf's point index; the same with an eviction, and the evicted index; not accepted;
-// or document 01's number. In the last two cases the header is as it was.
-#[derive(Clone, Copy)]
-pub enum UpdateAnswer {
-    Accepted(SamplerPlusTree, usize),
-    Replaced(SamplerPlusTree, usize, usize),
-    NotAccepted,
-    Refused(u8),
-}
-
-// What an arrival is told before anything moves: document 01's number; not accepted; started; or accepted with an eviction.
-#[derive(Clone, Copy)]
+// What an arrival that is not refused is told before anything moves: not accepted; started; or accepted with an eviction.
+#[derive(Clone, Copy, Debug, PartialEq, Eq)]
 pub enum Offer {
-    Refused(u8),
     Passes,
     Begins,
     Evicts,
@@ -76,104 +65,96 @@ pub struct Remaining {
     pub gone: usize,
 }
 
-// The number of the first refusal of a making whose initial share is refused.
-fn refusal_of(dimensions: usize, capacity: usize, cache_fraction: f64) -> u8
+// The first refusal of a making whose initial share is refused.
+fn refusal_of(dimensions: usize, capacity: usize, cache_fraction: f64) -> Refusal
     ensures { result ≡ refusal_by dimensions capacity cache_fraction }
 {
     if !within(dimensions, 1, CHANNELS) {
-        return 1;
+        return Refusal::Channels;
     }
     if !within(capacity, 2, CAPACITY) {
-        return 2;
+        return Refusal::Capacity;
     }
     if !readings::is_share(cache_fraction) {
-        return 3;
+        return Refusal::CachedShare;
     }
-    4
+    Refusal::InitialShare
 }
 
 // Whether an offer takes the arrival.
-fn is_taken(offer: Offer) -> bool
+fn is_taken(offer: Result<Offer, Refusal>) -> bool
     ensures { result ≡ takes offer }
 {
-    match offer {
-        Offer::Refused(_) => false,
-        Offer::Passes => false,
-        Offer::Begins => true,
-        Offer::Evicts => true,
-    }
+    matches!(offer, Ok(Offer::Begins | Offer::Evicts))
 }
 
 // Whether it evicts.
-fn is_evicting(offer: Offer) -> bool
+fn is_evicting(offer: Result<Offer, Refusal>) -> bool
     ensures { result ≡ evicts offer }
 {
-    match offer {
-        Offer::Refused(_) => false,
-        Offer::Passes => false,
-        Offer::Begins => false,
-        Offer::Evicts => true,
-    }
+    matches!(offer, Ok(Offer::Evicts))
 }
 
 // What an offer has answered: of an arrival that is taken with the header after it, the leaf's index and the index that is gone.
-fn answer_of(offer: Offer, next: SamplerPlusTree, leaf: usize, gone: usize) -> UpdateAnswer
-    ensures { result ≡ answer_by offer next leaf gone }
+fn answer_of(
+    offer: Result<Offer, Refusal>,
+    tree: SamplerPlusTree,
+    leaf: usize,
+    gone: usize,
+) -> Result<Option<Accepted>, Refusal>
+    ensures { result ≡ answer_by offer tree leaf gone }
 {
-    match offer {
-        Offer::Refused(n) => UpdateAnswer::Refused(n),
-        Offer::Passes => UpdateAnswer::NotAccepted,
-        Offer::Begins => UpdateAnswer::Accepted(next, leaf),
-        Offer::Evicts => UpdateAnswer::Replaced(next, leaf, gone),
-    }
+    let evicted = match offer? {
+        Offer::Passes => return Ok(None),
+        Offer::Begins => None,
+        Offer::Evicts => Some(gone),
+    };
+    Ok(Some(Accepted {
+        tree,
+        leaf,
+        evicted,
+    }))
 }
 
 // The add where it is never refused.
 fn add_leaf(
     tree: RCFTree,
-    nodes: &mut Nodes,
-    cuts: &mut Cuts,
-    copies: &mut Copies,
-    free: &mut Free,
-    boxes: &mut Boxes,
+    store: &mut NodeStore,
     points: &Points,
     index: usize,
     path: &Path,
     found: Found,
     words: &[u64],
 ) -> AddedLeaf
-    requires { SomeAdmits tree (lent nodes.old cuts.old copies.old free.old boxes.old) points.now index path.now found (length words.now) }
+    requires { SomeAdmits tree store.old points.now index path.now found (length words.now) }
     ensures small { result.leaf < point_limit }
-    ensures adds { AddsLeaf tree (lent nodes.old cuts.old copies.old free.old boxes.old) points.now index words.now result (lent nodes.new cuts.new copies.new free.new boxes.new) }
+    ensures adds { AddsLeaf tree store.old points.now index words.now result store.new }
 {
-    match tree.add_found(
-        nodes, cuts, copies, free, boxes, points, index, path, found, words,
-    ) {
-        AddAnswer::Added(next, leaf, _) => AddedLeaf { tree: next, leaf },
-        AddAnswer::NotAdded(_) => AddedLeaf { tree, leaf: index },
+    match tree.add_found(store, points, index, path, found, words) {
+        Ok(added) => AddedLeaf {
+            tree: added.tree,
+            leaf: added.leaf,
+        },
+        Err(_) => AddedLeaf { tree, leaf: index },
     }
 }
 
 // The header after a delete that is never refused.
 fn delete_leaf(
     tree: RCFTree,
-    nodes: &mut Nodes,
-    cuts: &mut Cuts,
-    copies: &mut Copies,
-    free: &mut Free,
-    boxes: &mut Boxes,
+    store: &mut NodeStore,
     points: &Points,
     index: usize,
     path: &mut Path,
 ) -> RCFTree
-    requires { SomeCopy tree (lent nodes.old cuts.old copies.old free.old boxes.old) points.now index }
-    ensures done { DeletesLeaf tree (lent nodes.old cuts.old copies.old free.old boxes.old) points.now index result (lent nodes.new cuts.new copies.new free.new boxes.new) }
-    ensures path { WalksTo tree (lent nodes.old cuts.old copies.old free.old boxes.old) points.now index path.old path.new }
+    requires { SomeCopy tree store.old points.now index }
+    ensures done { DeletesLeaf tree store.old points.now index result store.new }
+    ensures path { WalksTo tree store.old points.now index path.old path.new }
 {
-    let found = tree.find(nodes, cuts, points, index, path);
-    match tree.delete_found(nodes, cuts, copies, free, boxes, points, index, path, found) {
-        DeleteAnswer::Deleted(next, _) => next,
-        DeleteAnswer::NotDeleted(_) => tree,
+    let found = tree.find(store, points, index, path);
+    match tree.delete_found(store, points, index, path, found) {
+        Ok(deleted) => deleted.tree,
+        Err(_) => tree,
     }
 }
 
@@ -185,61 +166,43 @@ impl SamplerPlusTree {
         capacity: usize,
         cache_fraction: f64,
         initial_accept_fraction: f64,
-        nodes: &mut Nodes,
-        cuts: &mut Cuts,
-        copies: &mut Copies,
-        free: &mut Free,
-        boxes: &mut Boxes,
-        weights: &mut Weights,
-        held: &mut Held,
-    ) -> MadeSampled
+        store: &mut NodeStore,
+        sample: &mut Sample,
+    ) -> Result<Self, Refusal>
         ensures { SampledMade dimensions capacity cache_fraction initial_accept_fraction
-            (lent nodes.old cuts.old copies.old free.old boxes.old)
-            (lent nodes.new cuts.new copies.new free.new boxes.new)
-            weights.old weights.new held.old held.new result }
+            store.old
+            store.new
+            sample.old.weights sample.new.weights sample.old.held sample.new.held result }
     {
         if !readings::is_share(initial_accept_fraction) {
-            return MadeSampled::NotMade(refusal_of(dimensions, capacity, cache_fraction));
+            return Err(refusal_of(dimensions, capacity, cache_fraction));
         }
-        match RCFTree::new(
-            dimensions,
-            capacity,
-            cache_fraction,
-            nodes,
-            cuts,
-            copies,
-            free,
-            boxes,
-        ) {
-            Made::NotMade(n) => MadeSampled::NotMade(n),
-            Made::Tree(tree) => {
-                let sampler = Sampler::new(tree.capacity, weights, held);
-                MadeSampled::Tree(SamplerPlusTree {
-                    tree,
-                    sampler,
-                    initial_accept_fraction,
-                })
-            }
-        }
+        let tree = RCFTree::new(dimensions, capacity, cache_fraction, store)?;
+        let sampler = Sampler::new(tree.capacity, sample);
+        Ok(Self {
+            tree,
+            sampler,
+            initial_accept_fraction,
+        })
     }
 
-    // The number of an arrival's first refusal, and 0 where there is none.
-    fn refusal(self, written: &Marks, index: usize, weight: f32, n: usize) -> u8
-        ensures { result ≡ refusal_read self written.now index weight n }
+    // The first refusal of an arrival of so many words, if there is one.
+    fn check(self, written: &Marks, index: usize, weight: f32, words: usize) -> Result<(), Refusal>
+        ensures { result ≡ arrival_checked self written.now index weight words }
     {
         if POINTS <= index {
-            return 5;
+            return Err(Refusal::IndexAbove);
         }
         if written[index] == 0 {
-            return 9;
+            return Err(Refusal::NeverWritten);
         }
         if !readings::is_weight(weight) {
-            return 14;
+            return Err(Refusal::BadWeight);
         }
-        if n < wide16(self.tree.capacity) {
-            return 11;
+        if words < wide16(self.tree.capacity) {
+            return Err(Refusal::FewWords);
         }
-        0
+        Ok(())
     }
 
     // Whether the word starts an arrival.
@@ -268,21 +231,18 @@ impl SamplerPlusTree {
         weight: f32,
         chance: u64,
         words: &[u64],
-    ) -> Offer
+    ) -> Result<Offer, Refusal>
         ensures { OfferTold self written.now weights.now index weight chance (length words.now) result }
     {
-        let refusal = self.refusal(written, index, weight, words.len());
-        if refusal != 0 {
-            return Offer::Refused(refusal);
-        }
+        self.check(written, index, weight, words.len())?;
         if self.starts(chance) {
-            return Offer::Begins;
+            return Ok(Offer::Begins);
         }
         let sampler = self.sampler;
         if sampler.accepts(false, weight, weights) {
-            return Offer::Evicts;
+            return Ok(Offer::Evicts);
         }
-        Offer::Passes
+        Ok(Offer::Passes)
     }
 
     // The first step of an arrival: where its offer evicts, the first entry leaves the sample, and its index the tree. No word of the arrival is needed
@@ -291,21 +251,16 @@ impl SamplerPlusTree {
     // Rules out an entry that leaves the sample and whose index stays in the tree, and an eviction for an offer that evicts nothing.
     pub fn leave(
         self,
-        offer: Offer,
-        nodes: &mut Nodes,
-        cuts: &mut Cuts,
-        copies: &mut Copies,
-        free: &mut Free,
-        boxes: &mut Boxes,
+        offer: Result<Offer, Refusal>,
+        store: &mut NodeStore,
         points: &Points,
-        weights: &mut Weights,
-        held: &mut Held,
+        sample: &mut Sample,
         path: &mut Path,
     ) -> Remaining
-        requires { SomeLeaving self offer (lent nodes.old cuts.old copies.old free.old boxes.old) points.now weights.old held.old }
-        ensures done { LeaveDone self offer (lent nodes.old cuts.old copies.old free.old boxes.old) points.now weights.old held.old result
-            (lent nodes.new cuts.new copies.new free.new boxes.new) weights.new held.new }
-        ensures path { LeavesPath self offer (lent nodes.old cuts.old copies.old free.old boxes.old) points.now weights.old held.old path.old path.new }
+        requires { SomeLeaving self offer store.old points.now sample.old.weights sample.old.held }
+        ensures done { LeaveDone self offer store.old points.now sample.old.weights sample.old.held result
+            store.new sample.new.weights sample.new.held }
+        ensures path { LeavesPath self offer store.old points.now sample.old.weights sample.old.held path.old path.new }
     {
         if !is_evicting(offer) {
             return Remaining {
@@ -313,16 +268,14 @@ impl SamplerPlusTree {
                 gone: 0,
             };
         }
-        let evicted = self.sampler.evict_max(weights, held);
+        let evicted = self.sampler.evict_max(sample);
         let gone = wide16(evicted.index);
-        let left = delete_leaf(
-            self.tree, nodes, cuts, copies, free, boxes, points, gone, path,
-        );
+        let left = delete_leaf(self.tree, store, points, gone, path);
         let sampler = evicted.sampler;
         let tree = SamplerPlusTree {
             tree: left,
             sampler,
-            initial_accept_fraction: self.initial_accept_fraction,
+            ..self
         };
         Remaining { tree, gone }
     }
@@ -330,35 +283,26 @@ impl SamplerPlusTree {
     // The arrival is added to the tree, and the sample keeps the leaf's index.
     fn admit(
         self,
-        nodes: &mut Nodes,
-        cuts: &mut Cuts,
-        copies: &mut Copies,
-        free: &mut Free,
-        boxes: &mut Boxes,
+        store: &mut NodeStore,
         points: &Points,
-        weights: &mut Weights,
-        held: &mut Held,
+        sample: &mut Sample,
         index: usize,
         weight: f32,
         path: &Path,
         found: Found,
         words: &[u64],
     ) -> Admitted
-        requires { SomeAdmits self.tree (lent nodes.old cuts.old copies.old free.old boxes.old) points.now index path.now found (length words.now) × (self.sampler.current_size < capacity_limit) }
-        ensures { AdmitDone self (lent nodes.old cuts.old copies.old free.old boxes.old) points.now weights.old held.old index weight words.now result
-            (lent nodes.new cuts.new copies.new free.new boxes.new) weights.new held.new }
+        requires { SomeAdmits self.tree store.old points.now index path.now found (length words.now) × (self.sampler.current_size < capacity_limit) }
+        ensures { AdmitDone self store.old points.now sample.old.weights sample.old.held index weight words.now result
+            store.new sample.new.weights sample.new.held }
     {
-        let added = add_leaf(
-            self.tree, nodes, cuts, copies, free, boxes, points, index, path, found, words,
-        );
-        let sampler = self
-            .sampler
-            .add_point(weight, added.leaf as u16, weights, held);
+        let added = add_leaf(self.tree, store, points, index, path, found, words);
+        let sampler = self.sampler.add_point(weight, added.leaf as u16, sample);
         let tree = added.tree;
         let next = SamplerPlusTree {
             tree,
             sampler,
-            initial_accept_fraction: self.initial_accept_fraction,
+            ..self
         };
         Admitted {
             tree: next,
@@ -370,31 +314,23 @@ impl SamplerPlusTree {
     // Rules out the arrival's own index kept in place of the leaf's, and an eviction that deletes the arrival's index.
     pub fn take_arrival(
         self,
-        offer: Offer,
-        nodes: &mut Nodes,
-        cuts: &mut Cuts,
-        copies: &mut Copies,
-        free: &mut Free,
-        boxes: &mut Boxes,
+        offer: Result<Offer, Refusal>,
+        store: &mut NodeStore,
         points: &Points,
-        weights: &mut Weights,
-        held: &mut Held,
+        sample: &mut Sample,
         index: usize,
         weight: f32,
         words: &[u64],
-    ) -> UpdateAnswer
-        requires { SomeOffered self offer (lent nodes.old cuts.old copies.old free.old boxes.old) points.now weights.old held.old index weight (length words.now) }
-        ensures { TakeDone self offer (lent nodes.old cuts.old copies.old free.old boxes.old) points.now weights.old held.old index weight words.now result
-            (lent nodes.new cuts.new copies.new free.new boxes.new) weights.new held.new }
+    ) -> Result<Option<Accepted>, Refusal>
+        requires { SomeOffered self offer store.old points.now sample.old.weights sample.old.held index weight (length words.now) }
+        ensures { TakeDone self offer store.old points.now sample.old.weights sample.old.held index weight words.now result
+            store.new sample.new.weights sample.new.held }
     {
         let mut path = [[0u16; 2]; CAPACITY];
-        let remaining = self.leave(
-            offer, nodes, cuts, copies, free, boxes, points, weights, held, &mut path,
-        );
-        let found = remaining.find(offer, nodes, cuts, points, index, &mut path);
+        let remaining = self.leave(offer, store, points, sample, &mut path);
+        let found = remaining.find(offer, store, points, index, &mut path);
         remaining.enter(
-            offer, nodes, cuts, copies, free, boxes, points, weights, held, index, weight, &path,
-            found, words,
+            offer, store, points, sample, index, weight, &path, found, words,
         )
     }
 
@@ -402,28 +338,27 @@ impl SamplerPlusTree {
     // Rules out a sample that keeps an index with no leaf, and a tree that moves for an arrival not accepted.
     pub fn update(
         self,
-        nodes: &mut Nodes,
-        cuts: &mut Cuts,
-        copies: &mut Copies,
-        free: &mut Free,
-        boxes: &mut Boxes,
-        points: &Points,
-        written: &Marks,
-        weights: &mut Weights,
-        held: &mut Held,
+        store: &mut NodeStore,
+        table: &PointStore,
+        sample: &mut Sample,
         index: usize,
         weight: f32,
         chance: u64,
         words: &[u64],
-    ) -> UpdateAnswer
-        requires { SomeSampled self (lent nodes.old cuts.old copies.old free.old boxes.old) points.now written.now weights.old held.old }
-        ensures { UpdateDone self (lent nodes.old cuts.old copies.old free.old boxes.old) points.now written.now weights.old held.old index weight chance words.now result
-            (lent nodes.new cuts.new copies.new free.new boxes.new) weights.new held.new }
+    ) -> Result<Option<Accepted>, Refusal>
+        requires { SomeSampled self store.old table.now.points table.now.written sample.old.weights sample.old.held }
+        ensures { UpdateDone self store.old table.now.points table.now.written sample.old.weights sample.old.held index weight chance words.now result
+            store.new sample.new.weights sample.new.held }
     {
-        let offer = self.test_arrival(written, weights, index, weight, chance, words);
-        self.take_arrival(
-            offer, nodes, cuts, copies, free, boxes, points, weights, held, index, weight, words,
-        )
+        let offer = self.test_arrival(
+            &table.written,
+            &sample.weights,
+            index,
+            weight,
+            chance,
+            words,
+        );
+        self.take_arrival(offer, store, &table.points, sample, index, weight, words)
     }
 }
 
@@ -432,19 +367,18 @@ impl Remaining {
     // Rules out a walk through the tree before the eviction, and one for an arrival that is refused.
     pub fn find(
         self,
-        offer: Offer,
-        nodes: &Nodes,
-        cuts: &Cuts,
+        offer: Result<Offer, Refusal>,
+        store: &NodeStore,
         points: &Points,
         index: usize,
         path: &mut Path,
     ) -> Found
-        requires { SeeksBy self offer nodes.now cuts.now points.now index }
-        ensures { SeesBy self offer nodes.now cuts.now points.now index path.old result path.new }
+        requires { SeeksBy self offer store.now.nodes store.now.cuts points.now index }
+        ensures { SeesBy self offer store.now.nodes store.now.cuts points.now index path.old result path.new }
     {
         if is_taken(offer) {
             let bare = self.tree.tree;
-            return bare.find(nodes, cuts, points, index, path);
+            return bare.find(store, points, index, path);
         }
         randomcuttree::no_walk()
     }
@@ -453,30 +387,24 @@ impl Remaining {
     // Rules out the arrival's own index kept in place of the leaf's, and an evicted index told for a started arrival.
     pub fn enter(
         self,
-        offer: Offer,
-        nodes: &mut Nodes,
-        cuts: &mut Cuts,
-        copies: &mut Copies,
-        free: &mut Free,
-        boxes: &mut Boxes,
+        offer: Result<Offer, Refusal>,
+        store: &mut NodeStore,
         points: &Points,
-        weights: &mut Weights,
-        held: &mut Held,
+        sample: &mut Sample,
         index: usize,
         weight: f32,
         path: &Path,
         found: Found,
         words: &[u64],
-    ) -> UpdateAnswer
-        requires { SomeEntering self offer (lent nodes.old cuts.old copies.old free.old boxes.old) points.now weights.old held.old index weight path.now found (length words.now) }
-        ensures { EnterDone self offer (lent nodes.old cuts.old copies.old free.old boxes.old) points.now weights.old held.old index weight words.now result
-            (lent nodes.new cuts.new copies.new free.new boxes.new) weights.new held.new }
+    ) -> Result<Option<Accepted>, Refusal>
+        requires { SomeEntering self offer store.old points.now sample.old.weights sample.old.held index weight path.now found (length words.now) }
+        ensures { EnterDone self offer store.old points.now sample.old.weights sample.old.held index weight words.now result
+            store.new sample.new.weights sample.new.held }
     {
         if is_taken(offer) {
-            let admitted = self.tree.admit(
-                nodes, cuts, copies, free, boxes, points, weights, held, index, weight, path,
-                found, words,
-            );
+            let admitted = self
+                .tree
+                .admit(store, points, sample, index, weight, path, found, words);
             let next = admitted.tree;
             return answer_of(offer, next, admitted.leaf, self.gone);
         }

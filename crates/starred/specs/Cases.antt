@@ -1,5 +1,5 @@
 -- The kinds of starred case, and when a case holds. A later kind joins as one constructor and one clause.
-use Rattle.std.specs.Prelude.{List, [], ◌∷◌, Bool, true, false, ◌&&◌, ℕ, eqb, length, Float}
+use Rattle.std.specs.Prelude.{Option, Some, None, List, [], ◌∷◌, Bool, true, false, ◌&&◌, ℕ, eqb, length, Float}
 use Rattle.std.proofs.Math.Option.{none, some}
 use Prim.Native.String.{String}
 use Rattle.std.specs.Float.{binary32, binary64}
@@ -14,7 +14,6 @@ use Rattle.boundingbox.specs.Ends.{least, greatest}
 use Rattle.boundingbox.specs.Sides.{gap_of, total}
 use Rattle.boundingbox.specs.Contained.{every}
 use Rattle.cut.specs.declared.Separation.{Separation}
-use Rattle.cut.specs.declared.Separation.TheVariants.{NoCut, Drawn}
 use Rattle.cut.specs.Draw.{outside_of, outside_sum, side_of, range_of, reaches, left_of, side_from, moved, placed, parts, drawn_at, separation}
 use Rattle.probability.specs.Probability.{past_by, total32, part_of, probability}
 use Rattle.intervalstoremanager.specs.Stack as Stack
@@ -45,9 +44,9 @@ abbrev pub floats : List ℕ → List Float
 floats [] = []
 floats (b ∷ bs) = of_bits binary32 b ∷ floats bs
 
-abbrev draws : Separation → ℕ → ℕ → Bool
-draws NoCut d v = false
-draws (Drawn k p) d v = eqb k.dimension d && eqb (to_bits binary32 k.value) v && p
+abbrev draws : Option Separation → ℕ → ℕ → Bool
+draws None d v = false
+draws (Some s) d v = eqb s.cut.dimension d && eqb (to_bits binary32 s.cut.value) v && s.parts
 
 abbrev is_added : (d : ℕ) → Answer (whole d) → ℕ → ℕ → Bool
 is_added d (refused e) j m = false

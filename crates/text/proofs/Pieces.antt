@@ -1,39 +1,27 @@
 -- The pieces of a text: the search for a separator, where a piece ends, and the pieces from a place on by the first of them. Assumes nothing.
 use mathlib.Core.Path.{◌≡◌, refl, sym, ◌∙◌}
 use mathlib.Core.List.{List, [], ◌∷◌}
-use mathlib.Core.Bool.{Bool, true, false, cond}
+use mathlib.Core.Bool.{Bool, true, false, cond, not}
 use Prim.Native.Nat.{ℕ, zero, suc, ◌+◌, ◌-◌, ◌≤◌, ◌<◌}
 use native.Mathlib.Nat.{zero-add, add-zero, suc-add}
 use native.Mathlib.Omega.{arith}
-use borrow.Author.Tests.{le-leb, lt-leb, eq-eqb, ne_eqb}
-use lib.ListN.{length, get_or, take, drop, length-drop}
-use lib.Dec.{eqb, leb-suc-suc, leb-zero}
+use borrow.Author.Tests.{le-leb, lt-leb, ltb-false}
+use lib.ListN.{length, take, drop, length-drop}
+use lib.Dec.{eqb, ltb, leb-suc-suc, leb-zero}
+use Rattle.std.specs.Prelude.{Some, None, unwrap_or, position}
+use Rattle.std.specs.List.{position_or_len}
 use Rattle.text.specs.Pieces.{onto, pieces, pieces_from, bytes_before, piece_end, next_piece, PieceEnds}
-use Rattle.text.proofs.Lists.{here, past, rest}
+use Rattle.text.proofs.Lists.{rest}
 
--- ---- the search for a byte: i bytes are passed, and the rest gives what the whole gives
-pub record Finding (b : ℕ) (s : List ℕ) (i : ℕ) : Type 0 where
-  pub within : i ≤ length s
-  pub same : i + bytes_before b (drop i s) ≡ bytes_before b s
-
-pub find_start : {b : ℕ} {s : List ℕ} → Finding b s 0
+-- ---- the search for a byte is std's
+before_is : (b : ℕ) (s : List ℕ) → position_or_len (λ x. eqb x b) s ≡ bytes_before b s
 unfolding bytes_before
-find_start = record { within = omega arith; same = omega arith }
-
-module _ {b : ℕ} {s : List ℕ} {i : ℕ} (w : Finding b s i) where
-  pub find_hit : i < length s → get_or s i 0 ≡ b → i ≡ bytes_before b s
-  unfolding bytes_before
-  find_hit h e = let z : bytes_before b (drop i s) ≡ 0 = rw (here s i h, eq-eqb _ _ e) in omega arith
-
-  pub find_step : i < length s → (get_or s i 0 ≡ b → ⊥) → Finding b s (i + 1)
-  unfolding bytes_before
-  find_step h n =
-      let z : bytes_before b (drop i s) ≡ suc (bytes_before b (drop (i + 1) s)) = rw (here s i h, ne_eqb _ _ n) in
-      record { within = omega arith; same = omega arith }
-
-  pub find_end : length s ≤ i → i ≡ bytes_before b s
-  unfolding bytes_before
-  find_end h = let z : bytes_before b (drop i s) ≡ 0 = rw (past s i h) in omega arith
+before_is b [] = refl
+before_is b (x ∷ s) = go (eqb x b) (before_is b s)
+  where
+    go : (t : Bool) → position_or_len (λ x. eqb x b) s ≡ bytes_before b s → cond (not t) (1 + position_or_len (λ x. eqb x b) s) 0 ≡ cond t 0 (suc (bytes_before b s))
+    go true h = refl
+    go false h = omega arith
 
 before_le : (b : ℕ) (s : List ℕ) → bytes_before b s ≤ length s
 unfolding bytes_before
@@ -43,6 +31,16 @@ before_le b (x ∷ s) = go (eqb x b) (before_le b s)
     go : (t : Bool) → bytes_before b s ≤ length s → cond t 0 (suc (bytes_before b s)) ≤ suc (length s)
     go true h = omega arith
     go false h = omega arith
+
+pick : (p n : ℕ) → p ≤ n → unwrap_or (cond (ltb p n) (Some p) None) n ≡ p
+pick p n h = go (ltb p n) refl
+  where
+    go : (t : Bool) → ltb p n ≡ t → unwrap_or (cond t (Some p) None) n ≡ p
+    go true e = refl
+    go false e = let l : n ≤ p = omega (arith, ltb-false) in omega arith
+
+pub position_before : (b : ℕ) (s : List ℕ) → unwrap_or (position (λ x. eqb x b) s) (length s) ≡ bytes_before b s
+position_before b s = rw (before_is b s) (pick _ _ (before_le b s))
 
 -- ---- the first piece, and those after it
 from_suc : (b x : ℕ) (s : List ℕ) (k : ℕ) → pieces_from b (x ∷ s) (suc k) ≡ pieces_from b s k

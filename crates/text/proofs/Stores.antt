@@ -5,38 +5,43 @@ use Prim.Native.Nat.{ℕ, suc, ◌+◌, ◌-◌, ◌≤◌, ◌<◌}
 use native.Mathlib.Numerals.{add-one}
 use native.Mathlib.Omega.{arith}
 use lib.ListN.{length, set, take, drop, length-set}
-use lib.Seq.{drop-nil, sets}
+use lib.Seq.{drop-nil, sets, set_out}
+use Rattle.text.specs.Fields.{Computes}
 use Rattle.text.specs.Pieces.{pieces_from, PieceEnds}
 use Rattle.text.proofs.Pieces.{from_first, from_past}
 
--- n values are stored, and the next field starts at `at`. f gives a field's value; `set` past the end stores nothing, so `sets` keeps what fits.
-pub record Storing {A : Type 0} (f : List ℕ → A) (s : List ℕ) (k : ℕ) (buf₀ buf : List A) (at n : ℕ) : Type 0 where
+-- n values are stored, and the next field starts at `at`. `answers` ties a field to its value; `set` past the end stores nothing, so `sets` keeps what fits.
+pub record Storing {A : Type 0} (answers : List ℕ → A → Type 0) (s : List ℕ) (k : ℕ) (buf₀ buf : List A) (at n : ℕ) : Type 0 where
   pub few : n + k ≤ at
   pub long : length buf ≡ length buf₀
   pub count : n + length (pieces_from 32 s at) ≡ length (pieces_from 32 s k)
-  pub same : sets buf n (map f (pieces_from 32 s at)) ≡ sets buf₀ 0 (map f (pieces_from 32 s k))
+  pub same : (f : List ℕ → A) → Computes answers f → sets buf n (map f (pieces_from 32 s at)) ≡ sets buf₀ 0 (map f (pieces_from 32 s k))
 
-module _ {A : Type 0} {f : List ℕ → A} {s : List ℕ} {k : ℕ} {buf₀ : List A} where
-  pub store_start : Storing f s k buf₀ buf₀ k 0
-  store_start = record { few = omega arith; long = refl; count = omega arith; same = refl }
-
-  module _ {buf : List A} {at n : ℕ} (w : Storing f s k buf₀ buf at n) where
-    pub store_step : {e : ℕ} → at ≤ length s → PieceEnds 32 s at e → {v : A} → v ≡ f (take (e - at) (drop at s)) → {buf' : List A} → buf' ≡ set buf n v → Storing f s k buf₀ buf' (e + 1) (n + 1)
-    store_step {e} h q {v} p {buf'} z =
+module _ {A : Type 0} {answers : List ℕ → A → Type 0} {s : List ℕ} {k : ℕ} {buf₀ : List A} where
+  module _ {buf : List A} {at n : ℕ} (w : Storing answers s k buf₀ buf at n) where
+    store_more : {e : ℕ} → at ≤ length s → PieceEnds 32 s at e → (buf' : List A) → length buf' ≡ length buf
+        → ((f : List ℕ → A) → Computes answers f → buf' ≡ set buf n (f (take (e - at) (drop at s)))) → Storing answers s k buf₀ buf' (e + 1) (n + 1)
+    store_more {e} h q buf' l z =
         let a = from_first 32 s at e h q in
         let c : length (pieces_from 32 s at) ≡ suc (length (pieces_from 32 s (e + 1))) = rw a in
         record {
           few = omega arith;
-          long = rw (z, length-set) w.long;
+          long = l ∙ w.long;
           count = omega arith;
-          same = rw (z, add-one n, p) (rw a at w.same);
+          same = λ f g. rw (z f g, add-one n) (rw a at (w.same f g));
         }
+
+    pub store_step : {e : ℕ} → at ≤ length s → PieceEnds 32 s at e → {v : A} → answers (take (e - at) (drop at s)) v → Storing answers s k buf₀ (set buf n v) (e + 1) (n + 1)
+    store_step h q {v} p = store_more h q _ (length-set buf n v) (λ f g. ap (set buf n) (g _ v p))
+
+    pub store_skip : {e : ℕ} → at ≤ length s → PieceEnds 32 s at e → length buf ≤ n → Storing answers s k buf₀ buf (e + 1) (n + 1)
+    store_skip h q l = store_more h q _ refl (λ f g. sym (set_out buf n _ l))
 
     pub store_count : length s < at → n ≡ length (pieces_from 32 s k)
     store_count h = let c : length (pieces_from 32 s at) ≡ 0 = rw (from_past 32 s at h) in omega arith
 
-    pub store_end : length s < at → buf ≡ sets buf₀ 0 (map f (pieces_from 32 s k))
-    store_end h = rw (from_past 32 s at h) at w.same
+    pub store_end : length s < at → (f : List ℕ → A) → Computes answers f → buf ≡ sets buf₀ 0 (map f (pieces_from 32 s k))
+    store_end h f g = rw (from_past 32 s at h) at (w.same f g)
 
 -- ---- values stored from the front: those that fit, and what stands after them
 module _ {A : Type 0} where

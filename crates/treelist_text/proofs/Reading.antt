@@ -9,19 +9,16 @@ use borrow.Author.Tests.{leb-true, leb-false}
 use lib.Dec.{leb}
 use lib.Ieee.{Float}
 use lib.ListN.{length, take, drop}
-use Rattle.text.specs.declared.Number.{Number}
-use Rattle.text.specs.declared.Number.TheVariants.{Is, NoNumber}
+use Rattle.std.specs.Prelude.{Option, Some, None, Result, Ok, Err}
 use Rattle.text.specs.Numbers.{decimal_of}
 use Rattle.text.specs.Pieces.{pieces, pieces_from, PieceEnds}
 use Rattle.text.proofs.Sizes.{number_small}
-use Rattle.form.specs.Rows.{is_some}
+use Rattle.form.specs.Rows.{is_there}
 use Rattle.form.specs.Making.{Making, making_of, making_by, making_says, sixteenths_of}
-use Rattle.form.specs.declared.MakingRow.{MakingRow}
-use Rattle.form.specs.declared.MakingRow.TheVariants.{Make, NoMaking}
+use Rattle.form.specs.declared.Making as Read
+use Rattle.form.specs.declared.BadRow.{BadRow}
 use Rattle.form.specs.Form.{op_rows, rows_from, bad, parsed, form_of}
 use Rattle.form.specs.Lines.{FirstLines}
-use Rattle.form.specs.declared.Form.{Form}
-use Rattle.form.specs.declared.Form.TheVariants.{Good, Bad}
 use Rattle.form.proofs.Blocks.{form_long, form_one, form_two, form_three}
 use Rattle.form.proofs.Tells.{form_tells}
 use Rattle.form.proofs.Read.{read_not_bad, read_blocks, read_lines}
@@ -30,43 +27,43 @@ use Rattle.treelist_text.specs.Output.{output_by, output, listed_by}
 use Rattle.treelist_text.specs.Running.{InForm}
 
 -- ---- by the form that is answered
-pub bad_output : (t : List ℕ) (f : Form) (r : ℕ) → f ≡ form_of t → f ≡ Bad r → {l : List ℕ} {q : ℕ} {o : List ℕ} → Wrote l 0 (refused_line 17 r) q o → Wrote l 0 (output t) q o
-bad_output t f r e b w = let z : parsed t ≡ bad r = (form_tells t).bad_is r (sym e ∙ b) in rw z w
+pub bad_output : (t : List ℕ) (f : Result ℕ BadRow) (b : BadRow) → f ≡ form_of t → f ≡ Err b → {l : List ℕ} {q : ℕ} {o : List ℕ} → Wrote l 0 (refused_line 17 b.row) q o → Wrote l 0 (output t) q o
+bad_output t f b e h w = let z : parsed t ≡ bad b.row = (form_tells t).bad_is b.row (sym e ∙ h) in rw z w
 
-pub in_form_lem : (t : List ℕ) (f : Form) (n : ℕ) → f ≡ form_of t → f ≡ Good n → InForm t
+pub in_form_lem : (t : List ℕ) (f : Result ℕ BadRow) (n : ℕ) → f ≡ form_of t → f ≡ Ok n → InForm t
 in_form_lem t f n e g = let z = (form_tells t).good_is n (sym e ∙ g) in record { making = z.making; ops = z.ops; is = z.is }
 
 -- ---- three numbers below 10^9
-by_three : (p : List ℕ) (x y z : Number) → decimal_of p ≡ z → (m : Making) → making_by x y z ≡ some m → m.sixteenths < 1000000000
-by_three p NoNumber y z e m h = absurd (false≢true (ap is_some h))
-by_three p (Is x) NoNumber z e m h = absurd (false≢true (ap is_some h))
-by_three p (Is x) (Is y) NoNumber e m h = absurd (false≢true (ap is_some h))
-by_three p (Is x) (Is y) (Is z) e m h =
+by_three : (p : List ℕ) (x y z : Option ℕ) → decimal_of p ≡ z → (m : Making) → making_by x y z ≡ some m → m.sixteenths < 1000000000
+by_three p None y z e m h = absurd (false≢true (ap is_there h))
+by_three p (Some x) None z e m h = absurd (false≢true (ap is_there h))
+by_three p (Some x) (Some y) None e m h = absurd (false≢true (ap is_there h))
+by_three p (Some x) (Some y) (Some z) e m h =
     let g : record { channels = x; capacity = y; sixteenths = z } ≡ m = cc in
     subst (λ (n : Making). n.sixteenths < 1000000000) g (number_small p z e)
 
 few_sixteenths : (ps : List (List ℕ)) (m : Making) → making_of ps ≡ some m → m.sixteenths < 1000000000
 unfolding making_of
-few_sixteenths [] m h = absurd (false≢true (ap is_some h))
-few_sixteenths (a ∷ []) m h = absurd (false≢true (ap is_some h))
-few_sixteenths (a ∷ b ∷ []) m h = absurd (false≢true (ap is_some h))
+few_sixteenths [] m h = absurd (false≢true (ap is_there h))
+few_sixteenths (a ∷ []) m h = absurd (false≢true (ap is_there h))
+few_sixteenths (a ∷ b ∷ []) m h = absurd (false≢true (ap is_there h))
 few_sixteenths (a ∷ b ∷ c ∷ []) m h = by_three c (decimal_of a) (decimal_of b) (decimal_of c) refl m h
-few_sixteenths (a ∷ b ∷ c ∷ d ∷ ps) m h = absurd (false≢true (ap is_some h))
+few_sixteenths (a ∷ b ∷ c ∷ d ∷ ps) m h = absurd (false≢true (ap is_there h))
 
 -- ---- what the making's row is answered to be
-module _ (ps : List (List ℕ)) (r : MakingRow) (e : making_of ps ≡ making_says r) where
-  pub no_making : (m : Making) → making_of ps ≡ some m → r ≡ NoMaking → ⊥
-  no_making m h n = false≢true (ap is_some (sym (e ∙ ap making_says n) ∙ h))
+module _ (ps : List (List ℕ)) (r : Option Read.Making) (e : making_of ps ≡ making_says r) where
+  pub no_making : (m : Making) → making_of ps ≡ some m → r ≡ None → ⊥
+  no_making m h n = false≢true (ap is_there (sym (e ∙ ap making_says n) ∙ h))
 
-  module _ (x y z : ℕ) (n : r ≡ Make x y z) where
-    pub few : z < 1000000000
-    few = few_sixteenths ps (record { channels = x; capacity = y; sixteenths = z }) (e ∙ ap making_says n)
+  module _ (m : Read.Making) (n : r ≡ Some m) where
+    pub few : m.sixteenths < 1000000000
+    few = few_sixteenths ps (record { channels = m.channels; capacity = m.capacity; sixteenths = m.sixteenths }) (e ∙ ap making_says n)
 
-    pub by_making : (t : List ℕ) (F : InForm t) → making_of ps ≡ some F.making → (d c : ℕ) (s : Float) → d ≡ x → c ≡ y → s ≡ sixteenths_of z → {l : List ℕ} {q : ℕ} {o : List ℕ}
+    pub by_making : (t : List ℕ) (F : InForm t) → making_of ps ≡ some F.making → (d c : ℕ) (s : Float) → d ≡ m.channels → c ≡ m.capacity → s ≡ sixteenths_of m.sixteenths → {l : List ℕ} {q : ℕ} {o : List ℕ}
         → Wrote l 0 (output_by d c (listed_by d c s) F.ops) q o → Wrote l 0 (output t) q o
     by_making t F h d c s D C S w =
-        let f : some (record { channels = x; capacity = y; sixteenths = z }) ≡ some F.making = sym (e ∙ ap making_says n) ∙ h in
-        let g : record { channels = x; capacity = y; sixteenths = z } ≡ F.making = cc in
+        let f : some (record { channels = m.channels; capacity = m.capacity; sixteenths = m.sixteenths }) ≡ some F.making = sym (e ∙ ap making_says n) ∙ h in
+        let g : record { channels = m.channels; capacity = m.capacity; sixteenths = m.sixteenths } ≡ F.making = cc in
         rw (F.is, ← g) (rw (D, C, S) at w)
 
 -- ---- the first three lines of a text in form end in a line feed each

@@ -1,4 +1,9 @@
 -- How many bytes are printed for a text, whatever it is. Laws.
+use Rattle.std.specs.Prelude.{Result, Ok, Err}
+use Rattle.refusals.specs.declared.Refusal as Reasons
+use Rattle.refusals.specs.declared.Refusal.TheVariants as Why
+use Rattle.refusals.specs.Refusals.{number}
+use Rattle.randomcuttree.specs.declared.RCFTree.{RCFTree}
 use mathlib.Core.Path.{◌≡◌}
 use mathlib.Core.List.{List, [], ◌∷◌}
 use mathlib.Core.Bool.{true}
@@ -13,8 +18,6 @@ use Rattle.cuttree.specs.Run.{World, Refusal, index_above, coordinate_count, bad
 use Rattle.cuttree.proofs.Tests.{by_cond}
 use Rattle.wholetree.specs.Whole.{whole}
 use Rattle.randomcuttree.specs.State.{Reachable}
-use Rattle.randomcuttree.specs.declared.Made.{Made}
-use Rattle.randomcuttree.specs.declared.Made.TheVariants.{Tree, NotMade}
 use Rattle.randomcuttree.specs.Making.{channels_taken, capacity_taken, empty_tree, made_by}
 use Rattle.randomcuttree.proofs.Makings.{in_bounds}
 use Rattle.randomcuttree.proofs.Reaches.{reachable_call, reachable_fresh}
@@ -63,23 +66,23 @@ module _ (d c : ℕ) (l : 1 ≤ d) (m : d ≤ width) (k : c ≤ capacity_limit) 
 
 -- ---- the making
 module _ (d c : ℕ) (s : Float) (os : List Op) (few : length os ≤ 8180) where
-  abbrev Fits : Made → Type 0
+  abbrev Fits : Result RCFTree Reasons.Refusal → Type 0
   Fits r = length (output_by d c r os) ≤ printed_limit
 
-  not_made : (r : ℕ) → r < 100 → Fits (NotMade r)
-  not_made r h = omega (arith, refused_few 3 r 0 h (omega arith))
+  not_made : (r : Reasons.Refusal) → number r < 100 → Fits (Err r)
+  not_made r h = omega (arith, refused_few 3 (number r) 0 h (omega arith))
 
-  is_made : channels_taken d ≡ true → capacity_taken c ≡ true → Fits (Tree (empty_tree d c s))
+  is_made : channels_taken d ≡ true → capacity_taken c ≡ true → Fits (Ok (empty_tree d c s))
   is_made f e = let y = in_bounds 1 width d f in let z = in_bounds 2 capacity_limit c e in omega (arith, rows_few d c y.0 y.1 z.1 (fresh (whole d) c) (reachable_fresh d c z.0) 0 os (omega arith))
 
   by_few : Fits (made_by d c s)
   unfolding made_by
   by_few = by_cond Fits (channels_taken d) _ _
-      (λ f. by_cond Fits (capacity_taken c) _ _ (λ e. by_cond Fits (is_share s) _ _ (λ _. is_made f e) (λ _. not_made 3 (omega arith))) (λ _. not_made 2 (omega arith)))
-      (λ _. not_made 1 (omega arith))
+      (λ f. by_cond Fits (capacity_taken c) _ _ (λ e. by_cond Fits (is_share s) _ _ (λ _. is_made f e) (λ _. not_made Why.CachedShare (omega arith))) (λ _. not_made Why.Capacity (omega arith)))
+      (λ _. not_made Why.Channels (omega arith))
 
   by_listed : Fits (listed_by d c s)
-  by_listed = by_cond Fits (leb d 8) _ _ (λ _. by_few) (λ _. not_made 1 (omega arith))
+  by_listed = by_cond Fits (leb d 8) _ _ (λ _. by_few) (λ _. not_made Why.Channels (omega arith))
 
 -- ---- every text
 parsed_few : (p : Parsed) → FewRows p → length (output_of p) ≤ printed_limit

@@ -1,4 +1,5 @@
 -- The line of a refused row: by the refusal that the call's reply begins with, which is 0 where the row is taken. Laws.
+use Rattle.pointstore.specs.Refusals.{same_number}
 use mathlib.Core.Path.{◌≡◌, refl, ap, ◌∙◌}
 use mathlib.Core.Bool.{cond}
 use mathlib.Core.List.{List, []}
@@ -37,21 +38,21 @@ told_one k h w = rw (ne_eqb _ _ h) w
 module _ (d c : ℕ) (s : Float) where
   first_said : (o : Op) (a : Answer (whole d)) (W : World (whole d)) → get_or (filled reply_width (said d c s (call_of d o) (a, W))) 0 0 ≡ refusal_of d a
   unfolding filled
-  first_said (put i xs) (refused r) W = refl
+  first_said (put i xs) (refused r) W = same_number r
   first_said (put i xs) written W = refl
   first_said (put i xs) (added j m) W = refl
   first_said (put i xs) (deleted j) W = refl
   first_said (put i xs) (copies_are m) W = refl
   first_said (put i xs) (branch_is r) W = refl
   first_said (put i xs) (box_is b) W = refl
-  first_said (add i ws) (refused r) W = refl
+  first_said (add i ws) (refused r) W = same_number r
   first_said (add i ws) written W = refl
   first_said (add i ws) (added j m) W = refl
   first_said (add i ws) (deleted j) W = refl
   first_said (add i ws) (copies_are m) W = refl
   first_said (add i ws) (branch_is r) W = refl
   first_said (add i ws) (box_is b) W = refl
-  first_said (delete i) (refused r) W = refl
+  first_said (delete i) (refused r) W = same_number r
   first_said (delete i) written W = refl
   first_said (delete i) (added j m) W = refl
   first_said (delete i) (deleted j) W = refl

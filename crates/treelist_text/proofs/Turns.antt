@@ -12,7 +12,7 @@ use Rattle.text.specs.Pieces.{pieces, PieceEnds}
 use Rattle.cuttree.specs.Run.{World, call}
 use Rattle.wholetree.specs.Whole.{whole}
 use Rattle.randomcuttree.specs.declared.RCFTree.{RCFTree}
-use Rattle.treestore.specs.Arrays.{Lent}
+use Rattle.treestore.specs.Arrays.{NodeStore}
 use Rattle.randomcuttree.specs.State.{SomeState}
 use Rattle.answers.specs.Said.{filled, said, reply_width}
 use Rattle.calls.specs.Done.{Done, Does}
@@ -33,7 +33,7 @@ length_filled (suc n) [] = ap suc (length_filled n [])
 length_filled (suc n) (x ∷ xs) = ap suc (length_filled n xs)
 
 -- n op rows are carried out, and `done` is what is printed of them: with what the rows left print it is all that is to be printed
-pub record Running (d c : ℕ) (s : Float) (before final text : List ℕ) (at n : ℕ) (tree : RCFTree) (a : Lent) (points : List (List Float)) (marks : List ℕ) (p : ℕ) (out : List ℕ) : Type 0 where
+pub record Running (d c : ℕ) (s : Float) (before final text : List ℕ) (at n : ℕ) (tree : RCFTree) (a : NodeStore) (points : List (List Float)) (marks : List ℕ) (p : ℕ) (out : List ℕ) : Type 0 where
   pub world : World (whole d)
   pub ops : List Op
   pub standing : Standing d c s world ops text at n tree a points marks
@@ -41,11 +41,11 @@ pub record Running (d c : ℕ) (s : Float) (before final text : List ℕ) (at n 
   pub wrote : Wrote before 0 done p out
   pub same : done ++ output_from d c world n ops ≡ final
 
-pub begin : {d c : ℕ} {s : Float} {W : World (whole d)} {os : List Op} {before text : List ℕ} {at : ℕ} {tree : RCFTree} {a : Lent} {points : List (List Float)} {marks : List ℕ}
+pub begin : {d c : ℕ} {s : Float} {W : World (whole d)} {os : List Op} {before text : List ℕ} {at : ℕ} {tree : RCFTree} {a : NodeStore} {points : List (List Float)} {marks : List ℕ}
     → Standing d c s W os text at 0 tree a points marks → Running d c s before (output_from d c W 0 os) text at 0 tree a points marks 0 before
 begin {W = W} {os = os} s = record { world = W; ops = os; standing = s; done = []; wrote = record { next = omega arith; left = refl }; same = refl }
 
-module _ {d c : ℕ} {s : Float} {before final text : List ℕ} {at n : ℕ} {tree : RCFTree} {a : Lent} {points : List (List Float)} {marks : List ℕ} {p : ℕ} {out : List ℕ}
+module _ {d c : ℕ} {s : Float} {before final text : List ℕ} {at n : ℕ} {tree : RCFTree} {a : NodeStore} {points : List (List Float)} {marks : List ℕ} {p : ℕ} {out : List ℕ}
     (R : Running d c s before final text at n tree a points marks p out) where
   pub some_state : SomeState tree a points marks
   some_state = record { channels = d; capacity = c; share = s; world = R.world; state = R.standing.state }
@@ -65,7 +65,7 @@ module _ {d c : ℕ} {s : Float} {before final text : List ℕ} {at n : ℕ} {tr
       pub some_op : SomeOp (take (e - at) (drop at text))
       some_op = record { op = next.op; is = next.row }
 
-      module _ (tree' : RCFTree) (a' : Lent) (points' : List (List Float)) (marks' reply : List ℕ)
+      module _ (tree' : RCFTree) (a' : NodeStore) (points' : List (List Float)) (marks' reply : List ℕ)
           (does : (o : Op) → row_of (pieces 32 (take (e - at) (drop at text))) ≡ some o → Does (λ d. call_of d o) tree a points marks tree' a' points' marks' reply) where
         done : Done d c s R.world (call_of d next.op) tree' a' points' marks' reply
         done = does next.op next.row d c s R.world R.standing.state

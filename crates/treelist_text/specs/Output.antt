@@ -1,9 +1,11 @@
 -- What treelist prints for a text, for every list of bytes (document 01, 'Printed tree'), and how long it is at most. Definitions and a statement.
-use Rattle.std.specs.Prelude.{cond, List, [], ◌∷◌, ◌++◌, ℕ, ◌+◌, ◌*◌, ◌≤◌, leb, length, Float}
+use Rattle.std.specs.Prelude.{cond, List, [], ◌∷◌, ◌++◌, ℕ, ◌+◌, ◌*◌, ◌≤◌, leb, length, Float, Result, Ok, Err}
 use Rattle.cuttree.specs.Run.{World, Answer, refused, written, added, deleted, copies_are, branch_is, box_is, number_of, call, fresh}
 use Rattle.wholetree.specs.Whole.{whole}
-use Rattle.randomcuttree.specs.declared.Made.{Made}
-use Rattle.randomcuttree.specs.declared.Made.TheVariants.{Tree, NotMade}
+use Rattle.refusals.specs.declared.Refusal.{Refusal}
+use Rattle.refusals.specs.declared.Refusal.TheVariants.{Channels}
+use Rattle.refusals.specs.Refusals.{number}
+use Rattle.randomcuttree.specs.declared.RCFTree.{RCFTree}
 use Rattle.randomcuttree.specs.Making.{made_by}
 use Rattle.form.specs.Rows.{Op}
 use Rattle.form.specs.Making.{sixteenths_of}
@@ -29,13 +31,13 @@ module _ (d c : ℕ) where
   output_from W n (o ∷ os) = told_row d (call (whole d) c W (call_of d o)).0 (n + 1) ++ output_from (call (whole d) c W (call_of d o)).1 (n + 1) os
 
   -- 'A refused making prints only `refused N 0`.'
-  abbrev pub output_by : Made → List Op → List ℕ
-  output_by (NotMade r) os = refused_line r 0
-  output_by (Tree t) os = output_from (fresh (whole d) c) 0 os
+  abbrev pub output_by : Result RCFTree Refusal → List Op → List ℕ
+  output_by (Err r) os = refused_line (number r) 0
+  output_by (Ok t) os = output_from (fresh (whole d) c) 0 os
 
 -- Request A.7: 'the printed-tree program keeps to 8' channels. A making of more is refused with 1, whatever else is wrong with it: 1 is tested first.
-abbrev pub listed_by : ℕ → ℕ → Float → Made
-listed_by d c s = cond (leb d 8) (made_by d c s) (NotMade 1)
+abbrev pub listed_by : ℕ → ℕ → Float → Result RCFTree Refusal
+listed_by d c s = cond (leb d 8) (made_by d c s) (Err Channels)
 
 -- 'a bad text prints only `refused 17 R` for its first bad row'
 abbrev pub output_of : Parsed → List ℕ

@@ -6,7 +6,6 @@ ghost use Rattle.std.specs.Prelude.{◌≡◌, cond, List, [], ℕ, ◌+◌, ◌
 ghost use Rattle.text.specs.Pieces.{pieces_from};
 ghost use Rattle.cuttree.specs.Run.{World};
 ghost use Rattle.wholetree.specs.Whole.{whole};
-ghost use Rattle.treestore.specs.Arrays.{lent};
 ghost use Rattle.randomcuttree.specs.Making.{made_by};
 ghost use Rattle.form.specs.Rows.{Op};
 ghost use Rattle.form.specs.Form.{op_rows, rows_from};
@@ -15,10 +14,11 @@ ghost use Rattle.treelist_text.specs.Output.{output_from, output_by, listed_by, 
 ghost use Rattle.treelist_text.specs.Running.{InForm, HasRows, Standing, SomeStanding};
 
 use answers::REPLY;
-use form::{Form, MakingRow};
-use limits::{BRANCHES, Boxes, CHANNELS, Copies, Cuts, Free, Marks, Nodes, POINTS, Points};
 use listing::TREE;
-use randomcuttree::{Made, RCFTree};
+use pointstore::PointStore;
+use randomcuttree::RCFTree;
+use refusals::Refusal;
+use treestore::NodeStore;
 
 // Request A.7, 'the printed-tree program keeps to 8': as many channels as it takes.
 const LISTED: usize = 8;
@@ -41,20 +41,15 @@ fn tell_row(out: &mut [u8], at: usize, refusal: usize, row: usize) -> usize
 // The op rows from a place of the text on, each told if it is refused; then the tree.
 fn run_rows(
     tree: RCFTree,
-    nodes: &mut Nodes,
-    cuts: &mut Cuts,
-    copies: &mut Copies,
-    free: &mut Free,
-    boxes: &mut Boxes,
-    points: &mut Points,
-    written: &mut Marks,
+    store: &mut NodeStore,
+    table: &mut PointStore,
     text: &[u8],
     start: usize,
     out: &mut [u8],
 ) -> usize
     requires within { (start ≤ length text.now) × (length text.now ≤ 32768) }
-    requires ready { SomeStanding text.now start 0 tree (lent nodes.old cuts.old copies.old free.old boxes.old) points.old written.old }
-    ensures { (d c : ℕ) (s : Float) (W : World (whole d)) (os : List Op) → Standing d c s W os text.now start 0 tree (lent nodes.old cuts.old copies.old free.old boxes.old) points.old written.old
+    requires ready { SomeStanding text.now start 0 tree store.old table.old.points table.old.written }
+    ensures { (d c : ℕ) (s : Float) (W : World (whole d)) (os : List Op) → Standing d c s W os text.now start 0 tree store.old table.old.points table.old.written
         → Wrote out.old 0 (output_from d c W 0 os) result out.new }
 {
     let mut reply = [0usize; REPLY];
@@ -62,23 +57,13 @@ fn run_rows(
     let mut at = start;
     let mut row: usize = 0;
     let mut p: usize = 0;
+    // A turn goes on by a line's length, so this is no `for`.
     loop {
         let end = text::piece_end(text, at, 10);
         if end == text.len() {
-            return listing::print_tree(current, nodes, cuts, copies, out, p);
+            return listing::print_tree(current, store, out, p);
         }
-        current = rowcalls::call_row(
-            current,
-            nodes,
-            cuts,
-            copies,
-            free,
-            boxes,
-            points,
-            written,
-            &text[at..end],
-            &mut reply,
-        );
+        current = rowcalls::call_row(current, store, table, &text[at..end], &mut reply);
         row += 1;
         p = tell_row(out, p, reply[0], row);
         at = end + 1;
@@ -99,38 +84,11 @@ fn print_by(
     ensures { (os : List Op) → rows_from 0 (pieces_from 10 text.now start) ≡ op_rows os
         → Wrote out.old 0 (output_by channels capacity (made_by channels capacity share) os) result out.new }
 {
-    let mut nodes = [[0u16; 4]; BRANCHES];
-    let mut cuts = [0.0f32; BRANCHES];
-    let mut copies = [0u16; POINTS];
-    let mut free = [[0u16; 2]; BRANCHES];
-    let mut boxes = [[[0.0f32; CHANNELS]; 2]; BRANCHES];
-    let mut points = pointstore::no_points();
-    let mut written = pointstore::no_marks();
-    let made = RCFTree::new(
-        channels,
-        capacity,
-        share,
-        &mut nodes,
-        &mut cuts,
-        &mut copies,
-        &mut free,
-        &mut boxes,
-    );
-    match made {
-        Made::NotMade(refusal) => lines::put_refused(out, 0, casts::wide8(refusal), 0),
-        Made::Tree(tree) => run_rows(
-            tree,
-            &mut nodes,
-            &mut cuts,
-            &mut copies,
-            &mut free,
-            &mut boxes,
-            &mut points,
-            &mut written,
-            text,
-            start,
-            out,
-        ),
+    let mut store = treestore::no_nodes();
+    let mut table = PointStore::new();
+    match RCFTree::new(channels, capacity, share, &mut store) {
+        Err(refusal) => lines::put_refused(out, 0, refusal.number(), 0),
+        Ok(tree) => run_rows(tree, &mut store, &mut table, text, start, out),
     }
 }
 
@@ -151,7 +109,7 @@ fn print_few(
     if channels <= LISTED {
         return print_by(channels, capacity, share, text, start, out);
     }
-    lines::put_refused(out, 0, 1, 0)
+    lines::put_refused(out, 0, Refusal::Channels.number(), 0)
 }
 
 // A text in form: its making is the second line, and its op rows are the lines from the fourth on.
@@ -163,11 +121,11 @@ fn print_made(text: &[u8], out: &mut [u8]) -> usize
     let b = text::piece_end(text, a + 1, 10);
     let c = text::piece_end(text, b + 1, 10);
     match form::read_making(&text[a + 1..b]) {
-        MakingRow::NoMaking => 0,
-        MakingRow::Make(channels, capacity, sixteenths) => print_few(
-            casts::wide64(channels),
-            casts::wide64(capacity),
-            form::share_of(sixteenths),
+        None => 0,
+        Some(making) => print_few(
+            casts::wide64(making.channels),
+            casts::wide64(making.capacity),
+            form::share_of(making.sixteenths),
             text,
             c + 1,
             out,
@@ -182,7 +140,7 @@ pub fn treelist_output(text: &[u8], out: &mut [u8]) -> usize
     ensures fits { result ≤ printed_limit }
 {
     match form::check_form(text) {
-        Form::Bad(row) => lines::put_refused(out, 0, 17, row),
-        Form::Good(_) => print_made(text, out),
+        Err(bad) => lines::put_refused(out, 0, Refusal::OutOfForm.number(), bad.row),
+        Ok(_) => print_made(text, out),
     }
 }

@@ -7,7 +7,7 @@ use lib.Pow.{pow_pos}
 use Rattle.limits.specs.Limits.{width}
 use Rattle.boundingbox.specs.Padding.{Padded}
 use Rattle.cut.specs.declared.Separation.{Separation}
-use Rattle.cut.specs.declared.Separation.TheVariants.{NoCut, Drawn}
+use Rattle.std.specs.Prelude.{Option, Some, None}
 use Rattle.cut.specs.Draw.{separation}
 use Rattle.cut.proofs.Turns.{drawn_below}
 use Rattle.cuttree.specs.Setting.{Cut}
@@ -25,9 +25,9 @@ module _ (d : ℕ) where
   draw_channel : (n : ℕ) (lo hi : ℕ → Number) (p : Reading) (w : ℕ) → 0 < n → separation width (ends lo) (ends hi) p.row (w % 2 ^ 64) ≡ separation n (ends lo) (ends hi) p.row (w % 2 ^ 64) → ((whole d).draw lo hi p w).channel < n
   draw_channel n lo hi p w h = go (separation width (ends lo) (ends hi) p.row (w % 2 ^ 64))
     where
-      go : (s : Separation) → s ≡ separation n (ends lo) (ends hi) p.row (w % 2 ^ 64) → (cut_in s).channel < n
-      go NoCut e = h
-      go (Drawn k b) e = drawn_below n (ends lo) (ends hi) p.row (w % 2 ^ 64) k b (sym e)
+      go : (s : Option Separation) → s ≡ separation n (ends lo) (ends hi) p.row (w % 2 ^ 64) → (cut_in s).channel < n
+      go None e = h
+      go (Some v) e = drawn_below n (ends lo) (ends hi) p.row (w % 2 ^ 64) v (sym e)
 
   -- so it is with the tree's d channels, beyond which its readings have +0.0
   pub tree_channel : (t : Tree (whole d)) (p : Reading) (w : ℕ) → 1 ≤ d → d ≤ width → All (whole d) (λ i q n. Padded q.row d width) t → Padded p.row d width → (drawn (whole d) t p w).channel < d

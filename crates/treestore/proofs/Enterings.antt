@@ -13,7 +13,7 @@ use Rattle.limits.specs.Limits.{width, capacity_limit, branch_limit, point_limit
 use Rattle.boundingbox.specs.Ends.{channel}
 use Rattle.intervalstoremanager.specs.declared.IntervalStoreManager.{IntervalStoreManager}
 use Rattle.intervalstoremanager.specs.declared.Got.{Got}
-use Rattle.intervalstoremanager.specs.declared.Got.TheVariants.{Index, Empty}
+use Rattle.std.specs.Prelude.{Option, Some, None}
 use Rattle.intervalstoremanager.specs.Rows.{layout, got_of, rows_got}
 use Rattle.intervalstoremanager.specs.Stack.{next, after_get, Proper}
 use Rattle.cuttree.specs.Setting.{Cut, below}
@@ -41,7 +41,7 @@ use Rattle.drawing.specs.declared.Highest.{Highest}
 use Rattle.branchboxes.specs.Pairs.{SidesKept}
 use Rattle.walkboxes.specs.Held.{HoldBefore}
 use Rattle.drawing.specs.Drawing.{Drawing, SomeDrawing, Kept, no_cut, word_at}
-use Rattle.treestore.specs.Arrays.{Lent, lent, manager_of, EditDone}
+use Rattle.treestore.specs.Arrays.{NodeStore, lent, manager_of, EditDone}
 use Rattle.treestore.specs.Edits.{Walking}
 use Rattle.treestore.specs.Enters.{Entering}
 use Rattle.treestore.proofs.Channels.{kept_channel}
@@ -50,7 +50,7 @@ use Rattle.treestore.proofs.Parts.{edit_done}
 use Rattle.treestore.proofs.Manager.{get_done, get_empty}
 use Rattle.treestore.proofs.Removes.{free_are, boxes_are}
 
-module _ {d c k : ℕ} {t : Tree (whole d)} {u : List (ℕ × ℕ)} {p : Reading} {root : ℕ} {manager : IntervalStoreManager} {a : Lent} {points : List (List Float)} {path : List (List ℕ)} {n leaf index : ℕ} {words : List ℕ} {point : List Float}
+module _ {d c k : ℕ} {t : Tree (whole d)} {u : List (ℕ × ℕ)} {p : Reading} {root : ℕ} {manager : IntervalStoreManager} {a : NodeStore} {points : List (List Float)} {path : List (List ℕ)} {n leaf index : ℕ} {words : List ℕ} {point : List Float}
     (E : Entering d c k t u p root manager a points path n leaf index words point) where
   abbrev W : Walking d c k t u p root manager a points path n leaf point
   W = E.walking
@@ -77,7 +77,7 @@ module _ {d c k : ℕ} {t : Tree (whole d)} {u : List (ℕ × ℕ)} {p : Reading
   rows_are = free_are W
 
   -- there is a free number
-  pub not_empty : {A : Type 0} (got : Got) → got ≡ got_of manager a.free → got ≡ Empty → A
+  pub not_empty : {A : Type 0} (got : Option Got) → got ≡ got_of manager a.free → got ≡ None → A
   not_empty = get_empty manager a.free u manager_of_lem rows_are size_few proper W.free_once E.some_free
 
   -- w is the capacity, widened
@@ -94,9 +94,6 @@ module _ {d c k : ℕ} {t : Tree (whole d)} {u : List (ℕ × ℕ)} {p : Reading
       leaf_small = subst (λ x. x < point_limit) (sym W.index_is) (range_ending d c p t W.boxed.in_range);
       leaf_row = ap (λ x. get_or points x []) W.index_is ∙ all_ending (whole d) (λ i q n. get_or points i [] ≡ q.row) p t W.boxed.leaves;
     })
-
-    pub sizes_few : (w ≤ capacity_limit) × (k ≤ branch_limit) × (d ≤ width)
-    sizes_few = (omega (arith, W.small), cached_few, W.channels_few)
 
     pub some_drawing : SomeDrawing w k a.nodes points a.boxes path n leaf words point
     some_drawing = record { channels = d; tree = t; reading = p; drawing = drawing }
@@ -133,10 +130,10 @@ module _ {d c k : ℕ} {t : Tree (whole d)} {u : List (ℕ × ℕ)} {p : Reading
           ap (λ x. le x r.cut.value) y ∙ ap (le (coordinate p cut.channel).value) K.value_is
 
       -- the number that is handed out
-      module _ (b : ℕ) (left_over : IntervalStoreManager) (got : Got) (free' : List (List ℕ)) (G : got ≡ got_of manager a.free) (F : free' ≡ rows_got manager a.free) (I : got ≡ Index b left_over) where
+      module _ (b : ℕ) (left_over : IntervalStoreManager) (got : Option Got) (free' : List (List ℕ)) (G : got ≡ got_of manager a.free) (F : free' ≡ rows_got manager a.free) (I : got ≡ Some (record { index = b; manager = left_over })) where
         taken : (b ≡ next u) × (left_over ≡ manager_of (c - 1) (after_get u)) × (free' ≡ layout (after_get u))
         taken = subst (λ x. (b ≡ next u) × (left_over ≡ manager_of x (after_get u)) × (free' ≡ layout (after_get u))) size_is
-            (get_done manager a.free u manager_of_lem rows_are size_few proper W.free_once E.some_free b left_over got free' G F I)
+            (get_done manager a.free u manager_of_lem rows_are size_few proper W.free_once E.some_free (record { index = b; manager = left_over }) got free' G F I)
 
         module _ (left : Bool) (B : left ≡ le (channel point r.cut.dimension) r.cut.value) where
           grafting : Graft d c a.nodes a.cuts a.copies path (n - 1 - r.height) b index r.cut left n t p r.height cut

@@ -20,9 +20,9 @@ use Rattle.layout.proofs.Tabs.{same_tab}
 use Rattle.layout.proofs.Slots.{slot_none}
 use Rattle.nodestore.specs.Stored.{Arrays}
 use Rattle.treestore.specs.declared.Edited.{Edited}
-use Rattle.treestore.specs.Arrays.{Lent, lent, manager_of, edited_of, EditDone}
+use Rattle.treestore.specs.Arrays.{NodeStore, lent, manager_of, edited_of, EditDone}
 
-pub lent_is : (b : Lent) (n : List (List ℕ)) (x : List Float) (m : List ℕ) (f : List (List ℕ)) (g : List (List (List Float))) → b.nodes ≡ n → b.cuts ≡ x → b.copies ≡ m → b.free ≡ f → b.boxes ≡ g → b ≡ lent n x m f g
+pub lent_is : (b : NodeStore) (n : List (List ℕ)) (x : List Float) (m : List ℕ) (f : List (List ℕ)) (g : List (List (List Float))) → b.nodes ≡ n → b.cuts ≡ x → b.copies ≡ m → b.free ≡ f → b.boxes ≡ g → b ≡ lent n x m f g
 lent_is b n x m f g N X M F G = rw (← N, ← X, ← M, ← F, ← G) refl
 
 module _ (d c k : ℕ) where
@@ -35,7 +35,7 @@ module _ (d c k : ℕ) where
   counts_cached none = refl
   counts_cached (some s) = refl
 
-  pub edit_done : (o : Option (Tree (whole d))) (v : List (ℕ × ℕ)) (root : ℕ) (m : IntervalStoreManager) (b : Lent) → root ≡ root_of d c k o → m ≡ manager_of (c - 1) v
+  pub edit_done : (o : Option (Tree (whole d))) (v : List (ℕ × ℕ)) (root : ℕ) (m : IntervalStoreManager) (b : NodeStore) → root ≡ root_of d c k o → m ≡ manager_of (c - 1) v
       → Arrays d c b.nodes b.cuts b.copies o → b.free ≡ Rows.layout v → b.boxes ≡ tab branch_limit (box_in d c k o)
       → EditDone d c k o v (record { root = root; manager = m }) b
   edit_done o v root m b x y A f g = record { answer = answered; arrays = lent_is b _ _ _ _ _ (A.rows ∙ any_cached (row_of d c) no_row o) (A.values ∙ any_cached (cut_of d c) nought o) (A.counts ∙ counts_cached o) f g }

@@ -35,14 +35,14 @@ use Rattle.boxstore.specs.Written.{written}
 use Rattle.boxstore.specs.Edited.{Walked, boxes_of, lifted, Forgotten, SomeForgotten, RepairedAbove}
 use Rattle.boxstore.proofs.Copies.{less_boxes}
 use Rattle.boxstore.proofs.Forgets.{forget_once}
-use Rattle.treestore.specs.Arrays.{Lent, lent, manager_of, EditDone}
+use Rattle.treestore.specs.Arrays.{NodeStore, lent, manager_of, EditDone}
 use Rattle.treestore.specs.Edits.{Walking}
 use Rattle.rowboxes.specs.Rows.{PaddedBoxes}
 use Rattle.treestore.proofs.Links.{linked}
 use Rattle.treestore.proofs.Padding.{boxes_padded}
 use Rattle.treestore.proofs.Parts.{edit_done, no_boxes}
 
-module _ {d c k : ℕ} {t : Tree (whole d)} {u : List (ℕ × ℕ)} {p : Reading} {root : ℕ} {manager : IntervalStoreManager} {a : Lent} {points : List (List Float)} {path : List (List ℕ)} {n index : ℕ} {point : List Float} (G : Walking d c k t u p root manager a points path n index point) where
+module _ {d c k : ℕ} {t : Tree (whole d)} {u : List (ℕ × ℕ)} {p : Reading} {root : ℕ} {manager : IntervalStoreManager} {a : NodeStore} {points : List (List Float)} {path : List (List ℕ)} {n index : ℕ} {point : List Float} (G : Walking d c k t u p root manager a points path n index point) where
   abbrev S : Setting
   S = whole d
 
@@ -56,16 +56,16 @@ module _ {d c k : ℕ} {t : Tree (whole d)} {u : List (ℕ × ℕ)} {p : Reading
   one_row m = let one : n ≡ 1 = omega (arith, G.walked.count) in subst (λ x. Reached d c a.nodes a.cuts a.copies path x index t p) one reached
 
   pub free_are : a.free ≡ Rows.layout u
-  free_are = ap (λ (x : Lent). x.free) G.arrays_are
+  free_are = ap (λ (x : NodeStore). x.free) G.arrays_are
 
   pub boxes_are : a.boxes ≡ boxes_of d c k t
-  boxes_are = ap (λ (x : Lent). x.boxes) G.arrays_are
+  boxes_are = ap (λ (x : NodeStore). x.boxes) G.arrays_are
 
   pub kept_padded : PaddedBoxes d a.boxes
   kept_padded = subst (PaddedBoxes d) (sym boxes_are) (boxes_padded d c G.channels_few k t G.narrow)
 
   -- the tree after, and its free numbers
-  abbrev Gone : ℕ → IntervalStoreManager → Lent → Type 0
+  abbrev Gone : ℕ → IntervalStoreManager → NodeStore → Type 0
   Gone r m b = EditDone d c k (forget S p t) (after_freed S u (freed S p t)) (record { root = r; manager = m }) b
 
   -- ---- copies are left

@@ -10,16 +10,14 @@ use Rattle.wholetree.specs.Whole.{whole, tab}
 use Rattle.layout.specs.Slots.{row_of, cut_of}
 use Rattle.layout.specs.Layout.{no_row, root_of, slot_in, count_in, box_in}
 use Rattle.treestore.specs.declared.Edited.{Edited}
+use Rattle.treestore.specs.declared.Store.{Store}
 
--- the lent arrays
-pub record Lent : Type 0 where
-  pub nodes : List (List ℕ)
-  pub cuts : List Float
-  pub copies : List ℕ
-  pub free : List (List ℕ)
-  pub boxes : List (List (List Float))
+-- the lent arrays: `Store<Boxes>`
+abbrev pub NodeStore : Type 0
+NodeStore = Store (List (List (List Float)))
 
-abbrev pub lent : List (List ℕ) → List Float → List ℕ → List (List ℕ) → List (List (List Float)) → Lent
+-- such arrays, each named by its place
+abbrev pub lent : List (List ℕ) → List Float → List ℕ → List (List ℕ) → List (List (List Float)) → NodeStore
 lent n x m f b = record { nodes = n; cuts = x; copies = m; free = f; boxes = b }
 
 -- the manager of `size` numbers with that stack of free ones
@@ -29,7 +27,7 @@ manager_of size u = record { capacity = size; last_in_use = length u }
 -- d channels, capacity c, k cached branches
 module _ (d c k : ℕ) where
   -- the arrays of a tree or of none, and of its free numbers
-  abbrev pub arrays_of : Option (Tree (whole d)) → List (ℕ × ℕ) → Lent
+  abbrev pub arrays_of : Option (Tree (whole d)) → List (ℕ × ℕ) → NodeStore
   arrays_of o u = record {
     nodes = tab branch_limit (slot_in d c k (row_of d c) no_row o);
     cuts = tab branch_limit (slot_in d c k (cut_of d c) nought o);
@@ -43,6 +41,6 @@ module _ (d c k : ℕ) where
   edited_of o u = record { root = root_of d c k o; manager = manager_of (c - 1) u }
 
   -- what an edit answers and leaves
-  pub record EditDone (o : Option (Tree (whole d))) (u : List (ℕ × ℕ)) (r : Edited) (b : Lent) : Type 0 where
+  pub record EditDone (o : Option (Tree (whole d))) (u : List (ℕ × ℕ)) (r : Edited) (b : NodeStore) : Type 0 where
     pub answer : r ≡ edited_of o u
     pub arrays : b ≡ arrays_of o u

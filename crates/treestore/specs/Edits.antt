@@ -14,11 +14,12 @@ use Rattle.walk.specs.Walks.{Walked}
 use Rattle.nodestore.specs.Stored.{Stored}
 use Rattle.boxstore.specs.Boxed.{Boxed}
 use Rattle.rowboxes.specs.Rows.{PaddedRow, PaddedTable}
+use Rattle.treestore.specs.declared.Header.{Header}
 use Rattle.treestore.specs.declared.Edited.{Edited}
-use Rattle.treestore.specs.Arrays.{Lent, manager_of, arrays_of, EditDone}
+use Rattle.treestore.specs.Arrays.{NodeStore, manager_of, arrays_of, EditDone}
 
 -- p's walk in the tree t, which ends in the leaf of that index. d channels, capacity c, k cached branches, and the free numbers u. Beyond its channels the table and the point have +0.0.
-pub record Walking (d c k : ℕ) (t : Tree (whole d)) (u : List (ℕ × ℕ)) (p : Reading) (root : ℕ) (manager : IntervalStoreManager) (a : Lent) (points : List (List Float)) (path : List (List ℕ)) (n leaf : ℕ) (point : List Float) : Type 0 where
+pub record Walking (d c k : ℕ) (t : Tree (whole d)) (u : List (ℕ × ℕ)) (p : Reading) (root : ℕ) (manager : IntervalStoreManager) (a : NodeStore) (points : List (List Float)) (path : List (List ℕ)) (n leaf : ℕ) (point : List Float) : Type 0 where
   pub small : c ≤ capacity_limit
   pub some_room : 2 ≤ c
   pub cached_few : k ≤ c - 1
@@ -40,14 +41,14 @@ pub record Walking (d c k : ℕ) (t : Tree (whole d)) (u : List (ℕ × ℕ)) (p
   pub freeable : (b : ℕ) → freed (whole d) p t ≡ some b → (b < c - 1) × (holds u b ≡ 0)
 
 -- some tree is walked, and p is held
-pub record SomeHeld (d c k root : ℕ) (manager : IntervalStoreManager) (a : Lent) (points : List (List Float)) (path : List (List ℕ)) (n leaf : ℕ) (point : List Float) : Type 0 where
-  pub tree : Tree (whole d)
+pub record SomeHeld (h : Header) (a : NodeStore) (points : List (List Float)) (path : List (List ℕ)) (n leaf : ℕ) (point : List Float) : Type 0 where
+  pub tree : Tree (whole h.dimensions)
   pub free : List (ℕ × ℕ)
   pub reading : Reading
-  pub walking : Walking d c k tree free reading root manager a points path n leaf point
-  pub held : found (whole d) tree reading ≡ true
+  pub walking : Walking h.dimensions h.capacity h.cached tree free reading h.root h.manager a points path n leaf point
+  pub held : found (whole h.dimensions) tree reading ≡ true
 
 -- Forgetting: one copy of p less, whichever tree it is.
-abbrev pub Forgets : (d c k root : ℕ) → IntervalStoreManager → Lent → List (List Float) → List (List ℕ) → (n leaf : ℕ) → List Float → Edited → Lent → Type 0
-Forgets d c k root manager a points path n leaf point r b = (t : Tree (whole d)) (u : List (ℕ × ℕ)) (p : Reading) → Walking d c k t u p root manager a points path n leaf point → found (whole d) t p ≡ true
-    → EditDone d c k (forget (whole d) p t) (after_freed (whole d) u (freed (whole d) p t)) r b
+abbrev pub Forgets : Header → NodeStore → List (List Float) → List (List ℕ) → (n leaf : ℕ) → List Float → Edited → NodeStore → Type 0
+Forgets h a points path n leaf point r b = (t : Tree (whole h.dimensions)) (u : List (ℕ × ℕ)) (p : Reading) → Walking h.dimensions h.capacity h.cached t u p h.root h.manager a points path n leaf point → found (whole h.dimensions) t p ≡ true
+    → EditDone h.dimensions h.capacity h.cached (forget (whole h.dimensions) p t) (after_freed (whole h.dimensions) u (freed (whole h.dimensions) p t)) r b

@@ -8,12 +8,13 @@ use Rattle.cuttree.specs.Tree.{Tree, found, mass, walk, insert}
 use Rattle.wholetree.specs.Reading.{Reading}
 use Rattle.wholetree.specs.Whole.{whole}
 use Rattle.layout.specs.Slots.{uses, count_at}
+use Rattle.treestore.specs.declared.Header.{Header}
 use Rattle.treestore.specs.declared.Entered.{Entered}
-use Rattle.treestore.specs.Arrays.{Lent, EditDone}
+use Rattle.treestore.specs.Arrays.{NodeStore, EditDone}
 use Rattle.treestore.specs.Edits.{Walking}
 
 -- p's walk ends in another value's leaf; there is a free number for the branch, a free index for the leaf, where the table has p, and a word for each node
-pub record Entering (d c k : ℕ) (t : Tree (whole d)) (u : List (ℕ × ℕ)) (p : Reading) (root : ℕ) (manager : IntervalStoreManager) (a : Lent) (points : List (List Float)) (path : List (List ℕ)) (n leaf index : ℕ) (words : List ℕ) (point : List Float) : Type 0 where
+pub record Entering (d c k : ℕ) (t : Tree (whole d)) (u : List (ℕ × ℕ)) (p : Reading) (root : ℕ) (manager : IntervalStoreManager) (a : NodeStore) (points : List (List Float)) (path : List (List ℕ)) (n leaf index : ℕ) (words : List ℕ) (point : List Float) : Type 0 where
   pub walking : Walking d c k t u p root manager a points path n leaf point
   pub absent : found (whole d) t p ≡ false
   pub room : mass (whole d) t ≤ total_limit - 1
@@ -26,13 +27,13 @@ pub record Entering (d c k : ℕ) (t : Tree (whole d)) (u : List (ℕ × ℕ)) (
   pub enough : n ≤ length words
 
 -- some tree is entered
-pub record SomeEntering (d c k root : ℕ) (manager : IntervalStoreManager) (a : Lent) (points : List (List Float)) (path : List (List ℕ)) (n leaf index : ℕ) (words : List ℕ) (point : List Float) : Type 0 where
-  pub tree : Tree (whole d)
+pub record SomeEntering (h : Header) (a : NodeStore) (points : List (List Float)) (path : List (List ℕ)) (n leaf index : ℕ) (words : List ℕ) (point : List Float) : Type 0 where
+  pub tree : Tree (whole h.dimensions)
   pub free : List (ℕ × ℕ)
   pub reading : Reading
-  pub entering : Entering d c k tree free reading root manager a points path n leaf index words point
+  pub entering : Entering h.dimensions h.capacity h.cached tree free reading h.root h.manager a points path n leaf index words point
 
 -- Entering: one leaf and one branch more, and a word for each node of the walk, whichever tree it is.
-abbrev pub Enters : (d c k root : ℕ) → IntervalStoreManager → Lent → List (List Float) → List (List ℕ) → (n leaf index : ℕ) → List ℕ → List Float → Entered → Lent → Type 0
-Enters d c k root manager a points path n leaf index words point r b = (t : Tree (whole d)) (u : List (ℕ × ℕ)) (p : Reading) → Entering d c k t u p root manager a points path n leaf index words point
-    → EditDone d c k (some (insert (whole d) (next u) index p (λ m. get_or words m 0) t)) (after_get u) (record { root = r.root; manager = r.manager }) b × (r.words ≡ walk (whole d) t p)
+abbrev pub Enters : Header → NodeStore → List (List Float) → List (List ℕ) → (n leaf index : ℕ) → List ℕ → List Float → Entered → NodeStore → Type 0
+Enters h a points path n leaf index words point r b = (t : Tree (whole h.dimensions)) (u : List (ℕ × ℕ)) (p : Reading) → Entering h.dimensions h.capacity h.cached t u p h.root h.manager a points path n leaf index words point
+    → EditDone h.dimensions h.capacity h.cached (some (insert (whole h.dimensions) (next u) index p (λ m. get_or words m 0) t)) (after_get u) (record { root = r.root; manager = r.manager }) b × (r.words ≡ walk (whole h.dimensions) t p)

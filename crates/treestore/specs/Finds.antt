@@ -6,6 +6,7 @@ use Rattle.wholetree.specs.Reading.{Reading}
 use Rattle.wholetree.specs.Whole.{whole}
 use Rattle.walk.specs.Walks.{Walks, Walked}
 use Rattle.rowboxes.specs.Rows.{PaddedTable}
+use Rattle.treestore.specs.declared.Header.{Header}
 use Rattle.treestore.specs.declared.Found.{Found}
 
 -- rows and cuts are those of t, the table has its leaves' readings and +0.0 beyond its channels, and p is the index's
@@ -17,10 +18,10 @@ pub record Sought (d c root : ℕ) (nodes : List (List ℕ)) (cuts : List Float)
   pub leaves : All (whole d) (λ i q n. get_or points i [] ≡ q.row) t
   pub padded : PaddedTable d points
 
-pub record SomeSought (d c root : ℕ) (nodes : List (List ℕ)) (cuts : List Float) (points : List (List Float)) (index : ℕ) : Type 0 where
-  pub tree : Tree (whole d)
+pub record SomeSought (h : Header) (nodes : List (List ℕ)) (cuts : List Float) (points : List (List Float)) (index : ℕ) : Type 0 where
+  pub tree : Tree (whole h.dimensions)
   pub reading : Reading
-  pub sought : Sought d c root nodes cuts points index tree reading
+  pub sought : Sought h.dimensions h.capacity h.root nodes cuts points index tree reading
 
 -- the walk of p in t, the leaf that it ends in, and whether that is p's; beyond the walk the path is as it was
 pub record FoundIn (d c : ℕ) (t : Tree (whole d)) (p : Reading) (before : List (List ℕ)) (r : Found) (path : List (List ℕ)) : Type 0 where
@@ -30,5 +31,5 @@ pub record FoundIn (d c : ℕ) (t : Tree (whole d)) (p : Reading) (before : List
   pub rest : drop r.walk path ≡ drop r.walk before
 
 -- Finding, whichever tree it is.
-abbrev pub Finds : (d c root : ℕ) → List (List ℕ) → List Float → List (List Float) → ℕ → List (List ℕ) → Found → List (List ℕ) → Type 0
-Finds d c root nodes cuts points index before r path = (t : Tree (whole d)) (p : Reading) → Sought d c root nodes cuts points index t p → FoundIn d c t p before r path
+abbrev pub Finds : Header → List (List ℕ) → List Float → List (List Float) → ℕ → List (List ℕ) → Found → List (List ℕ) → Type 0
+Finds h nodes cuts points index before r path = (t : Tree (whole h.dimensions)) (p : Reading) → Sought h.dimensions h.capacity h.root nodes cuts points index t p → FoundIn h.dimensions h.capacity t p before r path

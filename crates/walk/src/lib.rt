@@ -19,15 +19,6 @@ use limits::{Cuts, Nodes, Path, Row};
 // The root stands in a path with this in place of a sibling.
 const NO_SIBLING: u16 = 65535;
 
-fn rows_of(s: &[[u16; 2]]) {}
-
-// A lent path has all its rows, which the array's type doesn't tell a proof.
-fn path_length(path: &Path)
-    ensures { length path.now ≡ capacity_limit }
-{
-    rows_of(path);
-}
-
 // Two u16s as one number.
 fn together(low: u16, high: u16) -> u32
     ensures { (result ≡ low + 65536 * high) × (low < 65536) × (high < 65536) }
@@ -35,7 +26,9 @@ fn together(low: u16, high: u16) -> u32
     (low as u32) + 65536 * (high as u32)
 }
 
-fn either(first: bool, x: u32, y: u32) -> u32
+// One of two values, picked with no branch to be guessed.
+// Rules out the other one, and one of the two whatever the test says.
+pub fn either<T: Copy>(first: bool, x: T, y: T) -> T
     ensures { result ≡ cond first x y }
 {
     if first { x } else { y }
@@ -81,7 +74,6 @@ pub fn begin(path: &mut Path, root: u16)
     ensures whole { length path.old ≡ capacity_limit }
     ensures root { path.new ≡ set path.old 0 (root ∷ no_sibling ∷ []) }
 {
-    path_length(path);
     path[0] = [root, NO_SIBLING];
 }
 
@@ -103,6 +95,7 @@ pub fn set_path(
     begin(path, root);
     let mut n: usize = 1;
     let mut node = root;
+    // A walk is over at a leaf, and not after a number of turns that is known before.
     while node < capacity {
         let s = step_at(nodes, cuts, point, wide16(node));
         path[n] = s;
@@ -112,7 +105,7 @@ pub fn set_path(
     n
 }
 
-// The id of a node of the path.
+// The id of a node of the path. The two fields of a row are told by name; a number for the field would be none.
 // Rules out the sibling in its place, and the node of another row.
 pub fn node_at(path: &Path, i: usize) -> u16
     requires { i < capacity_limit }
@@ -146,13 +139,5 @@ pub fn same_point(a: &Row, b: &Row, dimensions: usize) -> bool
     requires padded { Padded a.now dimensions width × Padded b.now dimensions width }
     ensures { result ≡ same_row a.now b.now }
 {
-    let mut i: usize = 0;
-    while i < dimensions {
-        if a[i] == b[i] {
-            i += 1;
-        } else {
-            return false;
-        }
-    }
-    true
+    (0..dimensions).all(|i| a[i] == b[i])
 }

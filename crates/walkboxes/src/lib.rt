@@ -7,16 +7,18 @@ ghost use Rattle.boundingbox.specs.Contained.{strictly_contains};
 ghost use Rattle.boxstore.specs.Written.{low_in, high_in};
 ghost use Rattle.boxstore.specs.Grown.{SomeSides, Rebuilt};
 ghost use Rattle.boxstore.specs.Edited.{SomeGrafted, GrownAbove, SomeForgotten, RepairedAbove};
-ghost use Rattle.rowboxes.specs.Rows.{capacity_of, cached_of, channels_of, PaddedRow, PaddedTable, PaddedBoxes};
+ghost use Rattle.rowboxes.specs.Rows.{PaddedRow, PaddedTable, PaddedBoxes};
 ghost use Rattle.walkboxes.specs.Held.{HoldBefore};
 
 use boundingbox::strictly_holds;
-use boxstore::node_of;
 use branchboxes::rebuild_box;
+use casts::wide16;
 use limits::{Boxes, Nodes, Path, Points, Row};
 use rowboxes::{Sizes, widen};
+use walk::node_at;
 
-// The cached boxes of the rows `from` to `n` of a path grown by a point, from the lowest up. Those of the rows before hold it.
+// The cached boxes of the rows `from` to `n` of a path grown by a point, from the lowest up. Those of the rows before hold it. The path is lent whole: which walk
+// it is, its rows from n on tell.
 // Rules out the row `from` itself left out, and the slot of a branch that is not cached written.
 pub fn grow_ancestors(
     boxes: &mut Boxes,
@@ -26,17 +28,15 @@ pub fn grow_ancestors(
     point: &Row,
     sizes: &Sizes,
 )
-    requires few { (n ≤ capacity_limit) × (cached_of sizes.now ≤ branch_limit) × (channels_of sizes.now ≤ width) }
-    requires stands { SomeGrafted (cached_of sizes.now) n path.now point.now boxes.old × HoldBefore (cached_of sizes.now) from path.now point.now boxes.old }
-    requires padded { PaddedRow (channels_of sizes.now) point.now × PaddedBoxes (channels_of sizes.now) boxes.old }
-    ensures grown { GrownAbove (cached_of sizes.now) n path.now point.now boxes.old boxes.new }
-    ensures padded { PaddedBoxes (channels_of sizes.now) boxes.new }
+    requires few { n ≤ capacity_limit }
+    requires stands { SomeGrafted sizes.now.cached n path.now point.now boxes.old × HoldBefore sizes.now.cached from path.now point.now boxes.old }
+    requires padded { PaddedRow sizes.now.channels point.now × PaddedBoxes sizes.now.channels boxes.old }
+    ensures grown { GrownAbove sizes.now.cached n path.now point.now boxes.old boxes.new }
+    ensures padded { PaddedBoxes sizes.now.channels boxes.new }
 {
-    let mut row = n;
-    while from < row {
-        row -= 1;
-        let index = node_of(path, row);
-        if index < sizes[1] {
+    for row in (from..n).rev() {
+        let index = wide16(node_at(path, row));
+        if index < sizes.cached {
             widen(&mut boxes[index], point, point, sizes);
         }
     }
@@ -44,11 +44,11 @@ pub fn grow_ancestors(
 
 // Whether a branch's box holds a point strictly inside, in each of the tree's channels. Two rows of boxes that are lent to be written cannot be lent to one call.
 fn holds(boxes: &Boxes, index: usize, point: &Row, sizes: &Sizes) -> bool
-    requires few { (index < branch_limit) × (channels_of sizes.now ≤ width) }
-    requires padded { PaddedRow (channels_of sizes.now) point.now × PaddedBoxes (channels_of sizes.now) boxes.now }
-    ensures { result ≡ strictly_contains (low_in boxes.now index) (high_in boxes.now index) point.now (min (channels_of sizes.now) width) }
+    requires slot { index < branch_limit }
+    requires padded { PaddedRow sizes.now.channels point.now × PaddedBoxes sizes.now.channels boxes.now }
+    ensures { result ≡ strictly_contains (low_in boxes.now index) (high_in boxes.now index) point.now (min sizes.now.channels width) }
 {
-    strictly_holds(&boxes[index][0], &boxes[index][1], point, sizes[2])
+    strictly_holds(&boxes[index][0], &boxes[index][1], point, sizes.channels)
 }
 
 // The branch's box worked out again from its sides, if the branch is cached and its box does not hold the point strictly inside; whether it is cached and does.
@@ -61,13 +61,12 @@ fn check_contains_and_rebuild_box(
     point: &Row,
     sizes: &Sizes,
 ) -> bool
-    requires few { (capacity_of sizes.now ≤ capacity_limit) × (cached_of sizes.now ≤ branch_limit) × (channels_of sizes.now ≤ width) }
-    requires stands { index < cached_of sizes.now → SomeSides (capacity_of sizes.now) (cached_of sizes.now) index nodes.now points.now boxes.old }
-    requires padded { PaddedRow (channels_of sizes.now) point.now × PaddedTable (channels_of sizes.now) points.now × PaddedBoxes (channels_of sizes.now) boxes.old }
-    ensures rebuilt { Rebuilt (capacity_of sizes.now) (cached_of sizes.now) index (channels_of sizes.now) point.now nodes.now points.now boxes.old boxes.new result }
-    ensures padded { PaddedBoxes (channels_of sizes.now) boxes.new }
+    requires stands { index < sizes.now.cached → SomeSides sizes.now.capacity sizes.now.cached index nodes.now points.now boxes.old }
+    requires padded { PaddedRow sizes.now.channels point.now × PaddedTable sizes.now.channels points.now × PaddedBoxes sizes.now.channels boxes.old }
+    ensures rebuilt { Rebuilt sizes.now.capacity sizes.now.cached index sizes.now.channels point.now nodes.now points.now boxes.old boxes.new result }
+    ensures padded { PaddedBoxes sizes.now.channels boxes.new }
 {
-    if sizes[1] <= index {
+    if sizes.cached <= index {
         return false;
     }
     if holds(boxes, index, point, sizes) {
@@ -89,16 +88,14 @@ pub fn repair_ancestors(
     point: &Row,
     sizes: &Sizes,
 )
-    requires few { (capacity_of sizes.now ≤ capacity_limit) × (cached_of sizes.now ≤ branch_limit) × (channels_of sizes.now ≤ width) × (n ≤ capacity_limit) }
-    requires stands { SomeForgotten (capacity_of sizes.now) (cached_of sizes.now) n (channels_of sizes.now) path.now point.now nodes.now points.now boxes.old }
-    requires padded { PaddedRow (channels_of sizes.now) point.now × PaddedTable (channels_of sizes.now) points.now × PaddedBoxes (channels_of sizes.now) boxes.old }
-    ensures repaired { RepairedAbove (capacity_of sizes.now) (cached_of sizes.now) n (channels_of sizes.now) path.now point.now nodes.now points.now boxes.old boxes.new }
-    ensures padded { PaddedBoxes (channels_of sizes.now) boxes.new }
+    requires few { n ≤ capacity_limit }
+    requires stands { SomeForgotten sizes.now.capacity sizes.now.cached n sizes.now.channels path.now point.now nodes.now points.now boxes.old }
+    requires padded { PaddedRow sizes.now.channels point.now × PaddedTable sizes.now.channels points.now × PaddedBoxes sizes.now.channels boxes.old }
+    ensures repaired { RepairedAbove sizes.now.capacity sizes.now.cached n sizes.now.channels path.now point.now nodes.now points.now boxes.old boxes.new }
+    ensures padded { PaddedBoxes sizes.now.channels boxes.new }
 {
-    let mut row = n;
-    while 0 < row {
-        row -= 1;
-        let index = node_of(path, row);
+    for row in (0..n).rev() {
+        let index = wide16(node_at(path, row));
         if check_contains_and_rebuild_box(boxes, nodes, points, index, point, sizes) {
             return;
         }

@@ -19,7 +19,7 @@ use Rattle.boundingbox.specs.Contained.{stays, contains}
 use Rattle.boundingbox.specs.Wholes.{side}
 use Rattle.cut.specs.declared.Cut.{Cut}
 use Rattle.cut.specs.declared.Separation.{Separation}
-use Rattle.cut.specs.declared.Separation.TheVariants.{NoCut, Drawn}
+use Rattle.std.specs.Prelude.{Option, Some, None}
 use Rattle.cut.specs.Draw.{low_end, high_end, parts as parts_float, parts_at, separation}
 use Rattle.cut.specs.Paper.{rest_at}
 use Rattle.cut.specs.Document.{number_drawn, rest_of, cut_of, document_cut}
@@ -129,7 +129,7 @@ module _ {lo hi : ℕ → Number} (B : CoordinateBox lo hi) (p : Reading) where
         wide : (a b : ℕ) → 0 < b - a → a < b
         wide a b h = omega arith
 
-    outside_cut : (d : ℕ) → TreeCut d lo hi p (cut_for w) (parts_at (ends lo) (ends hi) p.row (cut_for w))
+    outside_cut : (d : ℕ) → TreeCut d lo hi p (record { cut = cut_for w; parts = parts_at (ends lo) (ends hi) p.row (cut_for w) })
     outside_cut d = record {
       in_row = inside.channel_below;
       value_is_number = cut_number;
@@ -139,33 +139,33 @@ module _ {lo hi : ℕ → Number} (B : CoordinateBox lo hi) (p : Reading) where
 
   -- ---- what the draw says
   module _ (d w : ℕ) (W : w < 2 ^ 64) where
-    abbrev drawn : Separation
+    abbrev drawn : Option Separation
     drawn = separation width (ends lo) (ends hi) p.row w
 
-    by_hold : cond (contains (ends lo) (ends hi) p.row p.row width) NoCut (Drawn (cut_for w) (parts_at (ends lo) (ends hi) p.row (cut_for w))) ≡ separation width (ends lo) (ends hi) p.row w
+    by_hold : cond (contains (ends lo) (ends hi) p.row p.row width) None (Some (record { cut = cut_for w; parts = parts_at (ends lo) (ends hi) p.row (cut_for w) })) ≡ separation width (ends lo) (ends hi) p.row w
     unfolding document_cut
     by_hold = sym (as_document width (ends lo) (ends hi) p.row w are_readings_lem W)
 
     -- no cut is drawn: the box holds the point
-    pub no_cut_holds : drawn ≡ NoCut → (i : ℕ) → (le (lo i).value (coordinate p i).value ≡ true) × (le (coordinate p i).value (hi i).value ≡ true)
+    pub no_cut_holds : drawn ≡ None → (i : ℕ) → (le (lo i).value (coordinate p i).value ≡ true) × (le (coordinate p i).value (hi i).value ≡ true)
     no_cut_holds e = by-test (contains (ends lo) (ends hi) p.row p.row width) (λ t. held t) (λ t. nonsense (let f = rw t at by_hold in cc))
 
     -- so no cut at all would part the point from the box
-    pub no_cut : drawn ≡ NoCut → (k : CutOf ℕ Number) → parts (whole d) k lo hi p ≡ false
+    pub no_cut : drawn ≡ None → (k : CutOf ℕ Number) → parts (whole d) k lo hi p ≡ false
     no_cut e = by-test (contains (ends lo) (ends hi) p.row p.row width) (λ t. held_whole d t) (λ t. nonsense (let f = rw t at by_hold in cc))
 
     -- a cut is drawn: it is one of the tree's, and parts as it says
-    pub tree_cut : (k : Cut) (b : Bool) → drawn ≡ Drawn k b → TreeCut d lo hi p k b
-    tree_cut k b e = by-test (contains (ends lo) (ends hi) p.row p.row width) (λ t. nonsense (let f = rw t at by_hold in cc)) (λ t. let f = rw t at by_hold in
-        subst (λ (c : Cut). TreeCut d lo hi p c b) (cc) (subst (λ (a : Bool). TreeCut d lo hi p (cut_for w) a) (cc) (outside_cut w W t d)))
+    pub tree_cut : (s : Separation) → drawn ≡ Some s → TreeCut d lo hi p s
+    tree_cut s e = by-test (contains (ends lo) (ends hi) p.row p.row width) (λ t. nonsense (let f = rw t at by_hold in cc)) (λ t. let f = rw t at by_hold in
+        subst (TreeCut d lo hi p) (cc) (outside_cut w W t d))
 
     -- so the tree's test of it is the draw's own
     pub parted_in_lem : parts (whole d) (cut_in drawn) lo hi p ≡ parted_in drawn
     parted_in_lem = go drawn refl
       where
-        go : (s : Separation) → drawn ≡ s → parts (whole d) (cut_in s) lo hi p ≡ parted_in s
-        go NoCut e = no_cut e (cut_in NoCut)
-        go (Drawn k b) e = (tree_cut k b e).parts_so
+        go : (s : Option Separation) → drawn ≡ s → parts (whole d) (cut_in s) lo hi p ≡ parted_in s
+        go None e = no_cut e (cut_in None)
+        go (Some s) e = (tree_cut s e).parts_so
 
     -- and the tree's draw is the Rust's
     pub draw_is : (whole d).draw lo hi p w ≡ cut_in drawn

@@ -7,7 +7,7 @@ use Rattle.limits.specs.Limits.{width}
 use Rattle.boundingbox.specs.Padding.{Padded}
 use Rattle.boundingbox.specs.Wholes.{Box, side, sum_to}
 use Rattle.cut.specs.declared.Cut.{Cut}
-use Rattle.cut.specs.declared.Separation.TheVariants.{Drawn}
+use Rattle.std.specs.Prelude.{Some}
 use Rattle.cut.specs.Draw.{parts_at, separation}
 use Rattle.cut.specs.Document.{cut_of, document_cut}
 use Rattle.cut.specs.Laws.{Readings, Padded as AllPadded}
@@ -46,14 +46,14 @@ module _ {d : ℕ} {lo hi : ℕ → Number} {p : Reading} (C : OfChannels d lo h
     abbrev b : Bool
     b = parts_at (ends lo) (ends hi) p.row k
 
-    drawn_is : separation width (ends lo) (ends hi) p.row w ≡ Drawn k b
+    drawn_is : separation width (ends lo) (ends hi) p.row w ≡ Some (record { cut = k; parts = b })
     unfolding document_cut
     drawn_is = drawn_on_channels w W ∙ as_document d (ends lo) (ends hi) p.row w readings W ∙ rw o
 
     cut_is : as_cut ((whole d).draw lo hi p w) ≡ k
     cut_is =
         ap as_cut (draw_is C.box p d w W ∙ ap cut_in drawn_is)
-        ∙ ap (λ (x : Float). record { dimension = k.dimension; value = x }) (tree_cut C.box p d w W k b drawn_is).value_is
+        ∙ ap (λ (x : Float). record { dimension = k.dimension; value = x }) (tree_cut C.box p d w W (record { cut = k; parts = b }) drawn_is).value_is
 
     paper_cut : PaperCut d lo hi p w (cut_of (low_with lo p) (high_with hi p) d w)
     paper_cut =

@@ -1,9 +1,8 @@
 -- Document 01's tree: the cut tree over readings of d channels, its cuts drawn as the Rust draws them.
-use Rattle.std.specs.Prelude.{Bool, true, ◌&&◌, List, [], ◌∷◌, ℕ, zero, suc, ◌%◌, ◌^◌, eqb, length, Float}
+use Rattle.std.specs.Prelude.{Bool, true, ◌&&◌, Option, Some, None, List, [], ◌∷◌, ℕ, zero, suc, ◌%◌, ◌^◌, eqb, length, Float}
 use Rattle.std.specs.Float.Ieee.{le}
 use Rattle.limits.specs.Limits.{width, point_limit, total_limit}
 use Rattle.cut.specs.declared.Separation.{Separation}
-use Rattle.cut.specs.declared.Separation.TheVariants.{NoCut, Drawn}
 use Rattle.cut.specs.Draw.{separation}
 use Rattle.cuttree.specs.Setting.{Setting, CutOf}
 use Rattle.readings.specs.Number.{Number, zero as zero_number, number}
@@ -19,9 +18,9 @@ abbrev pub ends : (ℕ → Number) → List Float
 ends f = tab width (λ (i : ℕ). (f i).value)
 
 -- The cut that is drawn. Where none is, the box holds the point and no cut parts, so any will do.
-abbrev pub cut_in : Separation → CutOf ℕ Number
-cut_in NoCut = record { channel = 0; value = zero_number }
-cut_in (Drawn k b) = record { channel = k.dimension; value = number k.value }
+abbrev pub cut_in : Option Separation → CutOf ℕ Number
+cut_in None = record { channel = 0; value = zero_number }
+cut_in (Some s) = record { channel = s.cut.dimension; value = number s.cut.value }
 
 abbrev pub all_coordinates : List Float → Bool
 all_coordinates [] = true

@@ -7,8 +7,9 @@ use native.Mathlib.Omega.{arith}
 use borrow.Author.Tests.{leb-true}
 use lib.Dec.{eqb, ltb, leb}
 use lib.ListN.{length}
-use Rattle.wordsource.specs.declared.Filled.{Filled}
-use Rattle.wordsource.specs.declared.Filled.TheVariants.{Wrote, NoWords}
+use Rattle.std.specs.Prelude.{Result, Ok, Err}
+use Rattle.refusals.specs.declared.Refusal.{Refusal}
+use Rattle.refusals.specs.declared.Refusal.TheVariants.{KeyLength, PastStream}
 use Rattle.wordsource.specs.Stream.{key_bytes, stream_word, word_limit, stream_words}
 use Rattle.wordsource.specs.Filled.{is_stretch, filled, EachSlot, StartsAgree}
 
@@ -21,9 +22,9 @@ each_slot key start (suc count) (suc i) d h =
     each_slot key (start + 1) count i d (omega arith) ∙ ap (stream_word key) e
 
 -- no refusal says how many words were written
-refused : {count r : ℕ} {us vs : List ℕ} → ◌≡◌ {A = Filled × List ℕ} (Wrote count, us) (NoWords r, vs) → ⊥
+refused : {count : ℕ} {r : Refusal} {us vs : List ℕ} → ◌≡◌ {A = Result ℕ Refusal × List ℕ} (Ok count, us) (Err r, vs) → ⊥
 refused {count} {r} e =
-    let f : Wrote count ≡ NoWords r = ap (λ (x : Filled × List ℕ). x.0) e in
+    let f : Ok count ≡ Err r = ap (λ (x : Result ℕ Refusal × List ℕ). x.0) e in
     let z : ◌≡◌ {A = ℕ} 0 1 = cc in
     omega arith
 
@@ -32,16 +33,16 @@ second true b e = e
 second false b e = absurd (true≢false (sym e))
 
 -- what is answered so: as many words as the list has, which the stream has
-written : (key : List ℕ) (start : ℕ) (words words' : List ℕ) (count : ℕ) → (Wrote count, words') ≡ filled key start words → (words' ≡ stream_words key start count) × (start + count ≤ word_limit)
+written : (key : List ℕ) (start : ℕ) (words words' : List ℕ) (count : ℕ) → (Ok count, words') ≡ filled key start words → (words' ≡ stream_words key start count) × (start + count ≤ word_limit)
 unfolding filled
 written key start words words' count = go (eqb (length key) key_bytes) (is_stretch start (length words)) refl
   where
-    go : (s t : Bool) → is_stretch start (length words) ≡ t → ◌≡◌ {A = Filled × List ℕ} (Wrote count, words') (cond s (cond t (Wrote (length words), stream_words key start (length words)) (NoWords 22, words)) (NoWords 21, words))
+    go : (s t : Bool) → is_stretch start (length words) ≡ t → ◌≡◌ {A = Result ℕ Refusal × List ℕ} (Ok count, words') (cond s (cond t (Ok (length words), stream_words key start (length words)) (Err PastStream, words)) (Err KeyLength, words))
         → (words' ≡ stream_words key start count) × (start + count ≤ word_limit)
     go true true h e =
-        let f : Wrote count ≡ Wrote (length words) = ap (λ (x : Filled × List ℕ). x.0) e in
+        let f : Ok count ≡ Ok (length words) = ap (λ (x : Result ℕ Refusal × List ℕ). x.0) e in
         let n : length words ≡ count = cc in
-        (ap (λ (x : Filled × List ℕ). x.1) e ∙ ap (stream_words key start) n, omega (arith, leb-true (start + length words) word_limit (second (ltb start word_limit) (leb (start + length words) word_limit) h)))
+        (ap (λ (x : Result ℕ Refusal × List ℕ). x.1) e ∙ ap (stream_words key start) n, omega (arith, leb-true (start + length words) word_limit (second (ltb start word_limit) (leb (start + length words) word_limit) h)))
     go true false h e = absurd (refused e)
     go false t h e = absurd (refused e)
 
@@ -50,5 +51,5 @@ starts_agree key m n us vs us' vs' p q e f i j d h k o =
     rw ((written key m us us' p e).0, (written key n vs vs' q f).0) (each_slot key m p i d h ∙ ap (stream_word key) o ∙ sym (each_slot key n q j d k))
 
 -- no count is more than the stream has words
-pub wrote_few : (key : List ℕ) (start : ℕ) (words words' : List ℕ) (count : ℕ) → (Wrote count, words') ≡ filled key start words → count ≤ word_limit
+pub wrote_few : (key : List ℕ) (start : ℕ) (words words' : List ℕ) (count : ℕ) → (Ok count, words') ≡ filled key start words → count ≤ word_limit
 wrote_few key start words words' count e = omega (arith, (written key start words words' count e).1)

@@ -1,12 +1,11 @@
 -- `answers::tell_add` meets its contract. Assumes nothing.
-use borrow.Author.Rules.{rules}
 use Rattle.answers.specs.Said.{filled}
 use Rattle.answers.proofs.tell_add.Goals as goal
 
-pub returns-in-Added : goal.returns-in-Added
+pub returns-in-Ok : goal.returns-in-Ok
 unfolding filled
-returns-in-Added c = rw c.in-Added.is
+returns-in-Ok c = rw c.in-Ok.is
 
-pub returns-in-NotAdded : goal.returns-in-NotAdded
+pub returns-in-Err : goal.returns-in-Err
 unfolding filled
-returns-in-NotAdded c = rw (c.in-NotAdded.is, c.wide8.ensures.0)
+returns-in-Err c = rw (c.in-Err.is, c.number.ensures)

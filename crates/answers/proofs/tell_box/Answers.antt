@@ -1,23 +1,9 @@
--- `answers::tell_box` meets its contract: after i turns the numbers of the first i channels stand. Assumes nothing.
-use native.Mathlib.Omega.{arith}
-use mathlib.Core.Path.{◌≡◌, ◌∙◌}
-use Prim.Native.Nat.{ℕ, ◌-◌, min}
-use native.Mathlib.Nat.{min-le_right}
-use lib.ListN.{get_or}
-use lib.Ieee.{binary32, to_bits}
-use Rattle.limits.specs.Limits.{width}
-use Rattle.boundingbox.specs.Ends.{channel}
-use Rattle.answers.specs.Said.{filled}
-use Rattle.answers.proofs.Told.{Told, told_none, told_turn, told_all}
-use borrow.Author.Rules.{rules}
+-- `answers::tell_box` meets its contract. Assumes nothing.
+use Rattle.answers.proofs.Told.{refused_reply}
 use Rattle.answers.proofs.tell_box.Goals as goal
 
-pub loop-i-init : goal.loop-i-init
-unfolding filled
-loop-i-init c = (c.at_most-d.ensures, told_none c.wide8.result _ _ _)
+pub returns-in-Ok : goal.returns-in-Ok
+returns-in-Ok c = rw (c.in-Ok.is) c.tell_ends.ensures
 
-pub loop-i-preserved : goal.loop-i-preserved
-loop-i-preserved c = let w = c.loop-i.invariant in (w.0, told_turn _ _ _ _ _ _ _ _ w.1 (omega arith) (omega (arith, w.0, min-le_right c.args.dimensions width)) (c.wide32.ensures.0 ∙ c.pattern_of.ensures) (c.wide32-in-loop-i.ensures.0 ∙ c.pattern_of-in-loop-i.ensures))
-
-pub returns : goal.returns
-returns c = rw (← c.wide8.ensures.0, ← c.loop-i.invariant.0) (told_all _ _ _ _ _ _ c.loop-i.invariant.1 (omega arith))
+pub returns-in-Err : goal.returns-in-Err
+returns-in-Err c = rw (c.in-Err.is, c.number.ensures) (refused_reply _ _)

@@ -1,12 +1,11 @@
 -- `answers::tell_delete` meets its contract. Assumes nothing.
-use borrow.Author.Rules.{rules}
 use Rattle.answers.specs.Said.{filled}
 use Rattle.answers.proofs.tell_delete.Goals as goal
 
-pub returns-in-Deleted : goal.returns-in-Deleted
+pub returns-in-Ok : goal.returns-in-Ok
 unfolding filled
-returns-in-Deleted c = rw c.in-Deleted.is
+returns-in-Ok c = rw c.in-Ok.is
 
-pub returns-in-NotDeleted : goal.returns-in-NotDeleted
+pub returns-in-Err : goal.returns-in-Err
 unfolding filled
-returns-in-NotDeleted c = rw (c.in-NotDeleted.is, c.wide8.ensures.0)
+returns-in-Err c = rw (c.in-Err.is, c.number.ensures)

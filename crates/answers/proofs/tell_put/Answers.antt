@@ -1,12 +1,11 @@
 -- `answers::tell_put` meets its contract. Assumes nothing.
-use borrow.Author.Rules.{rules}
 use Rattle.answers.specs.Said.{filled}
 use Rattle.answers.proofs.tell_put.Goals as goal
 
-pub returns-in-Written : goal.returns-in-Written
+pub returns-in-Err : goal.returns-in-Err
 unfolding filled
-returns-in-Written c = rw c.in-Written.is
+returns-in-Err c = rw (c.in-Err.is, c.number.ensures)
 
-pub returns-in-Refused : goal.returns-in-Refused
+pub returns-in-Ok : goal.returns-in-Ok
 unfolding filled
-returns-in-Refused c = rw (c.in-Refused.is, c.wide8.ensures.0)
+returns-in-Ok c = rw c.in-Ok.is

@@ -1,7 +1,6 @@
 -- `archivecalls::tell_refused` meets its contract. Assumes nothing.
 use mathlib.Core.Path.{refl}
 use Rattle.answers.specs.Said.{filled}
-use borrow.Author.Rules.{rules}
 use Rattle.archivecalls.proofs.tell_refused.Goals as goal
 
 pub returns : goal.returns

@@ -1,7 +1,6 @@
 -- `archiveend::print_end` meets its contract. Assumes nothing.
 use native.Mathlib.Omega.{arith}
 use Rattle.archiveend.proofs.States.{kept_few, some_read, ended, fitting}
-use borrow.Author.Rules.{rules}
 use Rattle.archiveend.proofs.print_end.Goals as goal
 
 pub put_entries-next-requires : goal.put_entries-next-requires

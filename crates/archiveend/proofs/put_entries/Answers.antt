@@ -1,10 +1,8 @@
 -- `archiveend::put_entries` meets its contract. Assumes nothing.
 use mathlib.Core.Path.{◌∙◌}
-use Prim.Native.Nat.{◌-◌}
 use native.Mathlib.Omega.{arith}
 use Rattle.lines.proofs.Writes.{long}
-use Rattle.archiveend.proofs.Entries.{Putting, put_start, put_step, put_end}
-use borrow.Author.Rules.{rules}
+use Rattle.archiveend.proofs.Entries.{put_start, put_step, put_end}
 use Rattle.archiveend.proofs.put_entries.Goals as goal
 
 pub loop-i-init : goal.loop-i-init

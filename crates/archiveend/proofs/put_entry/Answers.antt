@@ -2,7 +2,6 @@
 use native.Mathlib.Omega.{arith}
 use Rattle.lines.proofs.Writes.{then}
 use Rattle.archiveend.specs.End.{entry_line}
-use borrow.Author.Rules.{rules}
 use Rattle.archiveend.proofs.put_entry.Goals as goal
 
 pub returns : goal.returns

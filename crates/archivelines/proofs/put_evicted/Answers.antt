@@ -2,7 +2,6 @@
 use native.Mathlib.Omega.{arith}
 use Rattle.archivelines.specs.Answers.{evicted_line}
 use Rattle.lines.proofs.Writes.{then}
-use borrow.Author.Rules.{rules}
 use Rattle.archivelines.proofs.put_evicted.Goals as goal
 
 pub returns : goal.returns

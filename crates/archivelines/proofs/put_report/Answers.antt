@@ -1,13 +1,8 @@
 -- `archivelines::put_report` meets its contract. Assumes nothing.
-use Prim.Native.Nat.{◌-◌}
 use native.Mathlib.Omega.{arith}
 use Rattle.lines.proofs.Writes.{long}
-use Rattle.archivelines.proofs.Answers.{Writing, row_start, row_step, row_end}
-use borrow.Author.Rules.{rules}
+use Rattle.archivelines.proofs.Answers.{row_step, row_end}
 use Rattle.archivelines.proofs.put_report.Goals as goal
-
-pub loop-i-init : goal.loop-i-init
-loop-i-init c = row_start
 
 pub bounds-rows-i : goal.bounds-rows-i
 bounds-rows-i c = omega (arith, c.loop-i-test.true, c.at_most-n.ensures)

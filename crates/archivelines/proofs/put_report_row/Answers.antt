@@ -2,7 +2,6 @@
 use native.Mathlib.Omega.{arith}
 use Rattle.lines.proofs.Writes.{then}
 use Rattle.archivelines.proofs.Answers.{row_written}
-use borrow.Author.Rules.{rules}
 use Rattle.archivelines.proofs.put_report_row.Goals as goal
 
 pub returns : goal.returns

@@ -1,7 +1,6 @@
 -- `archiverow::read_arrival_words` meets its contract. Assumes nothing.
 use mathlib.Core.Path.{sym, ◌∙◌}
 use Rattle.archiverow.proofs.Rest.{words_named, words_written}
-use borrow.Author.Rules.{rules}
 use Rattle.archiverow.proofs.read_arrival_words.Goals as goal
 
 pub read_words-requires : goal.read_words-requires

@@ -1,7 +1,6 @@
 -- `archiverow::read_chance` meets its contract. Assumes nothing.
 use mathlib.Core.Path.{sym, ◌∙◌}
 use Rattle.archiverow.proofs.Rest.{chance_named, chance_written}
-use borrow.Author.Rules.{rules}
 use Rattle.archiverow.proofs.read_chance.Goals as goal
 
 pub read_chance-requires : goal.read_chance-requires

@@ -2,7 +2,6 @@
 use mathlib.Core.List.{[], ◌∷◌}
 use native.Mathlib.Omega.{arith}
 use Rattle.answers.proofs.Written.{then_more}
-use borrow.Author.Rules.{rules}
 use Rattle.arrivals.proofs.put_two.Goals as goal
 
 pub returns : goal.returns

@@ -1,20 +1,12 @@
 -- `arrivals::tell_update` meets its contract. Assumes nothing.
-use Rattle.answers.specs.Said.{filled}
 use borrow.Author.Rules.{rules}
+use Rattle.answers.specs.Said.{filled}
 use Rattle.arrivals.proofs.tell_update.Goals as goal
 
-pub returns-in-Accepted : goal.returns-in-Accepted
+pub returns-in-Ok-None : goal.returns-in-Ok-None
 unfolding filled
-returns-in-Accepted c = rw c.in-Accepted.is
+returns-in-Ok-None c = search rules
 
-pub returns-in-Replaced : goal.returns-in-Replaced
+pub returns-in-Err : goal.returns-in-Err
 unfolding filled
-returns-in-Replaced c = rw c.in-Replaced.is
-
-pub returns-in-NotAccepted : goal.returns-in-NotAccepted
-unfolding filled
-returns-in-NotAccepted c = rw c.in-NotAccepted.is
-
-pub returns-in-Refused : goal.returns-in-Refused
-unfolding filled
-returns-in-Refused c = rw (c.in-Refused.is, c.wide8.ensures.0)
+returns-in-Err c = rw (c.in-Err.is, c.number.ensures)

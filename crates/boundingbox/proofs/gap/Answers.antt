@@ -1,5 +1,4 @@
 -- `boundingbox::gap` meets its contract: what is cast is a number. Assumes nothing.
-use borrow.Author.Rules.{rules}
 use mathlib.Core.Path.{sym, subst}
 use Rattle.boundingbox.proofs.Casts.{Casts, gap_casts}
 use Rattle.boundingbox.proofs.gap.Goals as goal

@@ -1,6 +1,5 @@
 -- `calls::delete` meets its contract. Assumes nothing.
 use Rattle.calls.proofs.Edits.{delete_does}
-use borrow.Author.Rules.{rules}
 use Rattle.calls.proofs.delete.Goals as goal
 
 pub returns : goal.returns

@@ -1,5 +1,4 @@
 -- `chacha20::block_of` meets its contract. Assumes nothing.
-use Rattle.std.proofs.Common.{rules}
 use Rattle.chacha20.specs.Block.{block_of}
 use Rattle.chacha20.proofs.block_of.Goals as goal
 

@@ -1,5 +1,4 @@
 -- `chacha20::column_rounds` meets its contract. Assumes nothing.
-use Rattle.std.proofs.Common.{rules}
 use Rattle.chacha20.specs.Block.{columns}
 use Rattle.chacha20.proofs.column_rounds.Goals as goal
 

@@ -1,5 +1,4 @@
 -- `chacha20::diagonal_rounds` meets its contract. Assumes nothing.
-use Rattle.std.proofs.Common.{rules}
 use Rattle.chacha20.specs.Block.{diagonals}
 use Rattle.chacha20.proofs.diagonal_rounds.Goals as goal
 

@@ -1,5 +1,4 @@
 -- `chacha20::quarter_at` meets its contract. Assumes nothing.
-use Rattle.std.proofs.Common.{rules}
 use Rattle.chacha20.specs.Block.{quarter_at}
 use Rattle.chacha20.proofs.quarter_at.Goals as goal
 

@@ -1,5 +1,4 @@
 -- `chacha20::state_of` meets its contract. Assumes nothing.
-use Rattle.std.proofs.Common.{rules}
 use Rattle.chacha20.proofs.state_of.Goals as goal
 
 pub returns : goal.returns

@@ -1,6 +1,5 @@
 -- `drawn` meets its contract. Assumes nothing.
 use Rattle.cut.specs.Draw.{drawn_at}
-use Rattle.std.proofs.Common.{rules}
 use Rattle.cut.proofs.drawn.Goals as goal
 
 pub returns : goal.returns

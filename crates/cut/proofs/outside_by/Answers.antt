@@ -1,5 +1,4 @@
 -- `outside_by` meets its contract: each branch is what its test selects. Assumes nothing.
-use Rattle.std.proofs.Common.{rules}
 use Rattle.boundingbox.specs.Sides.{gap_of}
 use Rattle.cut.specs.Draw.{outside_of}
 use Rattle.cut.proofs.outside_by.Goals as goal

@@ -1,5 +1,5 @@
 -- `outside_of` meets its contract: what is cast is a number. Assumes nothing.
-use Rattle.std.proofs.Common.{sym, subst, rules}
+use Rattle.std.proofs.Common.{sym, subst}
 use lib.Ieee.{Float, lt}
 use Rattle.boundingbox.specs.Sides.{gap_of}
 use Rattle.boundingbox.proofs.Casts.{Casts, either, gap_casts}

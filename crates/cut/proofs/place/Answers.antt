@@ -1,6 +1,5 @@
 -- `place` meets its contract: each way out is what its tests select. Assumes nothing.
 use Rattle.cut.specs.Draw.{placed, moved}
-use Rattle.std.proofs.Common.{rules}
 use Rattle.cut.proofs.place.Goals as goal
 
 pub returns-then-cut-high : goal.returns-then-cut-high

@@ -1,6 +1,5 @@
 -- `separates` meets its contract. Assumes nothing.
 use Rattle.cut.specs.Draw.{parts}
-use Rattle.std.proofs.Common.{rules}
 use Rattle.cut.proofs.separates.Goals as goal
 
 pub returns-then-cuts_between : goal.returns-then-cuts_between

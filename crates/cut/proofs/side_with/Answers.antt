@@ -1,5 +1,4 @@
 -- `side_with` meets its contract. Assumes nothing.
-use Rattle.std.proofs.Common.{rules}
 use Rattle.cut.proofs.side_with.Goals as goal
 
 pub returns : goal.returns

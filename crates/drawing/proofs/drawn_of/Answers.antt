@@ -1,11 +1,9 @@
 -- `drawn_of` meets its contract: both rows are of the ends that the test selects. Assumes nothing.
 use native.Mathlib.Omega.{arith}
 use mathlib.Core.Path.{◌≡◌, ap, ◌∙◌}
-use mathlib.Core.Logic.{⊎_elim}
 use mathlib.Core.List.{[]}
 use lib.ListN.{get_or}
 use Rattle.drawing.specs.Choice.{ends_for}
-use borrow.Author.Rules.{rules}
 use Rattle.drawing.proofs.drawn_of.Goals as goal
 use Rattle.drawing.proofs.drawn_of.Goals.{then-partly, else-partly, then-partly-2, else-partly-2}
 

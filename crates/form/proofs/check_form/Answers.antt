@@ -1,10 +1,6 @@
-use mathlib.Core.Path.{sym, ◌∙◌}
+-- `form::check_form` meets its contract. Assumes nothing.
+use Rattle.std.proofs.Common.{sym, ◌∙◌}
 use Rattle.form.proofs.Blocks.{form_long, form_lines, form_one, form_two, form_three, first_lines}
-use borrow.Author.Rules.{rules}
-use Rattle.form.proofs.check_form.Reads as reads
-use Rattle.form.proofs.check_form.Lts as lts
-use Rattle.form.proofs.check_blocks.Reads as check-blocks-reads
-use Rattle.text.proofs.piece_end.Reads as piece-end-reads
 use Rattle.form.proofs.check_form.Goals as goal
 
 pub returns-then-bytes-gt32768 : goal.returns-then-bytes-gt32768

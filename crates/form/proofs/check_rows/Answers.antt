@@ -1,12 +1,5 @@
-use Prim.Native.Nat.{◌-◌}
-use lib.ListN.{length}
-use borrow.Author.Rules.{rules}
-use borrow.Author.Tests.{not-true, not-false}
-use Rattle.form.proofs.Lines.{Counting, count_start, count_end, count_tail, count_bad, count_step}
-use Rattle.form.proofs.check_rows.Reads as reads
-use Rattle.form.proofs.check_rows.Lts as lts
-use Rattle.form.proofs.is_row_at.Reads as is-row-at-reads
-use Rattle.text.proofs.piece_end.Reads as piece-end-reads
+-- `form::check_rows` meets its contract. Assumes nothing.
+use Rattle.form.proofs.Lines.{count_start, count_end, count_tail, count_bad, count_step}
 use Rattle.form.proofs.check_rows.Goals as goal
 
 pub loop-start-init : goal.loop-start-init
@@ -18,8 +11,8 @@ returns-then-end-at c = count_end c.loop-start.invariant c.piece_end-end.ensures
 pub returns-then-end-bytes : goal.returns-then-end-bytes
 returns-then-end-bytes c = count_tail c.loop-start.invariant c.piece_end-end.ensures c.if-end-bytes.true c.if-end-at.false
 
-pub returns-then-not-is_row_at : goal.returns-then-not-is_row_at
-returns-then-not-is_row_at c = count_bad c.loop-start.invariant c.piece_end-end.ensures c.if-end-bytes.false c.is_row_at.ensures c.if-not-is_row_at.true
+pub returns-then-not-is_row : goal.returns-then-not-is_row
+returns-then-not-is_row c = count_bad c.loop-start.invariant c.piece_end-end.ensures c.if-end-bytes.false c.is_row.ensures c.if-not-is_row.true
 
 pub loop-start-preserved : goal.loop-start-preserved
-loop-start-preserved c = count_step c.loop-start.invariant c.piece_end-end.ensures c.if-end-bytes.false c.is_row_at.ensures c.if-not-is_row_at.false
+loop-start-preserved c = count_step c.loop-start.invariant c.piece_end-end.ensures c.if-end-bytes.false c.is_row.ensures c.if-not-is_row.false

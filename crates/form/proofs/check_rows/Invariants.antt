@@ -1,12 +1,5 @@
-use Prim.Native.Nat.{◌-◌}
-use lib.ListN.{length}
-use borrow.Author.Rules.{rules}
-use borrow.Author.Tests.{not-true, not-false}
-use Rattle.form.proofs.Lines.{Counting, count_start, count_end, count_tail, count_bad, count_step}
-use Rattle.form.proofs.check_rows.Reads as reads
-use Rattle.form.proofs.check_rows.Lts as lts
-use Rattle.form.proofs.is_row_at.Reads as is-row-at-reads
-use Rattle.text.proofs.piece_end.Reads as piece-end-reads
+use Rattle.std.proofs.Common.{length, ◌-◌}
+use Rattle.form.proofs.Lines.{Counting}
 use Rattle.form.proofs.check_rows.Given as goal
 
 abbrev pub invariant-loop-start : goal.invariant-loop-start

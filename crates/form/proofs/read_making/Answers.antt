@@ -1,11 +1,6 @@
-use Rattle.form.proofs.Making.{making_one, making_two, making_many, making_three}
-use native.Mathlib.Omega.{arith}
-use borrow.Author.Rules.{rules}
-use Rattle.form.proofs.read_making.Reads as reads
-use Rattle.form.proofs.read_making.Lts as lts
-use Rattle.form.proofs.making_by.Reads as making-by-reads
-use Rattle.form.proofs.number_at.Reads as number-at-reads
-use Rattle.text.proofs.piece_end.Reads as piece-end-reads
+-- `form::read_making` meets its contract. Assumes nothing.
+use Rattle.std.proofs.Common.{arith}
+use Rattle.form.proofs.MakingRow.{making_one, making_two, making_many, making_three}
 use Rattle.form.proofs.read_making.Goals as goal
 
 pub returns-then-a-row : goal.returns-then-a-row
@@ -17,5 +12,14 @@ returns-then-b-row c = making_two _ c.piece_end-a.ensures c.if-a-row.false c.pie
 pub returns-then-c-row : goal.returns-then-c-row
 returns-then-c-row c = making_many _ c.piece_end-a.ensures c.if-a-row.false c.piece_end-b.ensures c.if-b-row.false c.piece_end-c.ensures (λ e. omega arith)
 
+pub returns-in_err-channels : goal.returns-in_err-channels
+returns-in_err-channels c = rw (making_three _ c.piece_end-a.ensures c.if-a-row.false c.piece_end-b.ensures c.if-b-row.false c.piece_end-c.ensures c.if-c-row.false, ← c.read_number.ensures, c.in_err-channels.was, c.from_residual.ensures)
+
+pub returns-in_err-capacity : goal.returns-in_err-capacity
+returns-in_err-capacity c = rw (making_three _ c.piece_end-a.ensures c.if-a-row.false c.piece_end-b.ensures c.if-b-row.false c.piece_end-c.ensures c.if-c-row.false, ← c.read_number.ensures, ← c.read_number-2.ensures, c.in_ok-channels.was, c.in_err-capacity.was, c.from_residual-in_err-capacity.ensures)
+
+pub returns-in_err-sixteenths : goal.returns-in_err-sixteenths
+returns-in_err-sixteenths c = rw (making_three _ c.piece_end-a.ensures c.if-a-row.false c.piece_end-b.ensures c.if-b-row.false c.piece_end-c.ensures c.if-c-row.false, ← c.read_number.ensures, ← c.read_number-2.ensures, ← c.read_number-3.ensures, c.in_ok-channels.was, c.in_ok-capacity.was, c.in_err-sixteenths.was, c.from_residual-in_err-sixteenths.ensures)
+
 pub returns : goal.returns
-returns c = rw (making_three _ c.piece_end-a.ensures c.if-a-row.false c.piece_end-b.ensures c.if-b-row.false c.piece_end-c.ensures c.if-c-row.false, ← c.number_at-channels.ensures, ← c.number_at-capacity.ensures, ← c.number_at-sixteenths.ensures) c.making_by.ensures
+returns c = rw (making_three _ c.piece_end-a.ensures c.if-a-row.false c.piece_end-b.ensures c.if-b-row.false c.piece_end-c.ensures c.if-c-row.false, ← c.read_number.ensures, ← c.read_number-2.ensures, ← c.read_number-3.ensures, c.in_ok-channels.was, c.in_ok-capacity.was, c.in_ok-sixteenths.was)

@@ -1,10 +1,8 @@
 -- `hexbytes::put_bytes` meets its contract. Assumes nothing.
 use mathlib.Core.Path.{refl}
-use Prim.Native.Nat.{◌+◌, ◌-◌, ◌*◌}
+use Prim.Native.Nat.{◌+◌, ◌*◌}
 use native.Mathlib.Omega.{arith}
-use lib.ListN.{length}
-use borrow.Author.Rules.{rules}
-use Rattle.hexbytes.proofs.Digits.{digit_small, Reading, read_byte, read_all}
+use Rattle.hexbytes.proofs.Digits.{digit_small, read_byte, read_all}
 use Rattle.hexbytes.proofs.put_bytes.Goals as goal
 
 pub loop-i-init : goal.loop-i-init

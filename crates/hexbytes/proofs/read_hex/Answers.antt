@@ -1,16 +1,11 @@
 -- `hexbytes::read_hex` meets its contract. Assumes nothing.
 use mathlib.Core.Path.{sym, ◌∙◌}
 use native.Mathlib.Omega.{arith}
-use borrow.Author.Tests.{not-true, not-false}
-use borrow.Author.Rules.{rules}
 use Rattle.hexbytes.proofs.Digits.{other_length, no_digits, all_read}
 use Rattle.hexbytes.proofs.read_hex.Goals as goal
 
 pub returns-then-field-bytes : goal.returns-then-field-bytes
-returns-then-field-bytes c = other_length c.args.field.now c.args.bytes.now (λ e. c.if-field-bytes.true (omega arith))
-
-pub returns-then-field-ne0 : goal.returns-then-field-ne0
-returns-then-field-ne0 c = other_length c.args.field.now c.args.bytes.now (λ e. c.if-field-ne0.true (omega arith))
+returns-then-field-bytes c = other_length c.args.field.now c.args.bytes.now c.if-field-bytes.true
 
 pub returns-then-not-are_digits : goal.returns-then-not-are_digits
 returns-then-not-are_digits c = no_digits c.args.field.now c.args.bytes.now (omega arith) c.are_digits.ensures c.if-not-are_digits.true

@@ -2,13 +2,6 @@
 use native.Mathlib.Omega.{arith}
 use Rattle.lines.specs.Lines.{branch_line}
 use Rattle.lines.proofs.Writes.{then}
-use borrow.Author.Rules.{rules}
-use Rattle.lines.proofs.put_branch.Reads as reads
-use Rattle.lines.proofs.put_branch.Lts as lts
-use Rattle.lines.proofs.put_byte.Reads as put-byte-reads
-use Rattle.lines.proofs.put_field.Reads as put-field-reads
-use Rattle.lines.proofs.put_hex.Reads as put-hex-reads
-use Rattle.lines.proofs.put_last.Reads as put-last-reads
 use Rattle.lines.proofs.put_branch.Goals as goal
 
 pub returns : goal.returns

@@ -2,11 +2,6 @@
 use native.Mathlib.Omega.{arith}
 use Rattle.lines.proofs.Writes.{then}
 use Rattle.lines.proofs.Placed.{as_written}
-use borrow.Author.Rules.{rules}
-use Rattle.lines.proofs.put_field.Reads as reads
-use Rattle.lines.proofs.put_field.Lts as lts
-use Rattle.lines.proofs.put_byte.Reads as put-byte-reads
-use Rattle.lines.proofs.put_decimal.Reads as put-decimal-reads
 use Rattle.lines.proofs.put_field.Goals as goal
 
 pub returns : goal.returns

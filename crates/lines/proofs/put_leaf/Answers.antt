@@ -2,12 +2,6 @@
 use native.Mathlib.Omega.{arith}
 use Rattle.lines.specs.Lines.{leaf_line}
 use Rattle.lines.proofs.Writes.{then}
-use borrow.Author.Rules.{rules}
-use Rattle.lines.proofs.put_leaf.Reads as reads
-use Rattle.lines.proofs.put_leaf.Lts as lts
-use Rattle.lines.proofs.put_bytes.Reads as put-bytes-reads
-use Rattle.lines.proofs.put_field.Reads as put-field-reads
-use Rattle.lines.proofs.put_last.Reads as put-last-reads
 use Rattle.lines.proofs.put_leaf.Goals as goal
 
 pub returns : goal.returns

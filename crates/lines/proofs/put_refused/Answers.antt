@@ -2,12 +2,6 @@
 use native.Mathlib.Omega.{arith}
 use Rattle.lines.specs.Lines.{refused_line}
 use Rattle.lines.proofs.Writes.{then}
-use borrow.Author.Rules.{rules}
-use Rattle.lines.proofs.put_refused.Reads as reads
-use Rattle.lines.proofs.put_refused.Lts as lts
-use Rattle.lines.proofs.put_bytes.Reads as put-bytes-reads
-use Rattle.lines.proofs.put_field.Reads as put-field-reads
-use Rattle.lines.proofs.put_last.Reads as put-last-reads
 use Rattle.lines.proofs.put_refused.Goals as goal
 
 pub returns : goal.returns

@@ -2,13 +2,11 @@
 use mathlib.Core.Path.{sym}
 use native.Mathlib.Omega.{arith}
 use lib.Seq.{set_out}
-use borrow.Author.Rules.{rules}
-use Rattle.lines.proofs.set_after.Reads as reads
-use Rattle.lines.proofs.set_after.Lts as lts
 use Rattle.lines.proofs.set_after.Goals as goal
-
-pub returns-else-count-out : goal.returns-else-count-out
-returns-else-count-out c = sym (set_out _ _ _ (omega arith))
+use Rattle.lines.proofs.set_after.Goals.{else-at-out-via-then-at-out+else-count-out, else-at-out-via-else-at-out}
 
 pub returns-else-at-out : goal.returns-else-at-out
-returns-else-at-out c = sym (set_out _ _ _ (omega arith))
+returns-else-at-out c = elim c.else-at-out.branch [
+  | else-at-out-via-then-at-out+else-count-out w ↦ sym (set_out _ _ _ (omega arith))
+  | else-at-out-via-else-at-out w ↦ sym (set_out _ _ _ (omega arith))
+]

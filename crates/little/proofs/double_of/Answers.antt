@@ -1,12 +1,11 @@
 -- `little::double_of` meets its contract: a pattern above infinity's, but for the sign, is NaN's. Assumes nothing.
-use borrow.Author.Rules.{rules}
 use mathlib.Core.Path.{◌≡◌, refl, ◌∙◌}
-use lib.Ieee.{nan, binary64, of_bits, div}
+use lib.Ieee.{nan, binary64, of_bits}
 use Rattle.little.proofs.Patterns.{above, within}
 use Rattle.little.proofs.double_of.Goals as goal
 
-none : div binary64 (of_bits binary64 0) (of_bits binary64 0) ≡ nan
-unfolding div of_bits
+none : of_bits binary64 9221120237041090560 ≡ nan
+unfolding of_bits
 none = refl
 
 pub returns-then-bits-gt-INFINITE64 : goal.returns-then-bits-gt-INFINITE64

@@ -3,7 +3,6 @@ use native.Mathlib.Omega.{arith}
 use Rattle.text.specs.Pieces.{pieces_from}
 use Rattle.namedwords.specs.Named.{first_in}
 use Rattle.namedwords.proofs.Words.{stretch_end, filled_is}
-use borrow.Author.Rules.{rules}
 use Rattle.namedwords.proofs.fill_from.Goals as goal
 
 pub overflow_add-first : goal.overflow_add-first

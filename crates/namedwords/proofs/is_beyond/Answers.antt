@@ -1,8 +1,6 @@
 -- `namedwords::is_beyond` meets its contract. Assumes nothing.
 use mathlib.Core.Path.{sym, ◌∙◌}
-use borrow.Author.Tests.{not-true, not-false}
 use Rattle.namedwords.proofs.Words.{not_beyond, beyond_last}
-use borrow.Author.Rules.{rules}
 use Rattle.namedwords.proofs.is_beyond.Goals as goal
 
 pub returns-then-not-is_named : goal.returns-then-not-is_named

@@ -1,7 +1,6 @@
 -- `namedwords::key_of` meets its contract. Assumes nothing.
 use mathlib.Core.Path.{◌∙◌}
 use lib.ListN.{replicate}
-use borrow.Author.Rules.{rules}
 use Rattle.hexbytes.proofs.Digits.{read_tells}
 use Rattle.namedwords.proofs.key_of.Goals as goal
 

@@ -1,7 +1,6 @@
 -- `namedwords::read_first` meets its contract. Assumes nothing.
 use mathlib.Core.Path.{◌∙◌}
 use Rattle.namedwords.proofs.Fields.{first_is}
-use borrow.Author.Rules.{rules}
 use Rattle.namedwords.proofs.read_first.Goals as goal
 
 pub returns : goal.returns

@@ -1,6 +1,5 @@
 -- `namedwords::read_key` meets its contract. Assumes nothing.
 use Rattle.namedwords.proofs.Fields.{named_within, named_key, key_is}
-use borrow.Author.Rules.{rules}
 use Rattle.namedwords.proofs.read_key.Goals as goal
 
 pub piece_end-end-requires : goal.piece_end-end-requires

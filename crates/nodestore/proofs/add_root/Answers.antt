@@ -1,6 +1,5 @@
 -- `add_root` meets its contract: the leaf's copies are all that its arrays have. Assumes nothing.
 use Rattle.nodestore.proofs.Ends.{first_arrays}
-use borrow.Author.Rules.{rules}
 use Rattle.nodestore.proofs.add_root.Goals as goal
 
 pub returns : goal.returns

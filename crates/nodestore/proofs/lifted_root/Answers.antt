@@ -4,7 +4,6 @@ use mathlib.Core.Bool.{cond}
 use Prim.Native.Nat.{◌-◌}
 use lib.Dec.{eqb}
 use Rattle.nodestore.proofs.Ends.{fork_root}
-use borrow.Author.Rules.{rules}
 use Rattle.nodestore.proofs.lifted_root.Goals as goal
 
 pub returns : goal.returns

@@ -1,7 +1,6 @@
 -- `mass_of` meets its contract: a branch and a leaf are the two cases of `mass_at`. Assumes nothing.
 use native.Mathlib.Omega.{arith}
 use borrow.Author.Tests.{lt-ltb, le-ltb}
-use borrow.Author.Rules.{rules}
 use Rattle.nodestore.proofs.mass_of.Goals as goal
 
 pub bounds-nodes-wide16 : goal.bounds-nodes-wide16

@@ -1,7 +1,6 @@
 -- `placed_root` meets its contract: the root changes only where the new branch stands above it. Assumes nothing.
 use mathlib.Core.Path.{◌∙◌}
 use Rattle.nodestore.proofs.Places.{placed_root}
-use borrow.Author.Rules.{rules}
 use Rattle.nodestore.proofs.placed_root.Goals as goal
 
 pub returns : goal.returns

@@ -1,7 +1,6 @@
 -- `remove_root` meets its contract: the lone leaf's copies are all that its arrays have. Assumes nothing.
 use mathlib.Core.Path.{refl}
 use Rattle.nodestore.proofs.Ends.{lone_arrays}
-use borrow.Author.Rules.{rules}
 use Rattle.nodestore.proofs.remove_root.Goals as goal
 
 pub returns : goal.returns

@@ -7,7 +7,6 @@ use lib.Dec.{eqb}
 use Rattle.cuttree.proofs.Tests.{by-test}
 use Rattle.layout.specs.Slots.{field}
 use Rattle.nodestore.specs.Rows.{set_field}
-use borrow.Author.Rules.{rules}
 use Rattle.nodestore.proofs.replace_node.Goals as goal
 
 picked : (b : Bool) (n : List (List ℕ)) (a new : ℕ) → set_field n a (cond b 0 1) new ≡ cond b (set_field n a 0 new) (set_field n a 1 new)

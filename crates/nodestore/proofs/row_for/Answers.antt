@@ -1,5 +1,4 @@
 -- `row_for` meets its contract. Assumes nothing.
-use borrow.Author.Rules.{rules}
 use Rattle.nodestore.proofs.row_for.Goals as goal
 
 pub returns-then-left : goal.returns-then-left

@@ -1,14 +1,13 @@
 -- `branch_ends` meets its contract. Assumes nothing.
 use mathlib.Core.Path.{refl}
 use native.Mathlib.Omega.{arith}
-use borrow.Author.Rules.{rules}
 use Rattle.nodeview.proofs.branch_ends.Goals as goal
 
-pub returns-then-branch-sizes : goal.returns-then-branch-sizes
-returns-then-branch-sizes c = record { left = (λ _. refl); pair = (λ h. absurd (omega (arith, c.if-branch-sizes.true))); padded = c.requires.padded.2 }
+pub returns-then-branch-boxing : goal.returns-then-branch-boxing
+returns-then-branch-boxing c = record { left = (λ _. refl); pair = (λ h. absurd (omega (arith, c.if-branch-boxing.true))); padded = c.requires.padded }
 
 pub ends_above-requires : goal.ends_above-requires
-ends_above-requires c = record { few = c.requires.few; stands = c.requires.stands; given = c.requires.given; padded = c.requires.padded }
+ends_above-requires c = record { stands = c.requires.stands; given = c.requires.given; padded = c.requires.padded }
 
 pub returns : goal.returns
-returns c = record { left = (λ h. absurd (omega (arith, c.if-branch-sizes.false))); pair = (λ _. c.ends_above.ensures.pair); padded = c.ends_above.ensures.padded }
+returns c = record { left = (λ h. absurd (omega (arith, c.if-branch-boxing.false))); pair = (λ _. c.ends_above.ensures.pair); padded = c.ends_above.ensures.padded }

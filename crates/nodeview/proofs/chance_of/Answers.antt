@@ -1,5 +1,4 @@
 -- `chance_of` meets its contract: each answer of the test is one case of the chance. Assumes nothing.
-use borrow.Author.Rules.{rules}
 use mathlib.Core.Path.{sym, ◌∙◌}
 use borrow.Author.Tests.{lt-ltb, le-ltb}
 use Rattle.cuttree.proofs.Tests.{cond_true, cond_false}

@@ -1,6 +1,5 @@
 -- `leaf_row` meets its contract: each answer of the test is one case of the chance. Assumes nothing.
 use lib.Ieee.{of_bits}
-use borrow.Author.Rules.{rules}
 use Rattle.nodeview.proofs.leaf_row.Goals as goal
 
 pub same_point-requires : goal.same_point-requires

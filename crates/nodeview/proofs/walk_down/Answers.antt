@@ -1,9 +1,6 @@
 -- `walk_down` meets its contract: at each turn the walk of every tree that stands has come to the node, and the chances above it are kept (`Walking`). Assumes nothing.
-use Prim.Native.Nat.{◌-◌}
 use native.Mathlib.Omega.{arith}
-use Rattle.limits.specs.Limits.{capacity_limit}
-use Rattle.nodeview.proofs.Walking.{Walking, walking_starts, walking_ends, this, node_readings, node_padded, walking_on}
-use borrow.Author.Rules.{rules}
+use Rattle.nodeview.proofs.Walking.{walking_starts, walking_ends, this, node_readings, node_padded, walking_on}
 use Rattle.nodeview.proofs.walk_down.Goals as goal
 
 pub loop-node-init : goal.loop-node-init

@@ -1,8 +1,6 @@
 use Prim.Native.Nat.{◌-◌}
-use native.Mathlib.Omega.{arith}
 use Rattle.limits.specs.Limits.{capacity_limit}
-use Rattle.nodeview.proofs.Walking.{Walking, walking_starts, walking_ends, this, node_readings, node_padded, walking_on}
-use borrow.Author.Rules.{rules}
+use Rattle.nodeview.proofs.Walking.{Walking}
 use Rattle.nodeview.proofs.walk_down.Given as goal
 
 abbrev pub invariant-loop-node : goal.invariant-loop-node

@@ -1,13 +1,13 @@
 -- `write_rows` meets its contract: m rows are written, and the ends are those of the box of the last row's node unless that is at hand (`Going`). Assumes nothing.
 use mathlib.Core.Path.{◌∙◌, refl}
-use Prim.Native.Nat.{◌-◌}
 use native.Mathlib.Omega.{arith}
 use lib.ListN.{length-set}
-use Rattle.rowboxes.specs.Rows.{PaddedEnds, box_of}
 use Rattle.nodeview.proofs.Nodes.{leaf_low, mass_asks, all_padded}
-use Rattle.nodeview.proofs.Going.{Going, both_stand, below_box, branch_box, box_readings, going_starts, going_on, going_ends}
-use borrow.Author.Rules.{rules}
+use Rattle.nodeview.proofs.Going.{both_stand, below_box, branch_box, box_readings, going_starts, going_on, going_ends}
 use Rattle.nodeview.proofs.write_rows.Goals as goal
+
+pub invariant_of-boxing : goal.invariant_of-boxing
+invariant_of-boxing c = let p = c.requires.walk in record { padded = (p.table_padded, p.boxes_padded) }
 
 pub leaf_at-leaf-requires : goal.leaf_at-leaf-requires
 leaf_at-leaf-requires c = let p = c.requires.walk in record { channels = _; tree = p.tree; reading = p.reading; walked = p.writing.walked }
@@ -60,11 +60,8 @@ overflow_sub-len-in-loop-m c = omega (arith, c.loop-m-test.true)
 pub node_at-requires : goal.node_at-requires
 node_at-requires c = omega (arith, c.loop-m.invariant.0.some, c.requires.walk.writing.walked.most)
 
-pub overflow_sub-m : goal.overflow_sub-m
-overflow_sub-m c = c.loop-m.invariant.0.some
-
 pub sibling_at-requires : goal.sibling_at-requires
-sibling_at-requires c = (omega (arith, c.loop-m-test.true), c.requires.walk.writing.walked.most)
+sibling_at-requires c = omega (arith, c.loop-m.invariant.0.some, c.requires.walk.writing.walked.most)
 
 pub branch_ends-requires : goal.branch_ends-requires
 branch_ends-requires c = let p = c.requires.walk in
@@ -73,8 +70,8 @@ branch_ends-requires c = let p = c.requires.walk in
     let m = c.loop-m.m in
     let h = c.loop-m-test.true in
     let e = c.wide16.ensures.0 in
-    let f = c.wide16-in-loop-m.ensures.0 ∙ c.node_at.ensures in
-    let s = c.sibling_at.ensures in record { few = (omega (arith, w.stored.small, e), omega (arith, w.few, w.stored.small), p.narrow); stands = both_stand _ _ _ _ _ _ _ _ _ w m g.0.some h _ e _ f _ s; given = below_box _ _ _ _ _ _ _ _ _ w m g.0.some h _ e _ f _ s _ g.0.box; padded = (p.table_padded, p.boxes_padded, g.1) }
+    let f = c.wide16-below.ensures.0 ∙ c.node_at.ensures in
+    let s = c.wide16-sibling.ensures.0 ∙ c.sibling_at.ensures in record { stands = both_stand _ _ _ _ _ _ _ _ _ w m g.0.some h _ e _ f _ s; given = below_box _ _ _ _ _ _ _ _ _ w m g.0.some h _ e _ f _ s _ g.0.box; padded = g.1 }
 
 pub offset_bounds-chances-depth : goal.offset_bounds-chances-depth
 offset_bounds-chances-depth c = omega (arith, c.loop-m-test.true, c.requires.walk.writing.walked.most)
@@ -89,8 +86,8 @@ chance_of-chance-requires c = let p = c.requires.walk in
     let m = c.loop-m.m in
     let h = c.loop-m-test.true in
     let e = c.wide16.ensures.0 in
-    let f = c.wide16-in-loop-m.ensures.0 ∙ c.node_at.ensures in
-    let s = c.sibling_at.ensures in
+    let f = c.wide16-below.ensures.0 ∙ c.node_at.ensures in
+    let s = c.wide16-sibling.ensures.0 ∙ c.sibling_at.ensures in
     let o = c.wide16-branch.ensures.0 ∙ c.node_at-node.ensures in
     let r = c.branch_ends.ensures in record { readings = (λ l. box_readings _ _ _ _ _ _ _ _ _ _ m (omega (arith, h)) _ o _ (branch_box _ _ _ _ _ _ _ _ _ w m g.0.some h _ e _ f _ s _ o _ (r.pair l)) w); padded = (λ _. all_padded _ _ _ p.narrow r.padded p.point_padded) }
 
@@ -103,12 +100,6 @@ offset_bounds-rows-m c = omega (arith, c.loop-m-test.true, c.requires.walk.writi
 pub bounds-rows-m : goal.bounds-rows-m
 bounds-rows-m c = let g = c.loop-m.invariant.0 in omega (arith, g.room, g.long, c.loop-m-test.true)
 
-pub overflow_add-m : goal.overflow_add-m
-overflow_add-m c = omega (arith, c.loop-m-test.true, c.requires.walk.writing.walked.most)
-
-pub loop-m-smaller : goal.loop-m-smaller
-loop-m-smaller c = omega (arith, c.loop-m-test.true)
-
 pub loop-m-preserved : goal.loop-m-preserved
 loop-m-preserved c = let p = c.requires in
     let w = p.walk.writing in
@@ -116,8 +107,8 @@ loop-m-preserved c = let p = c.requires in
     let m = c.loop-m.m in
     let h = c.loop-m-test.true in
     let e = c.wide16.ensures.0 in
-    let f = c.wide16-in-loop-m.ensures.0 ∙ c.node_at.ensures in
-    let s = c.sibling_at.ensures in
+    let f = c.wide16-below.ensures.0 ∙ c.node_at.ensures in
+    let s = c.wide16-sibling.ensures.0 ∙ c.sibling_at.ensures in
     let n = c.node_at-node.ensures in
     let o = c.wide16-branch.ensures.0 ∙ n in
     let r = c.branch_ends.ensures in (

@@ -1,15 +1,8 @@
-use native.Mathlib.Omega.{arith}
-use mathlib.Core.Path.{◌≡◌, refl, sym, ◌∙◌}
-use Prim.Native.Nat.{◌≤◌, ◌-◌, zero-le}
-use borrow.Author.Tests.{not-true, not-false}
-use lib.ListN.{length, drop}
+use mathlib.Core.Path.{◌≡◌}
+use lib.ListN.{drop}
 use Rattle.wholetree.specs.Whole.{all_coordinates}
-use Rattle.pointstore.proofs.Rows.{turn_bad, turn_good, all_done}
-use borrow.Author.Rules.{rules}
 use Rattle.pointstore.proofs.all_coordinates.Given as goal
 
-abbrev pub invariant-loop-i : goal.invariant-loop-i
-invariant-loop-i l = (l.i ≤ length l.coordinates) × (all_coordinates (drop l.i l.coordinates) ≡ all_coordinates l.coordinates)
-
-abbrev pub decreases-loop-i : goal.decreases-loop-i
-decreases-loop-i l = length l.coordinates - l.i
+-- what is left gives what the whole gives
+abbrev pub invariant-loop-x : goal.invariant-loop-x
+invariant-loop-x l = all_coordinates (drop l.x-index l.coordinates) ≡ all_coordinates l.coordinates

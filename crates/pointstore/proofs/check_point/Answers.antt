@@ -1,7 +1,5 @@
 -- `check_point` meets its contract. Assumes nothing.
 use mathlib.Core.Path.{sym, ◌∙◌}
-use borrow.Author.Rules.{rules}
-use borrow.Author.Tests.{not-true, not-false}
 use Rattle.pointstore.proofs.Refusals.{wrong_count, bad_point, good_point}
 use Rattle.pointstore.proofs.check_point.Goals as goal
 

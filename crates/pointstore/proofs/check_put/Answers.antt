@@ -1,18 +1,17 @@
 -- `check_put` meets its contract. Assumes nothing.
-use mathlib.Core.Path.{sym, ◌∙◌}
-use borrow.Author.Rules.{rules}
-use borrow.Author.Tests.{ne_eqb}
+use mathlib.Core.Path.{sym}
+use Rattle.std.proofs.lemmas.Result.{err_from_is_err_and}
 use Rattle.pointstore.proofs.Refusals.{index_refused, point_refused, leaf_refused, none_refused}
 use Rattle.pointstore.proofs.check_put.Goals as goal
 
 pub returns-then-index-ge-POINTS : goal.returns-then-index-ge-POINTS
 returns-then-index-ge-POINTS c = sym (index_refused _ _ _ _ c.if-index-ge-POINTS.true)
 
-pub returns-then-refusal-ne0 : goal.returns-then-refusal-ne0
-returns-then-refusal-ne0 c = sym (point_refused _ _ _ _ c.if-index-ge-POINTS.false _ (ne_eqb _ 0 c.if-refusal-ne0.true) (sym c.check_point-refusal.ensures))
+pub returns-in_err-check_point : goal.returns-in_err-check_point
+returns-in_err-check_point c = let p = err_from_is_err_and c.from_residual.result c.from_residual.ensures.1 in rw (p.1, p.2) (sym (point_refused _ _ _ _ c.if-index-ge-POINTS.false _ (sym c.in_err-check_point.ensures)))
 
 pub returns-then-copies-index-gt0 : goal.returns-then-copies-index-gt0
-returns-then-copies-index-gt0 c = sym (leaf_refused _ _ _ _ c.if-index-ge-POINTS.false (sym c.check_point-refusal.ensures ∙ c.if-refusal-ne0.false) c.if-copies-index-gt0.true)
+returns-then-copies-index-gt0 c = sym (leaf_refused _ _ _ _ c.if-index-ge-POINTS.false (sym c.in_ok-check_point.ensures) c.if-copies-index-gt0.true)
 
 pub returns : goal.returns
-returns c = sym (none_refused _ _ _ _ c.if-index-ge-POINTS.false (sym c.check_point-refusal.ensures ∙ c.if-refusal-ne0.false) c.if-copies-index-gt0.false)
+returns c = sym (none_refused _ _ _ _ c.if-index-ge-POINTS.false (sym c.in_ok-check_point.ensures) c.if-copies-index-gt0.false)

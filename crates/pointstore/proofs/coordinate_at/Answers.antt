@@ -1,7 +1,6 @@
 -- `coordinate_at` meets its contract: each branch is what its test selects. Assumes nothing.
 use borrow.Author.Tests.{lt-ltb, le-ltb}
 use lib.Ieee.{of_bits}
-use borrow.Author.Rules.{rules}
 use Rattle.pointstore.proofs.coordinate_at.Goals as goal
 
 pub returns-then-i-coordinates : goal.returns-then-i-coordinates

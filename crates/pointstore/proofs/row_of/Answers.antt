@@ -1,11 +1,9 @@
 -- `row_of` meets its contract: after i turns the first i entries stand. Assumes nothing.
 use native.Mathlib.Omega.{arith}
 use mathlib.Core.Path.{refl}
-use Prim.Native.Nat.{◌-◌, zero-le}
+use Prim.Native.Nat.{zero-le}
 use Rattle.limits.specs.Limits.{width}
-use Rattle.pointstore.specs.Puts.{or_nought}
-use Rattle.pointstore.proofs.Rows.{Filled, fill_turn, padded_is}
-use borrow.Author.Rules.{rules}
+use Rattle.pointstore.proofs.Rows.{fill_turn, padded_is}
 use Rattle.pointstore.proofs.row_of.Goals as goal
 
 pub loop-i-init : goal.loop-i-init

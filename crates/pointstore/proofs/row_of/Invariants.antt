@@ -1,10 +1,7 @@
-use native.Mathlib.Omega.{arith}
-use mathlib.Core.Path.{refl}
-use Prim.Native.Nat.{◌-◌, zero-le}
+use Prim.Native.Nat.{◌-◌}
 use Rattle.limits.specs.Limits.{width}
 use Rattle.pointstore.specs.Puts.{or_nought}
-use Rattle.pointstore.proofs.Rows.{Filled, fill_turn, padded_is}
-use borrow.Author.Rules.{rules}
+use Rattle.pointstore.proofs.Rows.{Filled}
 use Rattle.pointstore.proofs.row_of.Given as goal
 
 abbrev pub invariant-loop-i : goal.invariant-loop-i

@@ -1,5 +1,4 @@
 -- `part_of` meets its contract: both numbers are values of f64, so that one division rounds once. Assumes nothing.
-use borrow.Author.Rules.{rules}
 use native.Mathlib.Omega.{arith}
 use lib.Ieee.{binary64}
 use Rattle.readings.proofs.Wholes.{of_int_value, div_whole}

@@ -1,5 +1,4 @@
 -- `probability_of_cut` meets its contract: each branch is what its tests select, and the sum that is cast is a number. Assumes nothing.
-use borrow.Author.Rules.{rules}
 use lib.Ieee.{of_bits}
 use Rattle.limits.specs.Limits.{width}
 use Rattle.probability.specs.Probability.{part_of, probability}

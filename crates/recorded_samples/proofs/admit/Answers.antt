@@ -1,6 +1,5 @@
 -- `admit` meets its contract: what is left by an eviction, if any, and then by the add. Assumes nothing.
 use Rattle.recorded_samples.proofs.Arrivals.{room_left_lem, admitted, admitted_kept}
-use borrow.Author.Rules.{rules}
 use Rattle.recorded_samples.proofs.admit.Goals as goal
 
 pub add_point-after-requires : goal.add_point-after-requires

@@ -1,8 +1,6 @@
-use Prim.Native.Nat.{◌-◌}
 use native.Mathlib.Omega.{arith}
 use Rattle.lines.proofs.Writes.{long}
-use Rattle.recorded_samples.proofs.Samples.{Sequenced, sequenced_start, sequenced_none, sequenced_large, sequenced_all, sequenced_next}
-use borrow.Author.Rules.{rules}
+use Rattle.recorded_samples.proofs.Samples.{sequenced_start, sequenced_none, sequenced_large, sequenced_all, sequenced_next}
 use Rattle.recorded_samples.proofs.answer_sample.Goals as goal
 
 pub returns-then-n-eq0 : goal.returns-then-n-eq0
@@ -16,9 +14,6 @@ loop-i-init c = sequenced_start _ c.if-n-eq0.false c.wide16.ensures.0 c.u16_at-c
 
 pub turn-state-requires : goal.turn-state-requires
 turn-state-requires c = (omega (arith, c.loop-i.invariant.few), c.loop-i.invariant.fits, rw c.loop-i.invariant.capacity_is c.loop-i.invariant.room)
-
-pub overflow_add-i-in-loop-i-2 : goal.overflow_add-i-in-loop-i-2
-overflow_add-i-in-loop-i-2 c = omega (arith, c.requires)
 
 pub loop-i-preserved : goal.loop-i-preserved
 loop-i-preserved c = sequenced_next c.loop-i.invariant c.loop-i-test.true (rw c.u64_at.ensures at c.double_of-share.ensures) c.u64_at-word.ensures (rw c.u32_at.ensures at c.float_of-weight.ensures) c.u16_at-index.ensures c.turn-state.ensures

@@ -1,7 +1,6 @@
 use mathlib.Core.Path.{refl}
 use lib.Ieee.{of_bits}
 use Rattle.recorded_samples.proofs.Arrivals.{roomy, arrives_some, arrives_none}
-use borrow.Author.Rules.{rules}
 use Rattle.recorded_samples.proofs.arrive.Goals as goal
 
 pub admit-requires : goal.admit-requires

@@ -1,5 +1,4 @@
 -- `chance_of` meets its contract: the chance at the fill. Assumes nothing.
-use borrow.Author.Rules.{rules}
 use Rattle.recorded_samples.proofs.chance_of.Goals as goal
 
 pub returns : goal.returns

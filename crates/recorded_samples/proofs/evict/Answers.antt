@@ -1,7 +1,6 @@
 -- `evict` meets its contract, by whether there is an entry. Assumes nothing.
 use lib.Ieee.{of_bits}
 use Rattle.recorded_samples.proofs.Arrivals.{evicts_none, evicts_some}
-use borrow.Author.Rules.{rules}
 use Rattle.recorded_samples.proofs.evict.Goals as goal
 
 pub returns-then-sampler-eq0 : goal.returns-then-sampler-eq0

@@ -1,5 +1,4 @@
 -- `is_initial` meets its contract, by its two tests. Assumes nothing.
-use borrow.Author.Rules.{rules}
 use Rattle.recorded_samples.proofs.is_initial.Goals as goal
 
 pub returns : goal.returns

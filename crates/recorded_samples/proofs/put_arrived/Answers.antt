@@ -1,13 +1,15 @@
--- `put_arrived` meets its contract: a pair, two words and a double, one after another. Assumes nothing.
+-- `put_arrived` meets its contract, by what is done. Assumes nothing.
 use mathlib.Core.Path.{refl}
-use native.Mathlib.Omega.{arith}
-use Rattle.lines.proofs.Writes.{then}
-use borrow.Author.Rules.{rules}
+use lib.Ieee.{of_bits}
 use Rattle.recorded_samples.proofs.put_arrived.Goals as goal
 
-pub returns : goal.returns
-returns c = record {
-  sampler_is = refl;
-  wrote = then (then (then c.put_pair-p.ensures.wrote (rw c.wide16.ensures.0 at c.put_word-q.ensures.wrote)) (rw (c.wide32.ensures.0, c.pattern_of.ensures) at c.put_word-s.ensures.wrote)) (rw (c.wide64.ensures, c.pattern_of_double.ensures) at c.put_double.ensures.wrote);
-  next = omega arith;
-}
+pub returns-in-Nothing : goal.returns-in-Nothing
+unfolding of_bits
+returns-in-Nothing c = record { sampler_is = refl; wrote = rw c.in-Nothing.is c.put_done.ensures.wrote; next = c.put_done.ensures.next }
+
+pub returns-in-Start : goal.returns-in-Start
+unfolding of_bits
+returns-in-Start c = record { sampler_is = refl; wrote = rw c.in-Start.is c.put_done-in-Start.ensures.wrote; next = c.put_done-in-Start.ensures.next }
+
+pub returns-in-Gone : goal.returns-in-Gone
+returns-in-Gone c = record { sampler_is = refl; wrote = rw c.in-Gone.is c.put_done-in-Gone.ensures.wrote; next = c.put_done-in-Gone.ensures.next }

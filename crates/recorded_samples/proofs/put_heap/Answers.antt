@@ -1,9 +1,7 @@
 -- `put_heap` meets its contract: after k turns the first k slots stand. Assumes nothing.
 use mathlib.Core.Path.{◌∙◌}
-use Prim.Native.Nat.{◌-◌}
 use Rattle.lines.proofs.Writes.{long}
-use Rattle.recorded_samples.proofs.Heaps.{Heaped, heaped_none, heaped_next, heaped_all}
-use borrow.Author.Rules.{rules}
+use Rattle.recorded_samples.proofs.Heaps.{heaped_none, heaped_next, heaped_all}
 use Rattle.recorded_samples.proofs.put_heap.Goals as goal
 
 pub loop-k-init : goal.loop-k-init

@@ -1,6 +1,5 @@
 -- `turn` meets its contract, by whether the heap is looked at, an entry evicted, or neither. Assumes nothing.
 use Rattle.recorded_samples.proofs.Samples.{turn_look, turn_evict, turn_arrival}
-use borrow.Author.Rules.{rules}
 use Rattle.recorded_samples.proofs.turn.Goals as goal
 
 pub returns-then-index-eq-LOOK : goal.returns-then-index-eq-LOOK

@@ -1,18 +1,14 @@
 -- `agreeing_bytes` meets its contract. Assumes nothing.
-use Rattle.records.proofs.Agreeing.{same_start, first_ends, second_ends, differs, same_step}
+use Rattle.std.proofs.Common.{ℕ, ◌∙◌, ◌==◌, rules, tests}
+use Rattle.std.proofs.lemmas.Iterator.{YieldsList-from_slice, YieldsList-from_zip}
+use Rattle.std.proofs.lemmas.Iterator.Consumers.{YieldsList-at, count_from_yields_List}
+use Rattle.std.proofs.lemmas.Iterator.Search.{YieldsList-from_take_while}
+use Rattle.records.proofs.Agreeing.{long_prefix}
 use Rattle.records.proofs.agreeing_bytes.Goals as goal
 
-pub loop-i-init : goal.loop-i-init
-loop-i-init c = same_start _ _
-
-pub returns-then-i-y : goal.returns-then-i-y
-returns-then-i-y c = second_ends _ _ _ c.loop-i.invariant c.loop-i-test.true c.if-i-y.true
-
-pub returns-then-x-i : goal.returns-then-x-i
-returns-then-x-i c = differs _ _ _ c.loop-i.invariant c.loop-i-test.true c.if-i-y.false c.if-x-i.true
-
-pub loop-i-preserved : goal.loop-i-preserved
-loop-i-preserved c = same_step _ _ _ c.loop-i.invariant c.loop-i-test.true c.if-i-y.false c.if-x-i.false
-
 pub returns : goal.returns
-returns c = first_ends _ _ _ c.loop-i.invariant c.loop-i-test.false
+returns c =
+    let x = c.args.x.now in
+    let y = c.args.y.now in
+    let pairs = YieldsList-at c.take_while.ensures.source (YieldsList-from_zip (YieldsList-at c.zip.ensures.first (YieldsList-from_slice x (cc))) (YieldsList-from_slice y (cc))) in
+    count_from_yields_List c.take_while.result _ c.count.ensures.ran (YieldsList-from_take_while _ (λ (p : ℕ × ℕ). p.0 == p.1) pairs c.take_while.ensures.closure c.take_while.ensures.done (λ x b q k. search (rules, tests))) ∙ long_prefix x y

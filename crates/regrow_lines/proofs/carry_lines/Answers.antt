@@ -1,17 +1,9 @@
 -- `regrow_lines::carry_lines` meets its contract: at each turn the lines carried out, with those that are left, are the text's. Assumes nothing.
-use mathlib.Core.Path.{◌≡◌, refl, ◌∙◌}
-use Prim.Native.Nat.{ℕ, ◌+◌, ◌-◌, ◌≤◌}
+use mathlib.Core.Path.{refl, ◌∙◌}
 use native.Mathlib.Omega.{arith}
 use borrow.Author.Tests.{not-true, not-false}
-use lib.Ieee.{Float}
-use lib.ListN.{length}
-use Rattle.wholetree.specs.Whole.{whole}
-use Rattle.sampledtree.specs.Sampled.{Sampled}
-use Rattle.treestore.specs.Arrays.{lent}
-use Rattle.samplerplustree.specs.State.{SampledState}
 use Rattle.lines.proofs.Writes.{long}
-use Rattle.regrow_lines.proofs.Turns.{Carrying, begin, some_state, full, unended, ends, turn}
-use borrow.Author.Rules.{rules}
+use Rattle.regrow_lines.proofs.Turns.{begin, some_state, full, unended, ends, turn}
 use Rattle.regrow_lines.proofs.carry_lines.Goals as goal
 
 pub loop-out-init : goal.loop-out-init

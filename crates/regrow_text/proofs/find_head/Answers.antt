@@ -2,11 +2,11 @@
 use Rattle.regrow_text.proofs.Heads.{no_first, no_second, no_third}
 use Rattle.regrow_text.proofs.find_head.Goals as goal
 
-pub returns-then-a-text : goal.returns-then-a-text
-returns-then-a-text c = no_first _ c.piece_end-a.ensures c.if-a-text.true
+pub returns-in_err-first : goal.returns-in_err-first
+returns-in_err-first c = rw c.from_residual.ensures (no_first _ c.in_err-first.ensures)
 
-pub returns-then-b-text : goal.returns-then-b-text
-returns-then-b-text c = no_second _ c.piece_end-a.ensures c.if-a-text.false c.piece_end-b.ensures c.if-b-text.true
+pub returns-in_err-second : goal.returns-in_err-second
+returns-in_err-second c = rw c.from_residual-in_err-second.ensures (no_second _ c.in_ok-first.ensures c.in_err-second.ensures)
 
-pub returns-then-c-text : goal.returns-then-c-text
-returns-then-c-text c = no_third _ c.piece_end-a.ensures c.if-a-text.false c.piece_end-b.ensures c.if-b-text.false c.piece_end-c.ensures c.if-c-text.true
+pub returns-in_err-third : goal.returns-in_err-third
+returns-in_err-third c = rw c.from_residual-in_err-third.ensures (no_third _ c.in_ok-first.ensures c.in_ok-second.ensures c.in_err-third.ensures)

@@ -1,30 +1,18 @@
 -- `rfc8439::count` meets its contract. Assumes nothing.
-use native.Mathlib.Omega.{arith}
-use Rattle.rfc8439.proofs.Lines.{count_start, count_step, count_end}
+use Rattle.std.proofs.Common.{rules, tests, ℕ}
+use Rattle.std.proofs.lemmas.Iterator.Consumers.{YieldsList-at, YieldsList-from_filter, count_from_yields_List}
+use Rattle.std.proofs.lemmas.Iterator.Splits.{YieldsList-from_slice_split}
+use lib.Dec.{eqb}
+use Rattle.rfc8439.specs.Vectors.{holds}
+use Rattle.rfc8439.proofs.Lines.{counts}
 use Rattle.rfc8439.proofs.count.Goals as goal
-use Rattle.rfc8439.proofs.count.Goals.{then-piece_holds, else-piece_holds}
-
-pub loop-at-init : goal.loop-at-init
-loop-at-init c = count_start
-
-pub overflow_add-held : goal.overflow_add-held
-overflow_add-held c = omega arith
-
-pub overflow_add-n : goal.overflow_add-n
-overflow_add-n c = omega arith
-
-pub overflow_add-at : goal.overflow_add-at
-overflow_add-at c = omega arith
-
-pub loop-at-smaller : goal.loop-at-smaller
-loop-at-smaller c = omega arith
-
-pub loop-at-preserved : goal.loop-at-preserved
-loop-at-preserved c = let step = count_step c.loop-at.invariant c.loop-at-test.true c.piece_end-end.ensures c.piece_holds.ensures in
-    elim c.if-piece_holds.branch [
-      | then-piece_holds w ↦ step (rw w.if-piece_holds.true w.held-is)
-      | else-piece_holds w ↦ step (rw w.if-piece_holds.false (omega arith))
-    ]
 
 pub returns : goal.returns
-returns c = count_end c.loop-at.invariant c.loop-at-test.false
+returns c =
+    let s = c.split.ensures in
+    let t = c.split-2.ensures in
+    let text = c.args.text.now in
+    counts text
+    (count_from_yields_List c.split.result _ c.count-pieces.ensures.ran (YieldsList-from_slice_split _ (λ (x : ℕ). eqb x 10) text s.rest s.done s.closure (λ x b q k. search (rules, tests))))
+    (count_from_yields_List c.filter.result _ c.count-held.ensures.ran
+    (YieldsList-from_filter _ holds (YieldsList-at c.filter.ensures.source (YieldsList-from_slice_split _ (λ (x : ℕ). eqb x 10) text t.rest t.done t.closure (λ x b q k. search (rules, tests)))) c.filter.ensures.closure (λ x b q k. search (rules, tests))))

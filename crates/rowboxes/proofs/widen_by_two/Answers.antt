@@ -1,44 +1,10 @@
--- `widen_by_two` meets its contract: block by block the ends are moved out as far as the tree's channels, beyond which all rows are +0.0. Assumes nothing.
+-- `widen_by_two` meets its contract. Assumes nothing.
 use borrow.Author.Rules.{rules}
-use native.Mathlib.Omega.{arith}
-use mathlib.Core.Path.{ap}
-use mathlib.Core.List.{[]}
-use Prim.Native.Nat.{ℕ, ◌-◌}
-use lib.ListN.{get_or}
-use lib.Ieee.{Float}
-use Rattle.limits.specs.Limits.{width}
-use Rattle.boundingbox.specs.Ends.{channel, least, greatest}
-use Rattle.rowboxes.proofs.Rows.{FilledEnds, ends_none, ends_turn, second_long, pair_of, Stepped, first_step, next_step, room, fill_joined_two, nought_least, nought_greatest}
+use Rattle.boundingbox.specs.Ends.{least, greatest}
+use Rattle.rowboxes.proofs.Rows.{set_joined, joined_padded, joined_in, nought_least, nought_greatest}
 use Rattle.rowboxes.proofs.widen_by_two.Goals as goal
 
-pub loop-at-init : goal.loop-at-init
-loop-at-init c = (first_step, ends_none _ _ _ _ c.requires.padded.0)
-
-pub lower_two-low-requires : goal.lower_two-low-requires
-lower_two-low-requires c = room _ _ c.loop-at.invariant.0 c.loop-at-test.true c.requires.few
-
-pub upper_two-high-requires : goal.upper_two-high-requires
-upper_two-high-requires c = room _ _ c.loop-at.invariant.0 c.loop-at-test.true c.requires.few
-
-pub put_at-requires : goal.put_at-requires
-put_at-requires c = (room _ _ c.loop-at.invariant.0 c.loop-at-test.true c.requires.few, c.loop-at.invariant.1.low.long)
-
-pub put_at-requires-in-loop-at : goal.put_at-requires-in-loop-at
-put_at-requires-in-loop-at c = let at = c.loop-at in (room _ _ c.loop-at.invariant.0 c.loop-at-test.true c.requires.few, second_long at.ends at.invariant.1.two at.invariant.1.high.long _)
-
-pub overflow_add-at : goal.overflow_add-at
-overflow_add-at c = let r = room _ _ c.loop-at.invariant.0 c.loop-at-test.true c.requires.few in omega arith
-
-pub loop-at-smaller : goal.loop-at-smaller
-loop-at-smaller c = let r = room _ _ c.loop-at.invariant.0 c.loop-at-test.true c.requires.few in omega arith
-
-pub loop-at-preserved : goal.loop-at-preserved
-loop-at-preserved c = let at = c.loop-at in
-    let A = c.args in
-    let F = at.invariant.1 in
-    (next_step _ at.invariant.0, ends_turn _ _ _ _ at.at _ at.ends _ _ _ _ F c.lower_two-low.ensures (λ i l. ap (λ (x : Float). least x (least (channel A.a.now i) (channel A.b.now i))) (F.low.left i l)) c.upper_two-high.ensures (λ i l. ap (λ (x : Float). greatest x (greatest (channel A.c.now i) (channel A.d.now i))) (F.high.left i l)) c.put_at.ensures c.put_at-in-loop-at.ensures)
-
 pub returns : goal.returns
-returns c = let F = c.loop-at.invariant.1 in
-    let P = c.requires.padded in
-    pair_of _ _ _ F.two (fill_joined_two least nought_least _ _ _ _ _ _ c.loop-at-test.false P.0.low P.1 P.2 F.low) (fill_joined_two greatest nought_greatest _ _ _ _ _ _ c.loop-at-test.false P.0.high P.3 P.4 F.high)
+returns c = let P = c.requires.padded in
+    set_joined _ _ _ _ _ P.0 c.set_ends.ensures _ _ _ _ P.0.low (joined_padded least nought_least _ _ _ P.1 P.2) P.0.high (joined_padded greatest nought_greatest _ _ _ P.1 P.2)
+    (λ v i w l e r. rw (joined_in least nought_least _ _ _ i P.1 l) (search rules)) (λ v i w l e r. rw (joined_in greatest nought_greatest _ _ _ i P.1 l) (search rules))

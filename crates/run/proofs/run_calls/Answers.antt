@@ -1,12 +1,7 @@
 -- `run::run_calls` meets its contract: at each turn what is left of the run leads to the same end. Assumes nothing.
-use borrow.Author.Rules.{rules}
 use mathlib.Core.Path.{◌≡◌, refl, sym, ap, ◌∙◌, subst}
-use mathlib.Core.List.{List}
-use Prim.Native.Nat.{ℕ, ◌+◌, ◌-◌, ◌≤◌, ◌<◌}
+use Prim.Native.Nat.{ℕ, ◌+◌, ◌<◌}
 use native.Mathlib.Omega.{arith}
-use lib.ListN.{length}
-use Rattle.treestore.specs.Arrays.{lent}
-use Rattle.runlayout.specs.Layout.{size, number, making_width}
 use Rattle.runlayout.proofs.Rest.{making_fits, making_five, making_whole, within}
 use Rattle.runsteps.specs.Standing.{kept}
 use Rattle.runsteps.specs.Steps.{room}
@@ -25,7 +20,7 @@ number_or_none-kind-requires c = making_whole c.args.run.now c.requires.making
 
 pub loop-p-init : goal.loop-p-init
 loop-p-init c = let e = c.making_width-p.ensures.0 in
-    (omega (arith, e, making_fits c.args.run.now c.requires.making), refl, c.number_or_none-kind.ensures.0, λ final count R. subst (λ (q : ℕ). Running c.args.run.now q 1 c.args.tree (kept (lent c.args.nodes.now c.args.cuts.now c.args.copies.now c.args.free.now c.args.boxes.now) c.args.points.now c.args.written.now c.args.weights.now c.args.held.now) c.args.answers.now final count) (sym e) R)
+    (omega (arith, e, making_fits c.args.run.now c.requires.making), refl, c.number_or_none-kind.ensures.0, λ final count R. subst (λ (q : ℕ). Running c.args.run.now q 1 c.args.tree (kept c.args.store.now c.args.table.now.points c.args.table.now.written c.args.sample.now.weights c.args.sample.now.held) c.args.answers.now final count) (sym e) R)
 
 pub answer_width-width-requires : goal.answer_width-width-requires
 answer_width-width-requires c = (c.requires.making, below _ _ _ c.loop-p-test.true c.size_of-n.ensures)
@@ -45,14 +40,14 @@ step-current-requires c = let l = c.loop-p in
     let R = l.invariant.3 _ _ c.requires.ready.running in
     let h = below _ _ _ c.loop-p-test.true c.size_of-n.ensures in
     let w = c.answer_width-width in
-    record { stands = (stands c.args.run.now _ _ _ (kept (lent l.nodes l.cuts l.copies l.free l.boxes) l.points l.written l.weights l.held) _ _ _ R h, l.invariant.2); state = some_standing c.args.run.now _ _ _ (kept (lent l.nodes l.cuts l.copies l.free l.boxes) l.points l.written l.weights l.held) _ _ _ R h; room = (w.ensures.0, fits c.args.run.now _ _ _ (kept (lent l.nodes l.cuts l.copies l.free l.boxes) l.points l.written l.weights l.held) _ _ _ R h _ w.ensures.0) }
+    record { stands = (stands c.args.run.now _ _ _ (kept l.store l.table.points l.table.written l.sample.weights l.sample.held) _ _ _ R h, l.invariant.2); state = some_standing c.args.run.now _ _ _ (kept l.store l.table.points l.table.written l.sample.weights l.sample.held) _ _ _ R h; room = (w.ensures.0, fits c.args.run.now _ _ _ (kept l.store l.table.points l.table.written l.sample.weights l.sample.held) _ _ _ R h _ w.ensures.0) }
 
 pub overflow_add-out : goal.overflow_add-out
 overflow_add-out c = let l = c.loop-p in
     let R = l.invariant.3 _ _ c.requires.ready.running in
     let h = below _ _ _ c.loop-p-test.true c.size_of-n.ensures in
     let w = c.answer_width-width in
-    omega (arith, fits c.args.run.now _ _ _ (kept (lent l.nodes l.cuts l.copies l.free l.boxes) l.points l.written l.weights l.held) _ _ _ R h _ w.ensures.0, l.invariant.1, c.well_formed)
+    omega (arith, fits c.args.run.now _ _ _ (kept l.store l.table.points l.table.written l.sample.weights l.sample.held) _ _ _ R h _ w.ensures.0, l.invariant.1, c.well_formed)
 
 pub loop-p-smaller : goal.loop-p-smaller
 loop-p-smaller c = let h = below _ _ _ c.loop-p-test.true c.size_of-n.ensures in
@@ -65,10 +60,10 @@ loop-p-preserved c = let l = c.loop-p in
     let w = c.answer_width-width in
     let d = c.step-current.ensures.told in
     let g = c.width_at.ensures.0 in (
-      omega (arith, g, within c.args.run.now l.p (stands c.args.run.now _ _ _ (kept (lent l.nodes l.cuts l.copies l.free l.boxes) l.points l.written l.weights l.held) _ _ _ R h)),
-      answers_length c.args.run.now _ _ _ (kept (lent l.nodes l.cuts l.copies l.free l.boxes) l.points l.written l.weights l.held) _ _ _ R h _ w.ensures.0 (room l.words l.reply l.rows l.answers) _ _ _ d refl ∙ l.invariant.1,
+      omega (arith, g, within c.args.run.now l.p (stands c.args.run.now _ _ _ (kept l.store l.table.points l.table.written l.sample.weights l.sample.held) _ _ _ R h)),
+      answers_length c.args.run.now _ _ _ (kept l.store l.table.points l.table.written l.sample.weights l.sample.held) _ _ _ R h _ w.ensures.0 (room l.words l.reply l.rows l.answers) _ _ _ d refl ∙ l.invariant.1,
       c.number_or_none-ahead.ensures.0,
-      λ final count R. turn c.args.run.now _ _ _ (kept (lent l.nodes l.cuts l.copies l.free l.boxes) l.points l.written l.weights l.held) _ _ _ (l.invariant.3 final count R) h _ w.ensures.0 (room l.words l.reply l.rows l.answers) _ _ _ d refl _ (ap (λ (k : ℕ). l.p + k) g),
+      λ final count R. turn c.args.run.now _ _ _ (kept l.store l.table.points l.table.written l.sample.weights l.sample.held) _ _ _ (l.invariant.3 final count R) h _ w.ensures.0 (room l.words l.reply l.rows l.answers) _ _ _ d refl _ (ap (λ (k : ℕ). l.p + k) g),
     )
 
 pub shape_of-answers : goal.shape_of-answers
@@ -76,4 +71,4 @@ shape_of-answers c = c.loop-p.invariant.1
 
 pub returns : goal.returns
 returns c = let l = c.loop-p in
-    λ final count R. last c.args.run.now _ _ _ (kept (lent l.nodes l.cuts l.copies l.free l.boxes) l.points l.written l.weights l.held) _ _ _ (l.invariant.3 final count R) (omega (arith, l.invariant.0, c.loop-p-test.false, c.size_of-n.ensures))
+    λ final count R. last c.args.run.now _ _ _ (kept l.store l.table.points l.table.written l.sample.weights l.sample.held) _ _ _ (l.invariant.3 final count R) (omega (arith, l.invariant.0, c.loop-p-test.false, c.size_of-n.ensures))

@@ -1,6 +1,5 @@
 -- `runcalls::delete_call` meets its contract. Assumes nothing.
 use Rattle.runcalls.proofs.Given.{delete_given}
-use borrow.Author.Rules.{rules}
 use Rattle.runcalls.proofs.delete_call.Goals as goal
 
 pub returns : goal.returns

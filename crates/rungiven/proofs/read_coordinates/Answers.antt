@@ -1,18 +1,15 @@
--- `rungiven::read_coordinates` meets its contract: after i turns the first i coordinates stand. Assumes nothing.
-use native.Mathlib.Omega.{arith}
+-- `rungiven::read_coordinates` meets its contract: after i turns the first i stand. Assumes nothing.
 use mathlib.Core.Path.{ap, ◌∙◌}
-use Prim.Native.Nat.{ℕ, ◌+◌, ◌-◌}
+use native.Mathlib.Omega.{arith}
 use lib.Ieee.{binary32, of_bits}
-use Rattle.runlayout.specs.Layout.{number}
-use Rattle.rungiven.proofs.Firsts.{Firsts, firsts_none, firsts_turn, firsts_all}
-use borrow.Author.Rules.{rules}
+use Rattle.rungiven.proofs.Firsts.{firsts_none, firsts_turn, firsts_all}
 use Rattle.rungiven.proofs.read_coordinates.Goals as goal
 
 pub loop-i-init : goal.loop-i-init
-loop-i-init c = firsts_none _ _ _
+loop-i-init c = firsts_none _ _
 
 pub loop-i-preserved : goal.loop-i-preserved
-loop-i-preserved c = firsts_turn _ _ _ _ _ _ c.loop-i.invariant (omega arith) (c.float_of.ensures ∙ ap (of_bits binary32) c.bits_at.ensures)
+loop-i-preserved c = firsts_turn _ _ _ _ _ c.loop-i.invariant (c.float_of.ensures ∙ ap (of_bits binary32) c.bits_at.ensures)
 
 pub returns : goal.returns
-returns c = firsts_all _ _ _ _ _ c.loop-i.invariant (omega arith)
+returns c = firsts_all _ _ _ _ c.loop-i.invariant (omega arith)

@@ -1,7 +1,6 @@
 -- `runlayout::answer_width` meets its contract. Assumes nothing.
 use native.Mathlib.Omega.{arith}
 use Rattle.runlayout.proofs.Rest.{making_whole, making_five}
-use borrow.Author.Rules.{rules}
 use Rattle.runlayout.proofs.answer_width.Goals as goal
 
 pub number_or_none-second-requires : goal.number_or_none-second-requires

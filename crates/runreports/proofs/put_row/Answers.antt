@@ -1,6 +1,5 @@
 -- `runreports::put_row` meets its contract. Assumes nothing.
 use Rattle.runreports.proofs.Rows.{five_put}
-use borrow.Author.Rules.{rules}
 use Rattle.runreports.proofs.put_row.Goals as goal
 
 pub returns : goal.returns

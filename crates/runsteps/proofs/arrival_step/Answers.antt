@@ -1,10 +1,8 @@
 -- `runsteps::arrival_step` meets its contract. Assumes nothing.
 use mathlib.Core.List.{[]}
-use Rattle.treestore.specs.Arrays.{lent}
 use Rattle.runsteps.specs.Standing.{kept}
 use Rattle.runsteps.specs.Steps.{room}
 use Rattle.runsteps.proofs.Arrival.{sampled, few, stepped}
-use borrow.Author.Rules.{rules}
 use Rattle.runsteps.proofs.arrival_step.Goals as goal
 
 pub arrival_at-next-requires : goal.arrival_at-next-requires
@@ -15,8 +13,8 @@ pub write_reply-requires : goal.write_reply-requires
 write_reply-requires c = let q = c.requires.state in
     let r = room c.args.words.now c.args.reply.now [] c.args.answers.now in
     let d = c.arrival_at-next.ensures in
-    (few c.args.run.now c.args.p c.requires.arrival.0 c.requires.arrival.1 c.args.out c.args.current (kept (lent c.args.nodes.now c.args.cuts.now c.args.copies.now c.args.free.now c.args.boxes.now) c.args.points.now c.args.written.now c.args.weights.now c.args.held.now) r _ _ _ _ _ _ [] d.done d.words q.world q.standing, c.requires.room)
+    (few c.args.run.now c.args.p c.requires.arrival.0 c.requires.arrival.1 c.args.out c.args.current (kept c.args.store.now c.args.table.now.points c.args.table.now.written c.args.sample.now.weights c.args.sample.now.held) r _ _ _ _ _ _ [] d.done d.words q.world q.standing, c.requires.room)
 
 pub returns : goal.returns
 returns c = let d = c.arrival_at-next.ensures in
-    record { done = λ rows X S. stepped c.args.run.now c.args.p c.requires.arrival.0 c.requires.arrival.1 c.args.out c.args.current (kept (lent c.args.nodes.now c.args.cuts.now c.args.copies.now c.args.free.now c.args.boxes.now) c.args.points.now c.args.written.now c.args.weights.now c.args.held.now) (room c.args.words.now c.args.reply.now rows c.args.answers.now) _ _ _ _ _ _ _ d.done d.words X S c.write_reply.ensures; path = d.path }
+    record { done = λ rows X S. stepped c.args.run.now c.args.p c.requires.arrival.0 c.requires.arrival.1 c.args.out c.args.current (kept c.args.store.now c.args.table.now.points c.args.table.now.written c.args.sample.now.weights c.args.sample.now.held) (room c.args.words.now c.args.reply.now rows c.args.answers.now) _ _ _ _ _ _ _ d.done d.words X S c.write_reply.ensures; path = d.path }

@@ -1,10 +1,8 @@
 -- `runsteps::plain_step` meets its contract. Assumes nothing.
 use mathlib.Core.List.{[]}
-use Rattle.treestore.specs.Arrays.{lent}
 use Rattle.runsteps.specs.Standing.{kept}
 use Rattle.runsteps.specs.Steps.{room}
 use Rattle.runsteps.proofs.Plain.{few, stepped}
-use borrow.Author.Rules.{rules}
 use Rattle.runsteps.proofs.plain_step.Goals as goal
 
 pub call_at-tree-requires : goal.call_at-tree-requires
@@ -13,7 +11,7 @@ call_at-tree-requires c = let q = c.requires.state.some in
 
 pub write_reply-requires : goal.write_reply-requires
 write_reply-requires c = let q = c.requires.state in
-    let k = kept (lent c.args.nodes.now c.args.cuts.now c.args.copies.now c.args.free.now c.args.boxes.now) c.args.points.now c.args.written.now q.weights q.held in
+    let k = kept c.args.store.now c.args.table.now.points c.args.table.now.written q.weights q.held in
     let r = room c.args.words.now c.args.reply.now [] c.args.answers.now in
     let d = c.call_at-tree.ensures in
     (few c.args.run.now c.args.p c.requires.plain.0 c.requires.plain.1 c.args.out _ c.args.current k r _ _ _ _ _ _ [] c.requires.room.0 d.done d.words q.some.world q.some.standing, c.requires.room.1)
@@ -21,6 +19,6 @@ write_reply-requires c = let q = c.requires.state in
 pub returns : goal.returns
 returns c = let d = c.call_at-tree.ensures in
     λ weights held rows X S.
-    let k = kept (lent c.args.nodes.now c.args.cuts.now c.args.copies.now c.args.free.now c.args.boxes.now) c.args.points.now c.args.written.now weights held in
+    let k = kept c.args.store.now c.args.table.now.points c.args.table.now.written weights held in
     let r = room c.args.words.now c.args.reply.now rows c.args.answers.now in
     stepped c.args.run.now c.args.p c.requires.plain.0 c.requires.plain.1 c.args.out _ c.args.current k r _ _ _ _ _ _ _ c.requires.room.0 d.done d.words X S c.write_reply.ensures

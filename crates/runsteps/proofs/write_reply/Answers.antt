@@ -1,8 +1,7 @@
 -- `runsteps::write_reply` meets its contract. Assumes nothing.
-use borrow.Author.Rules.{rules}
 use mathlib.Core.Path.{◌≡◌, refl, sym, ap, ◌∙◌}
 use mathlib.Core.List.{List, [], ◌∷◌, ◌++◌}
-use Prim.Native.Nat.{ℕ, zero, suc, ◌+◌, ◌-◌, ◌*◌, ◌≤◌, ◌<◌}
+use Prim.Native.Nat.{ℕ, zero, suc, ◌+◌, ◌*◌, ◌≤◌, ◌<◌}
 use native.Mathlib.Omega.{arith}
 use lib.ListN.{length, get_or, take}
 use lib.Seq.{sets, length-sets}
@@ -36,18 +35,13 @@ step out i reply e₀ e e' h f g =
 
 pub put_u32-requires : goal.put_u32-requires
 put_u32-requires c = let l = c.loop-i in
-    omega (arith, c.requires.1, c.loop-i-test.true, same c.args.out l.i c.args.reply.now c.args.answers.now l.answers l.invariant.1)
+    omega (arith, c.requires.1, c.loop-i-test.true, same c.args.out l.i c.args.reply.now c.args.answers.now l.answers l.invariant)
 
 pub loop-i-preserved : goal.loop-i-preserved
 loop-i-preserved c = let l = c.loop-i in
-    let r = c.args.reply.now in
-    (omega (arith, c.loop-i-test.true), step c.args.out l.i r c.args.answers.now l.answers _ (omega (arith, c.requires.0, c.loop-i-test.true)) l.invariant.1 c.put_u32.ensures)
-
-pub shape_of-answers : goal.shape_of-answers
-shape_of-answers c = let l = c.loop-i in
-    same c.args.out l.i c.args.reply.now c.args.answers.now l.answers l.invariant.1
+    step c.args.out l.i c.args.reply.now c.args.answers.now l.answers _ (omega (arith, c.requires.0, c.loop-i-test.true)) l.invariant c.put_u32.ensures
 
 pub returns : goal.returns
 returns c = let l = c.loop-i in
-    let e : l.i ≡ c.args.n = omega (arith, c.loop-i-test.false, l.invariant.0) in
-    l.invariant.1 ∙ ap (λ (i : ℕ). sets c.args.answers.now (4 * c.args.out) (bytes_of (take i c.args.reply.now))) e
+    let e : l.i ≡ c.args.n = omega arith in
+    l.invariant ∙ ap (λ (i : ℕ). sets c.args.answers.now (4 * c.args.out) (bytes_of (take i c.args.reply.now))) e

@@ -1,7 +1,10 @@
--- `sampler::swap_weights` meets its contract: what its stores leave is what `swapped` says. Assumes nothing.
-use mathlib.Core.Path.{refl}
-use borrow.Author.Rules.{rules}
+-- `sampler::swap_weights` meets its contract: what the library's swap leaves is what `swapped` says. Assumes nothing.
+use Rattle.std.proofs.Common.{sym, ◌∙◌, arith}
+use Rattle.std.proofs.lemmas.List.Edits.{swap_is}
 use Rattle.sampler.proofs.swap_weights.Goals as goal
 
 pub returns : goal.returns
-returns c = record { weights_after = refl; points_after = refl }
+returns c = record {
+  weights_after = c.swap-2.ensures.after ∙ sym (swap_is _ _ _ _ (omega arith) (omega arith));
+  points_after = c.swap.ensures.after ∙ sym (swap_is _ _ _ _ (omega arith) (omega arith));
+}

@@ -1,8 +1,6 @@
 -- `refusal_of` meets its contract. Assumes nothing.
 use mathlib.Core.Path.{sym, ◌∙◌}
-use borrow.Author.Tests.{not-true, not-false}
 use Rattle.samplerplustree.proofs.Makings.{tells_1, tells_2, tells_3, tells_4}
-use borrow.Author.Rules.{rules}
 use Rattle.samplerplustree.proofs.refusal_of.Goals as goal
 
 pub returns-then-not-within : goal.returns-then-not-within

@@ -1,6 +1,5 @@
 -- `text::after_field` meets its contract. Assumes nothing.
 use Rattle.text.proofs.Pieces.{after_none, after_one}
-use borrow.Author.Rules.{rules}
 use Rattle.text.proofs.after_field.Goals as goal
 
 pub returns-then-row-start : goal.returns-then-row-start

@@ -1,9 +1,5 @@
 use native.Mathlib.Omega.{arith}
 use Rattle.text.proofs.Pieces.{ends}
-use borrow.Author.Rules.{rules}
-use Rattle.text.proofs.piece_end.Reads as reads
-use Rattle.text.proofs.piece_end.Lts as lts
-use Rattle.text.proofs.bytes_before.Reads as bytes-before-reads
 use Rattle.text.proofs.piece_end.Goals as goal
 
 pub overflow_add-result : goal.overflow_add-result

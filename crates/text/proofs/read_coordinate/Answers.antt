@@ -1,19 +1,19 @@
-use mathlib.Core.Path.{sym, ap, ◌∙◌}
-use Rattle.text.specs.Coordinates.{after_minus, without_minus}
-use Rattle.text.proofs.Coordinates.{coordinate_none, coordinate_minus, coordinate_plain}
-use borrow.Author.Rules.{rules}
-use Rattle.text.proofs.read_coordinate.Reads as reads
-use Rattle.text.proofs.read_coordinate.Lts as lts
-use Rattle.text.proofs.without_minus.Reads as without-minus-reads
-use Rattle.text.proofs.after_minus.Reads as after-minus-reads
-use Rattle.text.proofs.read_number.Reads as read-number-reads
+-- `text::read_coordinate` meets its contract. Assumes nothing.
+use Rattle.std.proofs.Common.{◌≡◌, arith, rules, sym, ap, ◌∙◌}
+use borrow.Author.Tests.{ltb-true}
+use Rattle.std.specs.Prelude.{option_map}
+use Rattle.text.specs.Coordinates.{capped, after_minus}
+use Rattle.text.proofs.Coordinates.{coordinate_minus, coordinate_plain, coordinate_empty}
 use Rattle.text.proofs.read_coordinate.Goals as goal
+use Rattle.text.proofs.read_coordinate.Goals.{in_default-via-then-field-lt1, in_default-via-else-field-lt1+in_default-1}
 
-pub returns-then-field-eq0 : goal.returns-then-field-eq0
-returns-then-field-eq0 c = coordinate_none _ c.if-field-eq0.true
+pub returns-in-45 : goal.returns-in-45
+returns-in-45 c = c.after_minus.ensures ∙ ap after_minus c.read_number.ensures ∙ sym (coordinate_minus _ (search rules))
 
-pub returns-then-field-eq45 : goal.returns-then-field-eq45
-returns-then-field-eq45 c = c.after_minus.ensures ∙ ap after_minus c.read_number.ensures ∙ sym (coordinate_minus _ c.if-field-eq45.true)
-
-pub returns : goal.returns
-returns c = c.without_minus.ensures ∙ ap without_minus c.read_number-2.ensures ∙ sym (coordinate_plain _ c.if-field-eq45.false)
+pub returns-in_default : goal.returns-in_default
+returns-in_default c =
+    let m : c.map.result ≡ option_map capped c.read_number-in_default.result = search rules in
+    m ∙ ap (option_map capped) c.read_number-in_default.ensures ∙ sym (elim c.in_default.branch [
+      | in_default-via-then-field-lt1 w ↦ coordinate_empty _ (omega (arith, ltb-true))
+      | in_default-via-else-field-lt1+in_default-1 w ↦ coordinate_plain _ (λ e. omega arith)
+    ])

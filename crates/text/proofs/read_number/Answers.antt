@@ -1,32 +1,21 @@
-use Rattle.text.proofs.Numbers.{ten_fits}
-use mathlib.Core.Path.{sym, ◌∙◌}
-use native.Mathlib.Omega.{arith}
-use Prim.Native.Nat.{◌≤◌}
-use lib.ListN.{length}
-use Rattle.text.proofs.Numbers.{number_none, number_long, number_one, number_zero, number_more}
-use borrow.Author.Rules.{rules}
-use Rattle.text.proofs.read_number.Reads as reads
-use Rattle.text.proofs.read_number.Lts as lts
-use Rattle.text.proofs.read_digits.Reads as read-digits-reads
+-- `text::read_number` meets its contract. Assumes nothing.
+use Rattle.std.proofs.Common.{arith, rules, sym, ◌∙◌}
+use Rattle.std.proofs.lemmas.Grind.{common_steps}
+use Rattle.text.proofs.Numbers.{number_none, number_long, number_zero, number_more}
 use Rattle.text.proofs.read_number.Goals as goal
+use Rattle.text.proofs.read_number.Goals.{then-is_empty-via-then-is_empty, then-is_empty-via-else-is_empty+then-field-gt9, else-field-eq48-via-then-field-eq48+else-field-ne1, else-field-eq48-via-else-field-eq48}
 
-pub returns-then-n-eq0 : goal.returns-then-n-eq0
-returns-then-n-eq0 c = number_none _ c.if-n-eq0.true
+pub returns-then-is_empty : goal.returns-then-is_empty
+returns-then-is_empty c = elim c.then-is_empty.branch [
+  | then-is_empty-via-then-is_empty w ↦ number_none _ (search rules)
+  | then-is_empty-via-else-is_empty+then-field-gt9 w ↦ number_long _ (omega arith)
+]
 
-pub returns-then-n-gt9 : goal.returns-then-n-gt9
-returns-then-n-gt9 c = number_long _ c.if-n-gt9.true
-
-pub read_digits-requires : goal.read_digits-requires
-read_digits-requires c = record { base_nonzero = search rules; field_bound = (let g : length c.args.field.now ≤ 9 = omega arith in ten_fits _ g) }
-
-pub returns-then-n-eq1 : goal.returns-then-n-eq1
-returns-then-n-eq1 c = c.read_digits.ensures ∙ sym (number_one _ c.if-n-eq1.true)
-
-pub returns-then-field-eq48 : goal.returns-then-field-eq48
-returns-then-field-eq48 c = number_zero _ (omega arith) (omega arith) c.if-field-eq48.true
-
-pub read_digits-requires-2 : goal.read_digits-requires-2
-read_digits-requires-2 c = record { base_nonzero = search rules; field_bound = (let g : length c.args.field.now ≤ 9 = omega arith in ten_fits _ g) }
+pub returns-then-field-ne1 : goal.returns-then-field-ne1
+returns-then-field-ne1 c = number_zero _ (grind (arith, common_steps)) (omega arith) c.if-field-eq48.true
 
 pub returns : goal.returns
-returns c = c.read_digits-2.ensures ∙ sym (number_more _ (omega arith) (omega arith) c.if-field-eq48.false)
+returns c = c.read_digits.ensures ∙ sym (elim c.else-field-eq48.branch [
+  | else-field-eq48-via-then-field-eq48+else-field-ne1 w ↦ number_more _ (grind (arith, common_steps)) (omega arith) (λ _. omega arith)
+  | else-field-eq48-via-else-field-eq48 w ↦ number_more _ (grind (arith, common_steps)) (omega arith) (λ e. absurd (w.if-field-eq48.false e))
+])

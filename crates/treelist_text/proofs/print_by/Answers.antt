@@ -1,5 +1,4 @@
 -- `treelist_text::print_by` meets its contract. Assumes nothing.
-use borrow.Author.Rules.{rules}
 use Rattle.treelist_text.proofs.Makes.{not_made, begun, is_made}
 use Rattle.treelist_text.proofs.print_by.Goals as goal
 
@@ -12,14 +11,14 @@ run_rows-requires c = record {
     share = _;
     world = _;
     ops = _;
-    standing = begun c.new-made.ensures _ c.in-Tree.is c.args.text.now _ _ _ c.no_points-points.ensures c.no_marks-written.ensures _ c.requires.rows.rest;
+    standing = begun c.new.ensures _ c.in-Ok.is c.args.text.now _ _ _ c.new-table.ensures.points c.new-table.ensures.written _ c.requires.rows.rest;
   };
 }
 
-pub returns-in-NotMade : goal.returns-in-NotMade
-returns-in-NotMade c = λ os e. not_made c.new-made.ensures _ _ c.in-NotMade.is c.wide8.ensures.0 os c.put_refused.ensures.wrote
+pub returns-in-Err : goal.returns-in-Err
+returns-in-Err c = λ os e. not_made c.new.ensures _ _ c.in-Err.is c.number.ensures os c.put_refused.ensures.wrote
 
-pub returns-in-Tree : goal.returns-in-Tree
-returns-in-Tree c = let m = c.new-made.ensures in
-    let h = c.in-Tree.is in
-    λ os e. is_made m _ h os (c.run_rows.ensures _ _ _ _ os (begun m _ h c.args.text.now _ _ _ c.no_points-points.ensures c.no_marks-written.ensures os e))
+pub returns-in-Ok : goal.returns-in-Ok
+returns-in-Ok c = let m = c.new.ensures in
+    let h = c.in-Ok.is in
+    λ os e. is_made m _ h os (c.run_rows.ensures _ _ _ _ os (begun m _ h c.args.text.now _ _ _ c.new-table.ensures.points c.new-table.ensures.written os e))

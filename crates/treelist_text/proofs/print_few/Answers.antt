@@ -1,5 +1,4 @@
 -- `treelist_text::print_few` meets its contract: up to 8 channels the making is the tree's own, above it is refused. Assumes nothing.
-use borrow.Author.Rules.{rules}
 use native.Mathlib.Omega.{arith}
 use Prim.Native.Nat.{◌≤◌, ◌<◌}
 use Rattle.treelist_text.proofs.Makes.{listed_made, listed_not}
@@ -13,4 +12,4 @@ returns-then-channels-le-LISTED c = let a = c.args in
 pub returns : goal.returns
 returns c = let a = c.args in
     let h : 8 < a.channels = omega arith in
-    λ os e. listed_not a.channels a.capacity a.share os h c.put_refused.ensures.wrote
+    λ os e. listed_not a.channels a.capacity a.share os h (rw c.number.ensures at c.put_refused.ensures.wrote)

@@ -1,5 +1,4 @@
 -- `treelist_text::print_made` meets its contract. Assumes nothing.
-use borrow.Author.Rules.{rules}
 use native.Mathlib.Omega.{arith}
 use Rattle.treelist_text.proofs.Reading.{no_making, few, by_making, short, after_first, after_second, after_third, making_is, rows_are}
 use Rattle.treelist_text.proofs.print_made.Goals as goal
@@ -37,7 +36,7 @@ pub slice_bounds-read_making-end : goal.slice_bounds-read_making-end
 slice_bounds-read_making-end c = c.piece_end-b.ensures.most
 
 pub share_of-requires : goal.share_of-requires
-share_of-requires c = few _ _ c.read_making.ensures _ _ _ c.in-Make.is
+share_of-requires c = few _ _ c.read_making.ensures _ c.in-Some.is
 
 pub overflow_add-c : goal.overflow_add-c
 overflow_add-c c = let t = c.args.text.now in
@@ -47,11 +46,11 @@ pub print_few-requires : goal.print_few-requires
 print_few-requires c = let t = c.args.text.now in
     record { within = (after_third t c.requires _ c.piece_end-a.ensures _ c.piece_end-b.ensures _ c.piece_end-c.ensures, short t c.requires); rows = record { ops = _; rest = rows_are t c.requires _ c.piece_end-a.ensures _ c.piece_end-b.ensures _ c.piece_end-c.ensures } }
 
-pub returns-in-NoMaking : goal.returns-in-NoMaking
-returns-in-NoMaking c = let t = c.args.text.now in
-    absurd (no_making _ _ c.read_making.ensures _ (making_is t c.requires _ c.piece_end-a.ensures _ c.piece_end-b.ensures _ c.piece_end-c.ensures) c.in-NoMaking.is)
+pub returns-in-None : goal.returns-in-None
+returns-in-None c = let t = c.args.text.now in
+    absurd (no_making _ _ c.read_making.ensures _ (making_is t c.requires _ c.piece_end-a.ensures _ c.piece_end-b.ensures _ c.piece_end-c.ensures) c.in-None.is)
 
-pub returns-in-Make : goal.returns-in-Make
-returns-in-Make c = let t = c.args.text.now in
-    by_making _ _ c.read_making.ensures _ _ _ c.in-Make.is t c.requires (making_is t c.requires _ c.piece_end-a.ensures _ c.piece_end-b.ensures _ c.piece_end-c.ensures) _ _ _ c.wide64.ensures c.wide64-in-Make.ensures c.share_of.ensures
+pub returns-in-Some : goal.returns-in-Some
+returns-in-Some c = let t = c.args.text.now in
+    by_making _ _ c.read_making.ensures _ c.in-Some.is t c.requires (making_is t c.requires _ c.piece_end-a.ensures _ c.piece_end-b.ensures _ c.piece_end-c.ensures) _ _ _ c.wide64.ensures c.wide64-in-Some.ensures c.share_of.ensures
     (c.print_few.ensures c.requires.ops (rows_are t c.requires _ c.piece_end-a.ensures _ c.piece_end-b.ensures _ c.piece_end-c.ensures))

@@ -1,19 +1,8 @@
 -- `treelist_text::run_rows` meets its contract: at each turn what is printed, with what the rows left print, is the same. Assumes nothing.
-use borrow.Author.Rules.{rules}
 use mathlib.Core.Path.{refl, ◌∙◌}
-use mathlib.Core.List.{List}
-use Prim.Native.Nat.{ℕ, ◌-◌, ◌*◌, ◌≤◌}
 use native.Mathlib.Omega.{arith}
-use lib.ListN.{length}
-use lib.Ieee.{Float}
-use Rattle.cuttree.specs.Run.{World}
-use Rattle.wholetree.specs.Whole.{whole}
-use Rattle.treestore.specs.Arrays.{lent}
-use Rattle.form.specs.Rows.{Op}
 use Rattle.lines.proofs.Writes.{long}
-use Rattle.treelist_text.specs.Output.{output_from}
-use Rattle.treelist_text.specs.Running.{Standing}
-use Rattle.treelist_text.proofs.Turns.{Running, begin, some_state, last, some_op, reply_length, turn}
+use Rattle.treelist_text.proofs.Turns.{begin, some_state, last, some_op, reply_length, turn}
 use Rattle.treelist_text.proofs.run_rows.Goals as goal
 
 pub loop-reply-init : goal.loop-reply-init

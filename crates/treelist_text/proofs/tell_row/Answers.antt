@@ -1,5 +1,4 @@
 -- `treelist_text::tell_row` meets its contract. Assumes nothing.
-use borrow.Author.Rules.{rules}
 use native.Mathlib.Omega.{arith}
 use Rattle.treelist_text.proofs.Telling.{told_none, told_one}
 use Rattle.treelist_text.proofs.tell_row.Goals as goal

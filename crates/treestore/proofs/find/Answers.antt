@@ -1,7 +1,6 @@
 -- `find` meets its contract: the walk, its leaf and the test of their rows. Assumes nothing.
 use native.Mathlib.Omega.{arith}
 use Rattle.treestore.proofs.Findings.{some_walks, some_walked, leaf_low, leaf_padded, index_padded, found_in}
-use borrow.Author.Rules.{rules}
 use Rattle.treestore.proofs.find.Goals as goal
 
 pub offset_bounds-points-index : goal.offset_bounds-points-index

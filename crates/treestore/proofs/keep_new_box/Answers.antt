@@ -1,7 +1,6 @@
 -- `keep_new_box` meets its contract: where the branch is not cached, nothing is written. Assumes nothing.
 use mathlib.Core.Path.{sym}
 use Rattle.boxstore.proofs.Written.{written_other}
-use borrow.Author.Rules.{rules}
 use Rattle.treestore.proofs.keep_new_box.Goals as goal
 
 pub returns-else-index-sizes : goal.returns-else-index-sizes

@@ -1,5 +1,4 @@
 -- `cut_at` meets its contract. Assumes nothing.
-use borrow.Author.Rules.{rules}
 use Rattle.walk.proofs.cut_at.Goals as goal
 
 pub returns : goal.returns

@@ -1,5 +1,4 @@
 -- `in_turn` meets its contract: of two u16s as one number the lower half is the first. Assumes nothing.
-use borrow.Author.Rules.{rules}
 use native.Mathlib.Omega.{arith}
 use mathlib.Core.Path.{◌≡◌}
 use mathlib.Core.Bool.{Bool, true, false, cond}

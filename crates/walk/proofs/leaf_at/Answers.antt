@@ -1,7 +1,6 @@
 -- `leaf_at` meets its contract: the last row of the path has the id of the leaf. Assumes nothing.
 use native.Mathlib.Omega.{arith}
 use Rattle.walk.proofs.Ends.{last_is}
-use borrow.Author.Rules.{rules}
 use Rattle.walk.proofs.leaf_at.Goals as goal
 
 pub overflow_sub-result : goal.overflow_sub-result

@@ -1,19 +1,23 @@
 -- `same_point` meets its contract: the channels passed are equal, and so are those beyond the tree's. Assumes nothing.
-use mathlib.Core.Path.{◌≡◌, refl, sym, ◌∙◌}
-use mathlib.Core.Bool.{true}
-use mathlib.Core.List.{List}
-use Prim.Native.Nat.{ℕ, ◌≤◌, ◌-◌}
+use borrow.Author.Rules.{rules}
 use native.Mathlib.Omega.{arith}
+use mathlib.Core.Path.{◌≡◌, refl, sym, ap, ◌∙◌}
+use mathlib.Core.Bool.{Bool, ◌&&◌, and-true, and_assoc}
+use mathlib.Core.List.{List}
+use Prim.Native.Nat.{ℕ, zero, suc, ◌+◌, ◌≤◌}
 use lib.Dec.{T}
 use lib.Ieee.{Float, eq}
+use Rattle.std.specs.List.{list_all, range_with_len}
+use Rattle.std.proofs.lemmas.Iterator.{YieldsList-from_range}
+use Rattle.std.proofs.lemmas.Iterator.Search.{all_from_yields_List}
 use Rattle.limits.specs.Limits.{width}
 use Rattle.readings.specs.Number.{nought}
 use Rattle.boundingbox.specs.Ends.{channel}
 use Rattle.boundingbox.specs.Contained.{every}
 use Rattle.boundingbox.specs.Padding.{Padded}
-use Rattle.boundingbox.proofs.Every.{every_next, every_fails, every_more}
+use Rattle.boundingbox.proofs.Every.{every_more, every_next}
 use Rattle.wholetree.specs.Reading.{same_row}
-use borrow.Author.Rules.{rules}
+use borrow.Author.Tests.{tests}
 use Rattle.walk.proofs.same_point.Goals as goal
 
 nought_same : T (eq nought nought)
@@ -24,18 +28,18 @@ same_padded : (a b : List Float) (d : ℕ) → d ≤ width → Padded a d width 
 unfolding same_row
 same_padded a b d l p q = every_more _ d width l (λ i g h. rw (p i g h, q i g h) nought_same)
 
-pub loop-i-init : goal.loop-i-init
+-- the numbers from 0 on pass a test in turn where all channels do
+in_turn : (p : ℕ → Bool) (n a : ℕ) → (every p a && list_all p (range_with_len a n)) ≡ every p (a + n)
+in_turn p zero a = let e : a ≡ a + 0 = omega arith in and-true (every p a) ∙ ap (every p) e
+in_turn p (suc n) a =
+    let L = list_all p (range_with_len (a + 1) n) in
+    let e : a + 1 + n ≡ a + suc n = omega arith in
+    sym (and_assoc (every p a) (p a) L) ∙ ap (λ b. b && L) (sym (every_next p a)) ∙ in_turn p n (a + 1) ∙ ap (every p) e
+
+from_first : (p : ℕ → Bool) (n : ℕ) → list_all p (range_with_len 0 n) ≡ every p n
 unfolding every
-loop-i-init c = (search rules, refl)
-
-pub loop-i-preserved : goal.loop-i-preserved
-loop-i-preserved c = (omega arith, every_next _ _ ∙ rw c.loop-i.invariant.1 c.if-a-i.true)
-
-pub returns-else-a-i : goal.returns-else-a-i
-unfolding same_row
-returns-else-a-i c = let a = c.args in
-    sym (every_fails (λ (j : ℕ). eq (channel a.a.now j) (channel a.b.now j)) width c.loop-i.i (omega arith) c.if-a-i.false)
+from_first p n = let e : 0 + n ≡ n = omega arith in in_turn p n 0 ∙ ap (every p) e
 
 pub returns : goal.returns
-returns c = let e : c.loop-i.i ≡ c.args.dimensions = omega arith in
-    sym (same_padded _ _ _ c.requires.narrow c.requires.padded.0 c.requires.padded.1 ∙ rw e at c.loop-i.invariant.1)
+returns c = let a = c.args in
+    all_from_yields_List (λ (j : ℕ). eq (channel a.a.now j) (channel a.b.now j)) _ _ c.all.result c.all.ensures.ran (YieldsList-from_range 0 a.dimensions a.dimensions refl (omega arith)) (λ x b q k. search (rules, tests)) ∙ from_first _ _ ∙ sym (same_padded _ _ _ c.requires.narrow c.requires.padded.0 c.requires.padded.1)

@@ -1,15 +1,12 @@
-use mathlib.Core.Path.{◌≡◌, refl, ap, ◌∙◌}
+use mathlib.Core.Path.{◌≡◌}
 use Prim.Native.Nat.{ℕ, ◌-◌, ◌≤◌}
-use native.Mathlib.Omega.{arith}
 use lib.ListN.{drop}
-use lib.Seq.{drop-set-lt}
 use Rattle.limits.specs.Limits.{capacity_limit}
 use Rattle.cuttree.specs.Tree.{Tree}
 use Rattle.wholetree.specs.Reading.{Reading}
 use Rattle.wholetree.specs.Whole.{whole}
 use Rattle.walk.specs.Walks.{Walks, SomeWalks}
-use Rattle.walk.proofs.Paths.{Reaching, Turn, start, turn, arrived, drop_next}
-use borrow.Author.Rules.{rules}
+use Rattle.walk.proofs.Paths.{Reaching}
 use Rattle.walk.proofs.set_path.Given as goal
 
 abbrev pub invariant-loop-node : goal.invariant-loop-node

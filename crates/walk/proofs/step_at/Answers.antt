@@ -2,7 +2,6 @@
 use native.Mathlib.Omega.{arith}
 use mathlib.Core.Path.{ap}
 use Rattle.cut.specs.declared.Cut.{Cut}
-use borrow.Author.Rules.{rules}
 use Rattle.walk.proofs.step_at.Goals as goal
 
 pub offset_bounds-point-d : goal.offset_bounds-point-d

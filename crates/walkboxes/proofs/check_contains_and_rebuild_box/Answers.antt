@@ -1,5 +1,4 @@
 -- `check_contains_and_rebuild_box` meets its contract. Assumes nothing.
-use borrow.Author.Rules.{rules}
 use borrow.Author.Tests.{lt-ltb, le-ltb}
 use mathlib.Core.Path.{refl, sym, ◌∙◌}
 use mathlib.Core.Bool.{true≢false, false≢true}
@@ -13,7 +12,7 @@ returns-then-sizes-index c = let h = c.if-sizes-index.true in
 
 pub holds-requires : goal.holds-requires
 holds-requires c = let p = c.requires in
-    record { few = (small _ _ c.if-sizes-index.false p.few.1, p.few.2); padded = (p.padded.0, p.padded.2) }
+    record { slot = small _ _ c.if-sizes-index.false c.args.sizes.now.few.1; padded = (p.padded.0, p.padded.2) }
 
 pub returns-then-holds : goal.returns-then-holds
 returns-then-holds c = record {
@@ -28,7 +27,7 @@ returns-then-holds c = record {
 pub rebuild_box-requires : goal.rebuild_box-requires
 rebuild_box-requires c = let p = c.requires in
     let h = c.if-sizes-index.false in
-    record { few = p.few; stands = (h, p.stands h); padded = (p.padded.1, p.padded.2) }
+    record { stands = (h, p.stands h); padded = (p.padded.1, p.padded.2) }
 
 pub returns : goal.returns
 returns c = let E = c.rebuild_box.ensures in record {

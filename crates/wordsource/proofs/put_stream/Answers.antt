@@ -1,11 +1,10 @@
 -- `wordsource::put_stream` meets its contract. Assumes nothing.
 use mathlib.Core.Path.{◌≡◌, refl, sym, ap, ◌∙◌}
 use mathlib.Core.List.{List, ◌++◌}
-use Prim.Native.Nat.{ℕ, ◌+◌, ◌-◌, ◌/◌, ◌%◌, ◌≤◌}
+use Prim.Native.Nat.{ℕ, ◌+◌, ◌-◌, ◌/◌, ◌%◌}
 use native.Mathlib.Omega.{arith}
 use lib.Seq.{take_all}
 use lib.ListN.{length, take, set}
-use borrow.Author.Rules.{rules}
 use Rattle.wordsource.proofs.Stream.{block_at}
 use Rattle.wordsource.specs.Pairs.{words_of}
 use Rattle.chacha20.specs.Block.{block_of}

@@ -1,5 +1,5 @@
 -- `four_sums` meets its contract: each sum is the one before with four sides more, and past the channels it stays. Assumes nothing.
-use Rattle.std.proofs.Common.{arith, rules}
+use Rattle.std.proofs.Common.{arith}
 use Rattle.cut.proofs.Sums.{sums_stay, first_four, four_more, fours_are, fours_two, fours_four}
 use Rattle.cut.proofs.whole.four_sums.Goals as goal
 

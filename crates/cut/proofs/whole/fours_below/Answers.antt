@@ -1,5 +1,5 @@
 -- `fours_below` meets its contract: it counts as many sums as the channels ask for. Assumes nothing.
-use Rattle.std.proofs.Common.{ℕ, ◌+◌, Bool, ltb, get_or, List, arith, rules}
+use Rattle.std.proofs.Common.{ℕ, ◌+◌, Bool, ltb, get_or, List, arith}
 use Rattle.cut.proofs.Sums.{count_one, count_two_more, fours_few, fours_some, fours_all}
 use Rattle.cut.proofs.whole.fours_below.Goals as goal
 

@@ -1,5 +1,5 @@
 -- `side_cut` meets its contract: the sums by fours and those in one four tell the side and the rest. Assumes nothing.
-use Rattle.std.proofs.Common.{arith, rules}
+use Rattle.std.proofs.Common.{arith}
 use Rattle.cut.proofs.Counted.{sides_small, sides_padded, none_cut, bound_asked, four_below, four_starts, count_fits, side_told}
 use Rattle.cut.proofs.whole.side_cut.Goals as goal
 

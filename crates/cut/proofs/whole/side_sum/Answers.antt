@@ -1,36 +1,11 @@
--- `side_sum` meets its contract: the fours add up, and the channels past them are padding. Assumes nothing.
-use Rattle.std.proofs.Common.{sym, ◌∙◌, arith, leb→le, rules}
+-- `side_sum` meets its contract: no side between coordinates passes 2^21. Assumes nothing.
+use Rattle.std.proofs.Common.{◌≡◌, subst, sym, ℕ, ◌≤◌, rules}
 use Rattle.limits.specs.Limits.{width}
-use Rattle.boundingbox.proofs.Sums.{sum_eight, sum_on}
-use Rattle.boundingbox.proofs.Padding.{padded_sides}
+use Rattle.boundingbox.proofs.Sums.{side_le}
+use Rattle.boundingbox.specs.Ends.{channel}
+use Rattle.boundingbox.specs.Wholes.{side}
 use Rattle.cut.proofs.whole.side_sum.Goals as goal
 
-pub overflow_add-eight : goal.overflow_add-eight
-overflow_add-eight c = omega arith
-
-pub returns-then-dimensions-le8 : goal.returns-then-dimensions-le8
-returns-then-dimensions-le8 c = sum_eight _ _ _ c.sides_four.ensures.grows c.sides_four-2.ensures.grows ∙ sym (padded_sides c.args.low.now c.args.high.now _ width c.requires.padded.0 c.requires.padded.1 8 c.if-dimensions-le8.true (leb→le 8 width tt))
-
-pub overflow_add-sixteen : goal.overflow_add-sixteen
-overflow_add-sixteen c = omega arith
-
-pub overflow_add-sixteen-2 : goal.overflow_add-sixteen-2
-overflow_add-sixteen-2 c = omega arith
-
-pub returns-then-dimensions-le16 : goal.returns-then-dimensions-le16
-returns-then-dimensions-le16 c = sum_on _ 8 _ _ _ (sum_eight _ _ _ c.sides_four.ensures.grows c.sides_four-2.ensures.grows) c.sides_four-3.ensures.grows c.sides_four-4.ensures.grows ∙ sym (padded_sides c.args.low.now c.args.high.now _ width c.requires.padded.0 c.requires.padded.1 16 c.if-dimensions-le16.true (leb→le 16 width tt))
-
-pub overflow_add-most : goal.overflow_add-most
-overflow_add-most c = omega arith
-
-pub overflow_add-most-2 : goal.overflow_add-most-2
-overflow_add-most-2 c = omega arith
-
-pub overflow_add-result : goal.overflow_add-result
-overflow_add-result c = omega arith
-
-pub overflow_add-result-2 : goal.overflow_add-result-2
-overflow_add-result-2 c = omega arith
-
-pub returns : goal.returns
-returns c = sum_on _ 24 _ _ _ (sum_on _ 16 _ _ _ (sum_on _ 8 _ _ _ (sum_eight _ _ _ c.sides_four.ensures.grows c.sides_four-2.ensures.grows) c.sides_four-3.ensures.grows c.sides_four-4.ensures.grows) c.sides_four-5.ensures.grows c.sides_four-6.ensures.grows) c.sides_four-7.ensures.grows c.sides_four-8.ensures.grows
+pub sum_by_fours-requires-clause-small : goal.sum_by_fours-requires-clause-small
+sum_by_fours-requires-clause-small c = λ i r h p. let e : r ≡ side (channel c.args.low.now) (channel c.args.high.now) i = search rules in
+    subst (λ (x : ℕ). x ≤ 2097152) (sym e) (side_le _ _ width c.requires.sides i h)

@@ -1,5 +1,5 @@
 -- `stretched_side` meets its contract. Assumes nothing.
-use Rattle.std.proofs.Common.{◌∙◌, rules}
+use Rattle.std.proofs.Common.{◌∙◌}
 use Rattle.cut.proofs.whole.stretched_side.Goals as goal
 
 pub whole_side-requires : goal.whole_side-requires

@@ -1,5 +1,5 @@
 -- `whole_bound` meets its contract. Assumes nothing.
-use Rattle.std.proofs.Common.{arith, rules}
+use Rattle.std.proofs.Common.{arith}
 use lib.Ieee.{of_bits}
 use Rattle.cut.proofs.Bounds.{above_minus, below_most, whole_fits, bound_one, bound_more, bound_whole}
 use Rattle.cut.proofs.whole.whole_bound.Goals as goal

@@ -2,7 +2,6 @@
 use Rattle.limits.specs.Limits.{width}
 use Rattle.cut.proofs.Padding.{padded_side}
 use Rattle.cut.proofs.Sums.{sides_all}
-use Rattle.std.proofs.Common.{rules}
 use Rattle.cut.proofs.whole.wholes.Goals as goal
 
 pub returns-then-dimensions-le8 : goal.returns-then-dimensions-le8

@@ -5,7 +5,6 @@ use native.Mathlib.Omega.{arith}
 use borrow.Author.Tests.{lt-ltb, le-ltb}
 use Rattle.intervalstoremanager.specs.Rows.{got_of, rows_got}
 use Rattle.intervalstoremanager.proofs.Tests.{is_topped, over_topped}
-use borrow.Author.Rules.{rules}
 use Rattle.intervalstoremanager.proofs.IntervalStoreManager.get.Goals as goal
 
 pub returns-then-n-eq0 : goal.returns-then-n-eq0
@@ -17,16 +16,10 @@ pub returns-then-n-gt-BRANCHES : goal.returns-then-n-gt-BRANCHES
 unfolding got_of rows_got
 returns-then-n-gt-BRANCHES c = rw (over_topped c.args.self (omega arith)) (record { answer = refl; rows_after = refl })
 
-pub returns-then-top : goal.returns-then-top
+pub returns-then-start-end : goal.returns-then-start-end
 unfolding got_of rows_got
-returns-then-top c = let m = c.args.self in
-    let w = c.wide16-n in
-    let top = c.interval_at-top in
-    rw (c.put.ensures, is_topped m (omega arith) (omega arith), ← w.ensures.0, ← top.ensures.0, ← top.ensures.1, lt-ltb _ _ c.if-top.true) (record { answer = refl; rows_after = refl })
+returns-then-start-end c = rw (is_topped c.args.self (omega arith) (omega arith), ← c.wide16-n.ensures.0, lt-ltb _ _ c.if-start-end.true) (record { answer = refl; rows_after = refl })
 
 pub returns : goal.returns
 unfolding got_of rows_got
-returns c = let m = c.args.self in
-    let w = c.wide16-n in
-    let top = c.interval_at-top in
-    rw (c.put-2.ensures, is_topped m (omega arith) (omega arith), ← w.ensures.0, ← top.ensures.0, ← top.ensures.1, le-ltb _ _ c.if-top.false) (record { answer = refl; rows_after = refl })
+returns c = rw (is_topped c.args.self (omega arith) (omega arith), ← c.wide16-n.ensures.0, le-ltb _ _ c.if-start-end.false) (record { answer = refl; rows_after = refl })

@@ -3,7 +3,6 @@ use mathlib.Core.Path.{refl}
 use borrow.Author.Tests.{ne_eqb}
 use Rattle.intervalstoremanager.specs.Stack.{fresh}
 use Rattle.intervalstoremanager.specs.Rows.{layout, upon}
-use borrow.Author.Rules.{rules}
 use Rattle.intervalstoremanager.proofs.IntervalStoreManager.new.Goals as goal
 
 pub returns-then-size-eq0 : goal.returns-then-size-eq0

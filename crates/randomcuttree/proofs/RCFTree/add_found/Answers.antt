@@ -2,7 +2,6 @@
 use native.Mathlib.Omega.{arith}
 use Rattle.randomcuttree.proofs.Parts.{capacity_is}
 use Rattle.randomcuttree.proofs.Adds.{first, total_low, some_copied, copied, no_number, too_few, some_entering, inserted}
-use borrow.Author.Rules.{rules}
 use Rattle.randomcuttree.proofs.RCFTree.add_found.Goals as goal
 
 pub add_root-requires : goal.add_root-requires
@@ -39,10 +38,10 @@ pub bounds-points-index : goal.bounds-points-index
 bounds-points-index c = let q = c.requires.seen in omega (arith, q.state.reachable.sound.inside _ _ q.is_written)
 
 pub insert_leaf-entered-requires : goal.insert_leaf-entered-requires
-insert_leaf-entered-requires c = some_entering c.requires.seen.state _ c.requires.seen.is_written c.requires.room c.if-total-eq0.false (c.requires.seen.seen.walked c.if-total-eq0.false) c.if-found.false _ c.is_empty.ensures c.if-is_empty.false _ c.if-words-n.false
+insert_leaf-entered-requires c = rw c.header.ensures (some_entering c.requires.seen.state _ c.requires.seen.is_written c.requires.room c.if-total-eq0.false (c.requires.seen.seen.walked c.if-total-eq0.false) c.if-found.false _ c.is_empty.ensures c.if-is_empty.false _ c.if-words-n.false)
 
 pub overflow_add-total-2 : goal.overflow_add-total-2
 overflow_add-total-2 c = omega (arith, total_low c.requires.seen.state _ c.requires.seen.is_written c.requires.room c.if-total-eq0.false (c.requires.seen.seen.walked c.if-total-eq0.false))
 
 pub returns : goal.returns
-returns c = λ d e s W marks p H P. inserted H _ P c.requires.room c.if-total-eq0.false (c.requires.seen.seen.walked c.if-total-eq0.false) c.if-found.false _ c.is_empty.ensures c.if-is_empty.false _ c.if-words-n.false _ _ c.insert_leaf-entered.ensures _ c.headed_by-tree-2.ensures
+returns c = λ d e s W marks p H P. inserted H _ P c.requires.room c.if-total-eq0.false (c.requires.seen.seen.walked c.if-total-eq0.false) c.if-found.false _ c.is_empty.ensures c.if-is_empty.false _ c.if-words-n.false _ _ (rw c.header.ensures at c.insert_leaf-entered.ensures) _ c.headed_by-tree-2.ensures

@@ -1,8 +1,7 @@
 -- `RCFTree::branch_of` meets its contract: each way out is one of the query's places. Assumes nothing.
-use mathlib.Core.Path.{refl, sym, ◌∙◌}
+use mathlib.Core.Path.{sym, ◌∙◌}
 use native.Mathlib.Omega.{arith}
 use Rattle.randomcuttree.proofs.Told.{beyond_rows, empty_row, a_row}
-use borrow.Author.Rules.{rules}
 use Rattle.randomcuttree.proofs.RCFTree.branch_of.Goals as goal
 
 pub returns-then-id-ge-BRANCHES : goal.returns-then-id-ge-BRANCHES

@@ -1,8 +1,7 @@
 -- `RCFTree::copies_of` meets its contract: each way out is one of the query's places. Assumes nothing.
-use mathlib.Core.Path.{sym, ap, ◌∙◌}
+use mathlib.Core.Path.{sym}
 use native.Mathlib.Omega.{arith}
 use Rattle.randomcuttree.proofs.Told.{below_read, beyond_read, none_read, some_read}
-use borrow.Author.Rules.{rules}
 use Rattle.randomcuttree.proofs.RCFTree.copies_of.Goals as goal
 
 pub returns-then-id-capacity : goal.returns-then-id-capacity

@@ -1,10 +1,8 @@
 -- `RCFTree::new` meets its contract: each way out is one of the making's places. Assumes nothing.
 use mathlib.Core.Path.{refl, sym, ◌∙◌}
 use native.Mathlib.Omega.{arith}
-use borrow.Author.Tests.{not-true, not-false}
 use Rattle.limits.specs.Limits.{capacity_limit}
 use Rattle.randomcuttree.proofs.Makings.{in_bounds, refused_1, refused_2, refused_3, made}
-use borrow.Author.Rules.{rules}
 use Rattle.randomcuttree.proofs.RCFTree.new.Goals as goal
 
 pub returns-then-not-within : goal.returns-then-not-within

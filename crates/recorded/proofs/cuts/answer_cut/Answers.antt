@@ -1,8 +1,6 @@
 -- `answer_cut` meets its contract, by whether what is given is a case of readings. Assumes nothing.
 use mathlib.Core.Path.{sym, ◌∙◌}
-use borrow.Author.Tests.{not-true, not-false}
 use Rattle.recorded.proofs.Choices.{no_case, readings_tested, answer_none, answer_told}
-use borrow.Author.Rules.{rules}
 use Rattle.recorded.proofs.cuts.answer_cut.Goals as goal
 
 pub returns-then-given-ne-GIVEN : goal.returns-then-given-ne-GIVEN

@@ -1,5 +1,4 @@
 -- `is_reading` meets its contract: the four tests joined. Assumes nothing.
-use borrow.Author.Rules.{rules}
 use Rattle.recorded.proofs.cuts.is_reading.Goals as goal
 
 pub returns : goal.returns

@@ -1,7 +1,6 @@
 -- `put_both` meets its contract: both ways draw one cut. Assumes nothing.
 use Rattle.lines.proofs.Writes.{then}
 use Rattle.cut.proofs.Padding.{none_padded}
-use borrow.Author.Rules.{rules}
 use Rattle.recorded.proofs.cuts.put_both.Goals as goal
 
 pub whole_cut_and_separation-whole-requires : goal.whole_cut_and_separation-whole-requires

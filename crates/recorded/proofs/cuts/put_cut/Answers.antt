@@ -1,8 +1,11 @@
--- `put_cut` meets its contract: three words, one after another. Assumes nothing.
-use native.Mathlib.Omega.{arith}
-use Rattle.recorded.proofs.Choices.{told_three}
-use borrow.Author.Rules.{rules}
+-- `put_cut` meets its contract, by whether there is a cut. Assumes nothing.
+use Rattle.recorded.specs.Cuts.{told_cut}
 use Rattle.recorded.proofs.cuts.put_cut.Goals as goal
 
+pub returns-in_default : goal.returns-in_default
+unfolding told_cut
+returns-in_default c = rw c.in_default.is (record { wrote = c.put_three.ensures.wrote; next = c.put_three.ensures.next })
+
 pub returns : goal.returns
-returns c = record { wrote = told_three _ c.told_of-told.ensures c.put_word-p.ensures.wrote c.put_word-q.ensures.wrote c.put_word.ensures.wrote; next = omega arith }
+unfolding told_cut
+returns c = rw c.in-Some.is (record { wrote = rw (c.bit-kind.ensures.0, c.wide32-bits.ensures.0, c.pattern_of.ensures) at c.put_three-2.ensures.wrote; next = c.put_three-2.ensures.next })

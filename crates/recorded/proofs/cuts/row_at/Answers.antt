@@ -1,10 +1,7 @@
 -- `row_at` meets its contract: after i turns the first i channels stand. Assumes nothing.
 use mathlib.Core.Path.{refl, ap, ◌∙◌}
-use Prim.Native.Nat.{◌-◌}
 use lib.Ieee.{binary32, of_bits}
-use Rattle.limits.specs.Limits.{width}
-use Rattle.recorded.proofs.Choices.{RowRead, row_none, row_more, row_all}
-use borrow.Author.Rules.{rules}
+use Rattle.recorded.proofs.Choices.{row_none, row_more, row_all}
 use Rattle.recorded.proofs.cuts.row_at.Goals as goal
 
 pub loop-i-init : goal.loop-i-init

@@ -1,9 +1,7 @@
 -- `answer_floats` meets its contract: after i turns the first i answers stand. Assumes nothing.
 use mathlib.Core.Path.{◌∙◌}
-use Prim.Native.Nat.{◌-◌}
 use Rattle.lines.proofs.Writes.{long}
-use Rattle.recorded.proofs.Values.{Valued, valued_none, valued_next, valued_all, value_same}
-use borrow.Author.Rules.{rules}
+use Rattle.recorded.proofs.Values.{valued_none, valued_next, valued_all, value_same}
 use Rattle.recorded.proofs.floats.answer_floats.Goals as goal
 
 pub loop-i-init : goal.loop-i-init

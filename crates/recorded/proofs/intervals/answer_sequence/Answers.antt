@@ -1,10 +1,8 @@
 -- `answer_sequence` meets its contract: before each turn the numbers passed are answered. Assumes nothing.
 use mathlib.Core.Path.{◌∙◌}
-use Prim.Native.Nat.{◌-◌}
 use native.Mathlib.Omega.{arith}
 use Rattle.lines.proofs.Writes.{long}
-use Rattle.recorded.proofs.Sequences.{sequenced_none, sequenced_start, sequenced_all, Turns, no_turns, one_turn}
-use borrow.Author.Rules.{rules}
+use Rattle.recorded.proofs.Sequences.{sequenced_none, sequenced_start, sequenced_all, no_turns, one_turn}
 use Rattle.recorded.proofs.intervals.answer_sequence.Goals as goal
 
 pub returns-then-n-eq0 : goal.returns-then-n-eq0
@@ -15,9 +13,6 @@ loop-i-init c = no_turns c.if-n-eq0.false c.put_call-state.ensures.next
 
 pub turn-state-requires : goal.turn-state-requires
 turn-state-requires c = omega (arith, c.loop-i.invariant.few)
-
-pub overflow_add-i : goal.overflow_add-i
-overflow_add-i c = omega (arith, c.requires)
 
 pub loop-i-preserved : goal.loop-i-preserved
 loop-i-preserved c = one_turn c.loop-i.invariant c.loop-i-test.true c.u16_at-number.ensures c.turn-state.ensures

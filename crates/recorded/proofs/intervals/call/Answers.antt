@@ -1,6 +1,5 @@
 -- `call` meets its contract, by which call it is. Assumes nothing.
 use Rattle.recorded.proofs.Sequences.{called_got, called_released}
-use borrow.Author.Rules.{rules}
 use Rattle.recorded.proofs.intervals.call.Goals as goal
 
 pub returns-then-number-eq-GET : goal.returns-then-number-eq-GET

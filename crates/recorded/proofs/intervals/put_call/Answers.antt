@@ -2,7 +2,6 @@
 use mathlib.Core.Path.{refl}
 use native.Mathlib.Omega.{arith}
 use Rattle.lines.proofs.Writes.{then}
-use borrow.Author.Rules.{rules}
 use Rattle.recorded.proofs.intervals.put_call.Goals as goal
 
 pub returns : goal.returns

@@ -1,6 +1,5 @@
 -- `top_of` meets its contract, by whether there is a top row. Assumes nothing.
 use Rattle.recorded.proofs.Rows.{top_none, top_beyond, top_row}
-use borrow.Author.Rules.{rules}
 use Rattle.recorded.proofs.intervals.top_of.Goals as goal
 
 pub returns-then-n-eq0 : goal.returns-then-n-eq0

@@ -1,6 +1,5 @@
 -- `turn` meets its contract, by whether the rows are looked at. Assumes nothing.
 use Rattle.recorded.proofs.Sequences.{turn_look, turn_call}
-use borrow.Author.Rules.{rules}
 use Rattle.recorded.proofs.intervals.turn.Goals as goal
 
 pub returns-then-number-eq-ROWS : goal.returns-then-number-eq-ROWS

@@ -1,6 +1,5 @@
 use native.Mathlib.Omega.{arith}
 use Rattle.lines.proofs.Writes.{then}
-use borrow.Author.Rules.{rules}
 use Rattle.recorded.proofs.words.put_double.Goals as goal
 
 pub returns : goal.returns

@@ -1,5 +1,4 @@
 -- `put_pair` meets its contract: two numbers of 16 bits are one of 32. Assumes nothing.
-use borrow.Author.Rules.{rules}
 use Rattle.recorded.proofs.words.put_pair.Goals as goal
 
 pub returns : goal.returns

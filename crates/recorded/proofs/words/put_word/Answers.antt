@@ -1,5 +1,4 @@
 -- `put_word` meets its contract: the word's four bytes are those written. Assumes nothing.
-use borrow.Author.Rules.{rules}
 use Rattle.recorded.proofs.Stores.{stored}
 use Rattle.recorded.proofs.words.put_word.Goals as goal
 

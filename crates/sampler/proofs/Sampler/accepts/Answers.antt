@@ -1,5 +1,4 @@
 -- `Sampler::accepts` meets its contract, by its one test. Assumes nothing.
-use borrow.Author.Rules.{rules}
 use Rattle.sampler.proofs.Sampler.accepts.Goals as goal
 
 pub returns-else-initial : goal.returns-else-initial

@@ -1,7 +1,6 @@
 -- `Sampler::add_point` meets its contract: its stores put the entry at the end, from which it goes up. Assumes nothing.
 use mathlib.Core.List.{[], ◌∷◌, ◌++◌}
 use mathlib.Core.Path.{refl}
-use borrow.Author.Rules.{rules}
 use Rattle.sampler.proofs.Places.{slots_added}
 use Rattle.sampler.proofs.Sampler.add_point.Goals as goal
 

@@ -4,7 +4,6 @@ use mathlib.Core.Path.{refl}
 use Prim.Native.Nat.{◌-◌}
 use native.Mathlib.Omega.{arith}
 use lib.Ieee.{of_bits}
-use borrow.Author.Rules.{rules}
 use Rattle.readings.specs.Number.{nought}
 use Rattle.sampler.specs.Heap.{refilled}
 use Rattle.sampler.specs.Sample.{beyond}

@@ -1,7 +1,6 @@
 -- `Remaining::enter` meets its contract. Assumes nothing.
 use mathlib.Core.Path.{sym, ◌∙◌}
 use Rattle.samplerplustree.proofs.Entered.{enter_asks, enter_done, untaken_done}
-use borrow.Author.Rules.{rules}
 use Rattle.samplerplustree.proofs.Remaining.enter.Goals as goal
 
 pub admit-admitted-requires : goal.admit-admitted-requires

@@ -1,7 +1,6 @@
 -- `Remaining::find` meets its contract. Assumes nothing.
 use mathlib.Core.Path.{refl, sym, ◌∙◌}
 use Rattle.cuttree.proofs.Tests.{clash}
-use borrow.Author.Rules.{rules}
 use Rattle.samplerplustree.proofs.Remaining.find.Goals as goal
 
 pub find-requires : goal.find-requires

@@ -1,6 +1,5 @@
 -- `SamplerPlusTree::admit` meets its contract. Assumes nothing.
 use Rattle.samplerplustree.proofs.Entered.{admit_done}
-use borrow.Author.Rules.{rules}
 use Rattle.samplerplustree.proofs.SamplerPlusTree.admit.Goals as goal
 
 pub add_leaf-added-requires : goal.add_leaf-added-requires

@@ -1,7 +1,6 @@
 -- `SamplerPlusTree::starts` meets its contract: a full sample draws no number. Assumes nothing.
 use mathlib.Core.Path.{sym, ◌∙◌}
 use Rattle.samplerplustree.proofs.Tested.{full_never, otherwise}
-use borrow.Author.Rules.{rules}
 use Rattle.samplerplustree.proofs.SamplerPlusTree.starts.Goals as goal
 
 pub returns-then-is_full : goal.returns-then-is_full

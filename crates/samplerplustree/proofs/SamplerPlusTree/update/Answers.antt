@@ -1,6 +1,5 @@
 -- `SamplerPlusTree::update` meets its contract: what the test tells is carried out. Assumes nothing.
 use Rattle.samplerplustree.proofs.Tested.{some_offered}
-use borrow.Author.Rules.{rules}
 use Rattle.samplerplustree.proofs.SamplerPlusTree.update.Goals as goal
 
 pub take_arrival-requires : goal.take_arrival-requires
