@@ -17,7 +17,7 @@ use Rattle.boundingbox.proofs.Joined.{joined_length, joined_channel}
 use Rattle.cuttree.proofs.Tests.{by-test, by_cond, clash, cond_true, cond_false}
 use Rattle.boxstore.specs.Grown.{EndsGrownBy}
 use Rattle.boxstore.proofs.Parts.{at_leaf, at_cached}
-use Rattle.rowboxes.specs.Rows.{lanes, PaddedRow, PaddedEnds, PaddedTable, PaddedBoxes, BlockOf, Put, PutEnds, Filled, FilledEnds, SetEnds, Lies, hand_low, hand_high}
+use Rattle.rowboxes.specs.Rows.{lanes, PaddedRow, PaddedEnds, PaddedTable, PaddedBoxes, BlockOf, PutTo, Put, PutEnds, Filled, FilledEnds, SetEnds, Lies, hand_low, hand_high}
 
 cond_same : (b : Bool) (x : Float) → cond b x x ≡ x
 cond_same true x = refl
@@ -30,6 +30,20 @@ nought_least = cond_same (lt nought nought) nought
 pub nought_greatest : greatest nought nought ≡ nought
 unfolding greatest
 nought_greatest = cond_same (lt nought nought) nought
+
+-- ---- a row that a block is written to
+pub put_none : (at : ℕ) (block row : List Float) → PutTo 0 at block row row
+put_none at block row = record { long = refl; within = λ j h. absurd (omega arith); below = λ i h. refl; beyond = λ i h. refl }
+
+pub put_turn : (at n : ℕ) (block row row' : List Float) (x : Float) → at + n < length row → PutTo n at block row row' → x ≡ channel block n → PutTo (n + 1) at block row (set row' (at + n) x)
+put_turn at n block row row' x h P e = record {
+  long = length-set row' (at + n) x ∙ P.long;
+  within = λ j l. by-test (eqb j n)
+      (λ t. let z : j ≡ n = eqb-true j n t in ap (λ (i : ℕ). channel (set row' (at + n) x) (at + i)) z ∙ get_or-set_same row' (at + n) x nan (omega (arith, P.long)) ∙ e ∙ ap (channel block) (sym z))
+      (λ t. let z = eqb-false j n t in get_or-set_other row' (at + n) (at + j) x nan (λ q. z (omega arith)) ∙ P.within j (omega (arith, z)));
+  below = λ i l. get_or-set_other row' (at + n) i x nan (λ q. absurd (omega arith)) ∙ P.below i l;
+  beyond = λ i l. get_or-set_other row' (at + n) i x nan (λ q. absurd (omega arith)) ∙ P.beyond i (omega arith);
+}
 
 -- ---- a row that is written block by block
 module _ (R : Float → ℕ → Float → Type 0) where

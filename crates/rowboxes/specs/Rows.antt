@@ -42,12 +42,16 @@ pub record BlockTo (n : ℕ) (R : ℕ → Float → Type 0) (at : ℕ) (block : 
 abbrev pub BlockOf : (R : ℕ → Float → Type 0) → ℕ → List Float → Type 0
 BlockOf R at block = BlockTo lanes R at block
 
--- row' is the row with a block written from a place on
-pub record Put (at : ℕ) (block row row' : List Float) : Type 0 where
+-- row' is the row with the first n of a block written from a place on
+pub record PutTo (n at : ℕ) (block row row' : List Float) : Type 0 where
   pub long : length row' ≡ length row
-  pub within : (j : ℕ) → j < lanes → channel row' (at + j) ≡ channel block j
+  pub within : (j : ℕ) → j < n → channel row' (at + j) ≡ channel block j
   pub below : (i : ℕ) → i < at → channel row' i ≡ channel row i
-  pub beyond : (i : ℕ) → at + lanes ≤ i → channel row' i ≡ channel row i
+  pub beyond : (i : ℕ) → at + n ≤ i → channel row' i ≡ channel row i
+
+-- with the whole block
+abbrev pub Put : (at : ℕ) → (block row row' : List Float) → Type 0
+Put at block row row' = PutTo lanes at block row row'
 
 -- E' is E with a block of lower ends and one of upper ends written so
 pub record PutEnds (at : ℕ) (low high : List Float) (E E' : List (List Float)) : Type 0 where

@@ -74,11 +74,14 @@ pub fn block_of<F: Fn(usize) -> f32>(at: usize, of: F) -> Lanes
     block
 }
 
+// Not by `copy_from_slice`: with it the blocks are worked out channel by channel, and an add where no box is cached takes up to a quarter longer.
 fn put_at(row: &mut Row, at: usize, block: Lanes)
     requires { (at + lanes ≤ width) × (length row.old ≡ width) }
     ensures { Put at block row.old row.new }
 {
-    row[at..at + LANES].copy_from_slice(&block);
+    for j in 0..LANES {
+        row[at + j] = block[j];
+    }
 }
 
 // Writes a block of lower ends and one of upper ends.
