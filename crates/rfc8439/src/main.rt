@@ -64,11 +64,14 @@ fn line_holds(line: &[u8]) -> bool
 fn count(text: &[u8]) -> Counts
     ensures { (result.pieces ≡ length (pieces 10 text.now)) × (result.held ≡ holding (pieces 10 text.now)) }
 {
-    let pieces = text.split(|byte| *byte == b'\n').count();
-    let held = text
-        .split(|byte| *byte == b'\n')
-        .filter(|line| line_holds(line))
-        .count();
+    let mut pieces: usize = 0;
+    let mut held: usize = 0;
+    for line in text.split(|byte| *byte == b'\n') {
+        pieces += 1;
+        if line_holds(line) {
+            held += 1;
+        }
+    }
     Counts { pieces, held }
 }
 

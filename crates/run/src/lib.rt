@@ -4,9 +4,7 @@
 
 pub mod words;
 
-ghost use Rattle.std.specs.Prelude.{◌≡◌, true, List, [], ◌∷◌, ℕ, ◌+◌, ◌*◌, ◌/◌, ◌<◌, replicate};
-ghost use Rattle.limits.specs.Limits.{point_limit};
-ghost use Rattle.layout.specs.Layout.{no_ends};
+ghost use Rattle.std.specs.Prelude.{◌≡◌, true, List, [], ◌∷◌, ℕ, ◌+◌, ◌*◌, ◌/◌, ◌<◌};
 ghost use Rattle.refusals.specs.Refusals.{number};
 ghost use Rattle.runlayout.specs.Layout.{RunCall, making_width, begins_with_making, channels, share};
 ghost use Rattle.runsteps.specs.Told.{told_from};
@@ -137,14 +135,16 @@ fn make(run: &[u8], store: &mut NodeStore, sample: &mut Sample) -> Result<Sample
     Ok(as_sampled(tree))
 }
 
-// A run in its layout, with what its calls' answers need lent or not, and a table with nothing written.
-fn run_made(run: &[u8], answers: &mut [u8], enough: bool, table: &mut PointStore) -> usize
+// A run in its layout, with what its calls' answers need lent or not.
+// Never in line: what a tree takes is then made here first of all, and a run out of the layout does not pay for it (docs/DECISIONS.md, 69).
+#[inline(never)]
+fn run_made(run: &[u8], answers: &mut [u8], enough: bool) -> usize
     requires making { begins_with_making run.now ≡ true }
     requires calls { Checks run.now enough answers.old }
-    requires empty { (table.old.points ≡ replicate point_limit no_ends) × (table.old.written ≡ replicate point_limit 0) }
     ensures { (q : Checks run.now enough answers.old) → (result, answers.new) ≡ given (answered run.now (made run.now) q.calls) answers.old }
 {
     let mut store = treestore::no_nodes();
+    let mut table = PointStore::new();
     let mut sample = Sample::new();
     match make(run, &mut store, &mut sample) {
         Err(refusal) => tell_refusal(answers, refusal),
@@ -152,24 +152,22 @@ fn run_made(run: &[u8], answers: &mut [u8], enough: bool, table: &mut PointStore
             if !enough {
                 return Refusal::FewRows.number();
             }
-            run_tree(tree, &mut store, table, &mut sample, run, answers)
+            run_tree(tree, &mut store, &mut table, &mut sample, run, answers)
         }
     }
 }
 
 // Carries out a whole run, and writes its answers to the lent bytes; or refuses it, and writes nothing: by the number of a text out of form where it is
 // out of the layout, and by that of too few rows where too few bytes are lent.
-// The table is made before anything is tested, so that the compiled function has its frame from the start (docs/DECISIONS.md, 69).
 // Rules out a run taken that ends inside a call, and a byte written beyond the answers.
 pub fn sicklephlox_run(run: &[u8], answers: &mut [u8]) -> usize
     ensures { (result, answers.new) ≡ outcome run.now answers.old }
 {
-    let mut table = PointStore::new();
     if !runlayout::begins_with_making(run) {
         return Refusal::OutOfForm.number();
     }
     match runlayout::check_calls(run, answers.len() / 4) {
         None => Refusal::OutOfForm.number(),
-        Some(enough) => run_made(run, answers, enough, &mut table),
+        Some(enough) => run_made(run, answers, enough),
     }
 }

@@ -304,10 +304,8 @@ impl SamplerPlusTree {
             sampler,
             ..self
         };
-        Admitted {
-            tree: next,
-            leaf: added.leaf,
-        }
+        let leaf = added.leaf;
+        Admitted { tree: next, leaf }
     }
 
     // Acts on what the test told of the same state and arrival. It cannot fail.

@@ -280,7 +280,8 @@ pub fn insert_leaf(
         n - highest.top,
         above,
         point,
-        &sizes,
+        header.cached,
+        header.dimensions,
     );
     let new_root = nodestore::placed_root(header.root, above, b);
     Entered {

@@ -26,18 +26,25 @@ pub fn grow_ancestors(
     from: usize,
     n: usize,
     point: &Row,
-    sizes: &Sizes,
+    cached: usize,
+    channels: usize,
 )
-    requires few { n ≤ capacity_limit }
-    requires stands { SomeGrafted sizes.now.cached n path.now point.now boxes.old × HoldBefore sizes.now.cached from path.now point.now boxes.old }
-    requires padded { PaddedRow sizes.now.channels point.now × PaddedBoxes sizes.now.channels boxes.old }
-    ensures grown { GrownAbove sizes.now.cached n path.now point.now boxes.old boxes.new }
-    ensures padded { PaddedBoxes sizes.now.channels boxes.new }
+    requires few { (n ≤ capacity_limit) × (cached ≤ branch_limit) × (channels ≤ width) }
+    requires stands { SomeGrafted cached n path.now point.now boxes.old × HoldBefore cached from path.now point.now boxes.old }
+    requires padded { PaddedRow channels point.now × PaddedBoxes channels boxes.old }
+    ensures grown { GrownAbove cached n path.now point.now boxes.old boxes.new }
+    ensures padded { PaddedBoxes channels boxes.new }
 {
+    // No leaf is told from a branch here, so that the tree's capacity is neither asked for nor looked at.
+    let sizes = Sizes {
+        capacity: 0,
+        cached,
+        channels,
+    };
     for row in (from..n).rev() {
         let index = wide16(node_at(path, row));
-        if index < sizes.cached {
-            widen(&mut boxes[index], point, point, sizes);
+        if index < cached {
+            widen(&mut boxes[index], point, point, &sizes);
         }
     }
 }

@@ -1,5 +1,5 @@
 -- `little::put_u32` meets its contract. Assumes nothing.
-use Rattle.std.proofs.Common.{◌≡◌, ℕ, ◌+◌, ◌-◌, ◌/◌, ◌%◌, ◌≤◌, List, length, append_assoc, sym, ◌∙◌, arith}
+use Rattle.std.proofs.Common.{◌≡◌, ℕ, ◌+◌, ◌-◌, ◌/◌, ◌%◌, ◌≤◌, List, length, append_assoc, refl, sym, ◌∙◌, arith}
 use borrow.Rule.Slice.PartMut.{put_mid}
 use lib.Seq.{sets, sets-eq, drop-drop}
 use Rattle.std.specs.Int.{w32, to_le_bytes}
@@ -20,5 +20,5 @@ put at k xs ys e h = rw (e, drop-drop (length ys) at xs, ← append_assoc) (sym 
 pub returns : goal.returns
 returns c =
     let a = c.args in
-    let e : c.copy_from_slice.new.self ≡ bytes32 a.x = c.copy_from_slice.ensures.after ∙ c.to_le_bytes-lowest.ensures ∙ lowest a.x in
+    let e : c.copy_from_slice.new.self ≡ bytes32 a.x = c.copy_from_slice.ensures.after ∙ rw (c.to_le_bytes-lowest.ensures ∙ lowest a.x) refl in
     rw e (put a.at (a.at + 4 - a.at) a.bytes.now (bytes32 a.x) (omega arith) c.requires)

@@ -12,7 +12,7 @@ check_calls-requires c = (sym c.begins_with_making.ensures ∙ c.if-not-begins_w
 
 pub run_made-requires : goal.run_made-requires
 run_made-requires c = let m = (sym c.begins_with_making.ensures ∙ c.if-not-begins_with_making.false) in
-    record { making = m; calls = checked c.args.run.now c.args.answers.now m _ (sym c.in-Some.is ∙ c.check_calls.ensures); empty = (c.new-table.ensures.points, c.new-table.ensures.written) }
+    record { making = m; calls = checked c.args.run.now c.args.answers.now m _ (sym c.in-Some.is ∙ c.check_calls.ensures) }
 
 pub returns-in-None : goal.returns-in-None
 returns-in-None c = rw c.number-in-None.ensures (out_of_layout c.args.run.now c.args.answers.now (sym c.begins_with_making.ensures ∙ c.if-not-begins_with_making.false) (sym c.in-None.is ∙ c.check_calls.ensures))

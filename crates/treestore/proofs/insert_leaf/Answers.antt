@@ -2,7 +2,7 @@
 use mathlib.Core.Path.{refl}
 use native.Mathlib.Omega.{arith}
 use Rattle.treestore.proofs.Removes.{kept_padded}
-use Rattle.treestore.proofs.Enterings.{above_few, not_empty, some_drawing, top_low, height_low, dimension_low, some_graft, new_sides, some_grafted, hold_before, entered}
+use Rattle.treestore.proofs.Enterings.{above_few, cached_few, not_empty, some_drawing, top_low, height_low, dimension_low, some_graft, new_sides, some_grafted, hold_before, entered}
 use Rattle.treestore.proofs.insert_leaf.Goals as goal
 
 pub invariant_of-boxing : goal.invariant_of-boxing
@@ -32,7 +32,7 @@ overflow_sub-n c = top_low c.requires.entering _ c.wide16.ensures.0 _ c.highest_
 
 pub grow_ancestors-requires : goal.grow_ancestors-requires
 grow_ancestors-requires c = let E = c.requires.entering in record {
-  few = above_few E _;
+  few = (above_few E _, cached_few E, E.walking.channels_few);
   stands = (
     some_grafted E _ c.wide16.ensures.0 _ c.highest_cut-highest.ensures _ _ _ _ c.get.ensures.answer c.get.ensures.rows_after c.in-Some.is _ refl _ _ _ c.place_branch.ensures _ c.wide16-2.ensures.0 _ c.keep_new_box.ensures.kept,
     hold_before E _ c.wide16.ensures.0 _ c.highest_cut-highest.ensures _ _ _ _ c.get.ensures.answer c.get.ensures.rows_after c.in-Some.is _ refl _ _ _ c.place_branch.ensures _ c.wide16-2.ensures.0 _ c.keep_new_box.ensures.kept,

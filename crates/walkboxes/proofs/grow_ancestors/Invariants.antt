@@ -4,4 +4,4 @@ use Rattle.rowboxes.specs.Rows.{PaddedBoxes}
 use Rattle.walkboxes.proofs.grow_ancestors.Given as goal
 
 abbrev pub invariant-loop-row : goal.invariant-loop-row
-invariant-loop-row l = (l.row ≤ l.n) × Climbed l.sizes.cached l.n l.path l.point l.initial.boxes l.boxes l.row × PaddedBoxes l.sizes.channels l.boxes
+invariant-loop-row l = (l.row ≤ l.n) × Climbed l.cached l.n l.path l.point l.initial.boxes l.boxes l.row × PaddedBoxes l.channels l.boxes
